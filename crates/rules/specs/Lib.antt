@@ -2,4 +2,17 @@ pub mod Text
 pub mod Dates
 pub mod Amounts
 pub mod Accounts
+pub mod Lines
+pub mod Forms
+pub mod Messages
+pub mod Register
+pub mod Verdict
+pub mod Engine
+pub mod Written
+pub mod Calls
+pub mod Area
+pub mod Ledger
+pub mod Demand3
+pub mod Replay
 pub mod Cases
+pub mod Listing

@@ -76,6 +76,16 @@ abbrev pub isSome {ℓ} : {A : Type ℓ} → Option A → Bool
 isSome none = false
 isSome (some a) = true
 
+-- one of a list passes a test
+unfoldable pub any : {A : Type 0} → (A → Bool) → List A → Bool
+any p [] = false
+any p (x ∷ xs) = let r = any p xs in cond (p x) true r
+
+-- two of a list are alike
+unfoldable pub twice : {A : Type 0} → (A → A → Bool) → List A → Bool
+twice alike [] = false
+twice alike (x ∷ xs) = let r = twice alike xs in cond (any (alike x) xs) true r
+
 -- ---- numbers: "Quantities are in base ten."
 
 -- the number v and then the digits cs behind it; none where a byte is no digit

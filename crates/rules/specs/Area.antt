@@ -1,0 +1,119 @@
+-- The engine area: "It stands between calls in the first 6,144 bytes of a lent area; those behind are not touched." The layout is this module's, the calls on areas are document 01's.
+use mathlib.Core.Bool.{Bool, true, false, _&&_, not, cond}
+use mathlib.Core.List.{List, [], _∷_, _++_, map}
+use mathlib.Core.Option.{Option, none, some}
+use Prim.Native.Nat.{ℕ, zero, suc, _+_, _-_, _*_}
+use lib.Dec.{leb, eqb}
+use lib.IntN.{ℤ, pos}
+use lib.ListN.{length, take, drop, replicate}
+use Rattle.rules.specs.Text.{ascii, equal, bytes, number, given, over}
+use Rattle.rules.specs.Engine.{Position, Reference, Engine, within}
+use Rattle.rules.specs.Calls.{Answer, openCall, messageCall, turnCall}
+
+-- ---- layout: numbers are big-endian, unused room is zero
+--   0  mark (2), day (3), outgoing count (2), positions (1), references (1), currency (1), lengths of three texts (2 each)
+--   16  64 references of 24 bytes: sender (8), reference (16)
+--   1,552  32 positions of 24 bytes: bank (8), date (3), transferred (6), detailed (6), block (1)
+--   2,320  texts, 3,824 bytes: the register
+
+unfoldable pub zeros : ℕ → List ℕ
+zeros n = replicate n 0
+
+-- n bytes: cs and zeros behind
+unfoldable pub padded : ℕ → List ℕ → List ℕ
+padded n cs = cs ++ zeros (n - length cs)
+
+-- records one behind the other
+unfoldable pub joined : List (List ℕ) → List ℕ
+joined [] = []
+joined (x ∷ xs) = x ++ joined xs
+
+unfoldable pub referenceRecord : Reference → List ℕ
+referenceRecord r = bytes 8 (r .sender) ++ padded 16 (r .text)
+
+unfoldable pub positionRecord : Position → List ℕ
+positionRecord p = bytes 8 (p .bank) ++ bytes 3 (p .date) ++ bytes 6 (p .transferred) ++ bytes 6 (p .detailed) ++ bytes 1 0
+
+-- the mark of an area that holds an engine: "zeros hold no engine"
+abbrev pub mark : List ℕ
+mark = ascii "RC"
+
+unfoldable pub header : Engine → List ℕ
+header e =
+    (mark ++ bytes 3 (e .day) ++ bytes 2 (e .count) ++ bytes 1 (length (e .positions)) ++ bytes 1 (length (e .references)))
+    ++ (bytes 1 0 ++ bytes 2 (length (e .register)) ++ bytes 4 0)
+
+unfoldable pub encode : Engine → List ℕ
+encode e =
+    header e
+    ++ padded 1536 (joined (map referenceRecord (e .references)))
+    ++ padded 768 (joined (map positionRecord (e .positions)))
+    ++ padded 3824 (e .register)
+
+-- ---- reading an area
+
+-- the number in w bytes from i
+abbrev pub numberAt : List ℕ → ℕ → ℕ → ℕ
+numberAt a i w = number (take w (drop i a))
+
+-- the bytes before the first zero
+unfoldable pub untilZero : List ℕ → List ℕ
+untilZero [] = []
+untilZero (c ∷ cs) = let r = untilZero cs in cond (eqb c 0) [] (c ∷ r)
+
+-- the reference of a record, and the position of one
+unfoldable pub referenceIn : List ℕ → Reference
+referenceIn r = record { sender = numberAt r 0 8; text = untilZero (take 16 (drop 8 r)) }
+
+unfoldable pub positionIn : List ℕ → Position
+positionIn r = record { bank = numberAt r 0 8; date = numberAt r 8 3; transferred = numberAt r 11 6; detailed = numberAt r 17 6 }
+
+-- n records of 24 bytes
+unfoldable pub records : ℕ → List ℕ → List (List ℕ)
+records zero cs = []
+records (suc n) cs = take 24 cs ∷ records n (drop 24 cs)
+
+unfoldable pub decode : List ℕ → Engine
+decode a = record {
+  register = take (numberAt a 10 2) (drop 2320 a);
+  day = numberAt a 2 3;
+  positions = map positionIn (records (numberAt a 7 1) (drop 1552 a));
+  references = map referenceIn (records (numberAt a 8 1) (drop 16 a));
+  count = numberAt a 5 2;
+}
+
+-- the engine that an area holds; none falls under 10: "the engine area is shorter than 6,144 bytes or .. holds no engine within the limits above"
+unfoldable pub holds : List ℕ → Option Engine
+holds a = let e = decode a in given (leb 6144 (length a) && within e && equal (encode e) (take 6144 a)) e
+
+-- ---- the three calls on areas
+
+-- what a call answers, and area and output as it leaves them
+pub record Result : Type 0 where
+  pub number : ℕ
+  pub written : ℕ
+  pub difference : ℤ
+  pub area : List ℕ
+  pub output : List ℕ
+
+-- "an acceptance leaves the next engine there"
+unfoldable pub stored : Option Engine → List ℕ → List ℕ
+stored none area = area
+stored (some e) area = encode e ++ drop 6144 area
+
+-- "a refusal changes no byte of output or area"
+unfoldable pub onAreas : Answer → List ℕ → List ℕ → Result
+onAreas a area out =
+    cond (eqb (a .number) 0)
+    (record { number = 0; written = length (a .text); difference = a .difference; area = stored (a .next) area; output = over (a .text) out })
+    (record { number = a .number; written = 0; difference = pos 0; area = area; output = out })
+
+-- opening has no output
+unfoldable pub cardOpen : List ℕ → ℕ → List ℕ → Result
+cardOpen text day area = onAreas (openCall (length area) (holds area) text day) area []
+
+unfoldable pub cardMessage : List ℕ → List ℕ → List ℕ → Result
+cardMessage s area out = onAreas (messageCall (length out) (holds area) s) area out
+
+unfoldable pub cardTurn : ℕ → List ℕ → List ℕ → Result
+cardTurn day area out = onAreas (turnCall (length out) (holds area) day) area out

@@ -1,0 +1,268 @@
+-- Opening, message and turn on an engine: document 01's conditions in their order, and what an acceptance writes and leaves.
+use mathlib.Core.Bool.{Bool, true, false, _&&_, _||_, not, cond}
+use mathlib.Core.List.{List, [], _∷_, _++_}
+use mathlib.Core.Option.{Option, none, some, Option·getD}
+use Prim.Native.Nat.{ℕ, _+_, _-_}
+use lib.Dec.{leb, eqb}
+use lib.IntN.{ℤ, pos, subℕ}
+use lib.ListN.{length, take, drop}
+use Rattle.rules.specs.Text.{ascii, equal, number, isSome, any, twice}
+use Rattle.rules.specs.Dates.{exists}
+use Rattle.rules.specs.Accounts.{passes}
+use Rattle.rules.specs.Lines.{framed, type, receiver}
+use Rattle.rules.specs.Messages.{Message, mt103, mt101, Transfer, Detail, currency32A, account103, field21, currency32B, payer, account59, read, senderOf, referenceOf, detailsOf, dateOf, transferredBy, detailedBy, firstDate}
+use Rattle.rules.specs.Register.{Register, Account, register, registerOf}
+use Rattle.rules.specs.Verdict.{Verdict, credited, returned, verdict, isReturned, accountAt}
+use Rattle.rules.specs.Engine.{Position, Reference, Engine, limit, positionOf, isOpen, booked, kept, slashed, sameReference, hasDetails}
+use Rattle.rules.specs.Written.{Book, fromBank, toAccount, toBank, verdicts, partsOf, correctionPostings, corrections, correctedCount, corrected, isRefund}
+
+-- ---- conditions of refusal
+
+-- a number beside its condition
+pub record Stop : Type 0 where
+  pub number : ℕ
+  pub holds : Bool
+
+abbrev pub stop : ℕ → Bool → Stop
+stop k b = record { number = k; holds = b }
+
+-- "the lowest number whose condition holds is returned", each list standing in the order in which it is tested; 0 where none holds
+unfoldable pub firstOf : List Stop → ℕ
+firstOf [] = 0
+firstOf (s ∷ ss) = let r = firstOf ss in cond (s .holds) (s .number) r
+
+-- "An acceptance carries 0, the bytes written and a difference"; the engine that the call leaves
+pub record Answer : Type 0 where
+  pub number : ℕ
+  pub text : List ℕ
+  pub difference : ℤ
+  pub next : Option Engine
+
+-- a refusal: "difference, bytes and all else 0", and the engine stays
+abbrev pub refused : ℕ → Option Engine → Answer
+refused k held = record { number = k; text = []; difference = pos 0; next = held }
+
+-- a test on what is there
+unfoldable pub holdsOf : {A : Type 0} → (A → Bool) → Option A → Bool
+holdsOf p none = false
+holdsOf p (some a) = p a
+
+-- ---- opening: "Opening tests 10, 3, then 9"
+
+-- size is the engine area's
+unfoldable pub openStops : ℕ → List ℕ → ℕ → List Stop
+openStops size text day =
+    stop 10 (not (leb 6144 size))
+    ∷ stop 3 (not (exists day))
+    ∷ stop 9 (not (isSome (register text)))
+    ∷ []
+
+-- "Opening takes the register and a day and gives an engine with no positions, references or output."
+unfoldable pub opened : List ℕ → ℕ → Engine
+opened text day = record { register = text; day = day; positions = []; references = []; count = 0 }
+
+unfoldable pub openCall : ℕ → Option Engine → List ℕ → ℕ → Answer
+openCall size held text day =
+    let k = firstOf (openStops size text day) in
+    cond (eqb k 0) (record { number = 0; text = []; difference = pos 0; next = some (opened text day) }) (refused k held)
+
+-- ---- message: conditions
+
+-- 2: "type or receiver"
+unfoldable pub addressed : List ℕ → Bool
+addressed s = (equal (type s) (ascii "101") || equal (type s) (ascii "103")) && equal (receiver s) (ascii "BNBGBGSD")
+
+-- 5: "a reference (20, 21) that begins or ends with `/` or has `//`, or one field 21 twice"
+unfoldable pub badReference : Message → Bool
+badReference m =
+    slashed (referenceOf m)
+    || any (λ (d : Detail). slashed (field21 d)) (detailsOf m)
+    || twice (λ (d e : Detail). equal (field21 d) (field21 e)) (detailsOf m)
+
+-- 6: "currency not BGN, or amount 0"
+unfoldable pub badSum : List ℕ → ℕ → Bool
+badSum currency v = not (equal currency (ascii "BGN")) || eqb v 0
+
+unfoldable pub badAmount : Message → Bool
+badAmount (mt103 t) = badSum (currency32A (t .rows)) (t .amount)
+badAmount (mt101 o) = any (λ (d : Detail). badSum (currency32B d) (d .amount)) (o .details)
+
+-- 7: "a 50H account that doesn't pass or whose characters 5 to 8 aren't the sender's first four"
+unfoldable pub foreignPayer : List ℕ → Detail → Bool
+foreignPayer from d = not (passes (payer d)) || not (equal (take 4 (drop 4 (payer d))) (take 4 from))
+
+-- 7: "MT103's field 59 not the temporary account alone, or .."
+unfoldable pub badAccount : List ℕ → Message → Bool
+badAccount temporary (mt103 t) = not (equal (account103 (t .rows)) temporary)
+badAccount temporary (mt101 o) = any (foreignPayer (o .sender)) (o .details)
+
+-- 8: "details of different centralisation dates"
+unfoldable pub manyDates : Message → Bool
+manyDates m = any (λ (d : Detail). not (eqb (d .date) (dateOf m))) (detailsOf m)
+
+-- 11: "MT103 not dated today, MT101 dated after today"
+unfoldable pub misdated : ℕ → Message → Bool
+misdated day (mt103 t) = not (eqb (t .date) day)
+misdated day (mt101 o) = not (leb (firstDate (o .details)) day)
+
+-- the bank that sends
+abbrev pub bankOf : Message → ℕ
+bankOf m = number (senderOf m)
+
+abbrev pub ownReference : Message → Reference
+ownReference m = record { sender = bankOf m; text = referenceOf m }
+
+-- what the message adds to its position
+abbrev pub added : Message → Position
+added m = record { bank = bankOf m; date = dateOf m; transferred = transferredBy m; detailed = detailedBy m }
+
+-- its position as it then is
+unfoldable pub after : Engine → Message → Position
+after e m =
+    let p = positionOf (bankOf m) (dateOf m) (e .positions) in
+    record { bank = bankOf m; date = dateOf m; transferred = p .transferred + transferredBy m; detailed = p .detailed + detailedBy m }
+
+-- 14: "32 positions open, none of them this one"
+unfoldable pub noRoom : Engine → Message → Bool
+noRoom e m = leb 32 (length (e .positions)) && not (isOpen (bankOf m) (dateOf m) (e .positions))
+
+-- 15: "a total over its limit"
+unfoldable pub overLimit : Engine → Message → Bool
+overLimit e m = not (leb (after e m .transferred) limit) || not (leb (after e m .detailed) limit)
+
+-- ---- message: what is written
+
+abbrev pub verdictOf : Register → Detail → Verdict
+verdictOf r d = verdict r (account59 d)
+
+unfoldable pub returnedOf : Register → List Detail → List Detail
+returnedOf r [] = []
+returnedOf r (d ∷ ds) = let more = returnedOf r ds in cond (isReturned (verdictOf r d)) (d ∷ more) more
+
+-- the posting line of a detail by its verdict
+unfoldable pub detailPosting : Register → Book → Detail → Verdict → List ℕ
+detailPosting r b d (credited i) = toAccount b (accountAt r i .iban) (d .amount)
+detailPosting r b d (returned c) = toBank b (d .amount)
+
+-- "Posting lines come first, in the order of details"
+unfoldable pub detailPostings : Register → Book → List Detail → List ℕ
+detailPostings r b [] = []
+detailPostings r b (d ∷ ds) = detailPosting r b d (verdictOf r d) ++ detailPostings r b ds
+
+unfoldable pub postings : Register → Book → Message → List ℕ
+postings r b (mt103 t) = fromBank b (t .amount)
+postings r b (mt101 o) = detailPostings r b (o .details)
+
+-- "MT199 follows every accepted MT101, and an MT103 whose position has details."
+unfoldable pub judged : Message → Position → Bool
+judged (mt103 t) p = hasDetails p
+judged (mt101 o) p = true
+
+-- how many messages are written
+unfoldable pub writes : Engine → Message → ℕ
+writes e m = cond (judged m (after e m)) (partsOf (length (returnedOf (registerOf (e .register)) (detailsOf m)))) 0
+
+unfoldable pub messageText : Engine → Message → List ℕ
+messageText e m =
+    let r = registerOf (e .register) in
+    let p = after e m in
+    let b : Book = record { day = e .day; temporary = r .temporary; bank = bankOf m; date = dateOf m } in
+    postings r b m ++ cond (judged m p) (verdicts (e .day) (e .count) p (returnedOf r (detailsOf m))) []
+
+-- the engine after the message
+unfoldable pub afterMessage : Engine → Message → Engine
+afterMessage e m = record {
+  register = e .register;
+  day = e .day;
+  positions = booked (added m) (e .positions);
+  references = e .references ++ (ownReference m ∷ []);
+  count = e .count + writes e m;
+}
+
+-- 10, "tested before all others", 1 to 8, 11 to 16; room is the output's
+unfoldable pub messageStops : ℕ → Option Engine → List ℕ → List Stop
+messageStops room held s =
+    let e = Option·getD held (opened [] 0) in
+    let m = read s in
+    stop 10 (not (isSome held))
+    ∷ stop 1 (not (framed s))
+    ∷ stop 2 (not (addressed s))
+    ∷ stop 3 (not (isSome m))
+    ∷ stop 4 (holdsOf (λ m. not (leb (length (detailsOf m)) 16)) m)
+    ∷ stop 5 (holdsOf badReference m)
+    ∷ stop 6 (holdsOf badAmount m)
+    ∷ stop 7 (holdsOf (badAccount (registerOf (e .register) .temporary)) m)
+    ∷ stop 8 (holdsOf manyDates m)
+    ∷ stop 11 (holdsOf (misdated (e .day)) m)
+    ∷ stop 12 (holdsOf (λ m. any (sameReference (ownReference m)) (e .references)) m)
+    ∷ stop 13 (leb 64 (length (e .references)))
+    ∷ stop 14 (holdsOf (noRoom e) m)
+    ∷ stop 15 (holdsOf (overLimit e) m)
+    ∷ stop 16 (holdsOf (λ m. not (leb (length (messageText e m)) room)) m)
+    ∷ []
+
+-- "for a message its position's transferred minus detailed"
+unfoldable pub acceptedMessage : Engine → Message → Answer
+acceptedMessage e m = record {
+  number = 0;
+  text = messageText e m;
+  difference = subℕ (after e m .transferred) (after e m .detailed);
+  next = some (afterMessage e m);
+}
+
+-- where no condition holds there are an engine and a message
+unfoldable pub bothOf : Option Engine → Option Message → Answer
+bothOf none m = refused 10 none
+bothOf (some e) none = refused 3 (some e)
+bothOf (some e) (some m) = acceptedMessage e m
+
+unfoldable pub messageCall : ℕ → Option Engine → List ℕ → Answer
+messageCall room held s = let k = firstOf (messageStops room held s) in cond (eqb k 0) (bothOf held (read s)) (refused k held)
+
+-- ---- turn: "A turn tests 10, 3, 11, then 16"
+
+-- "References and the outgoing number start anew, before corrections are numbered."
+unfoldable pub turnText : Engine → ℕ → List ℕ
+turnText e day =
+    let t = registerOf (e .register) .temporary in
+    correctionPostings day t (e .positions) ++ corrections day t 0 (e .positions)
+
+unfoldable pub turnStops : ℕ → Option Engine → ℕ → List Stop
+turnStops room held day =
+    let e = Option·getD held (opened [] 0) in
+    stop 10 (not (isSome held))
+    ∷ stop 3 (not (exists day))
+    ∷ stop 11 (leb day (e .day))
+    ∷ stop 16 (not (leb (length (turnText e day)) room))
+    ∷ []
+
+unfoldable pub refunded : List Position → ℕ
+refunded [] = 0
+refunded (p ∷ ps) = let r = refunded ps in cond (hasDetails p) ((p .transferred - p .detailed) + r) r
+
+unfoldable pub collected : List Position → ℕ
+collected [] = 0
+collected (p ∷ ps) = let r = collected ps in cond (hasDetails p) ((p .detailed - p .transferred) + r) r
+
+-- the engine after the turn: positions with details are removed
+unfoldable pub afterTurn : Engine → ℕ → Engine
+afterTurn e day = record {
+  register = e .register;
+  day = day;
+  positions = kept (e .positions);
+  references = [];
+  count = correctedCount (e .positions);
+}
+
+-- "for a turn refunded minus collected"
+unfoldable pub acceptedTurn : Option Engine → ℕ → Answer
+acceptedTurn none day = refused 10 none
+acceptedTurn (some e) day = record {
+  number = 0;
+  text = turnText e day;
+  difference = subℕ (refunded (e .positions)) (collected (e .positions));
+  next = some (afterTurn e day);
+}
+
+unfoldable pub turnCall : ℕ → Option Engine → ℕ → Answer
+turnCall room held day = let k = firstOf (turnStops room held day) in cond (eqb k 0) (acceptedTurn held day) (refused k held)

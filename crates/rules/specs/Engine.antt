@@ -1,0 +1,127 @@
+-- Document 01, "Register and opening", "Positions and turn" and condition 10: the engine and its limits.
+use mathlib.Core.Bool.{Bool, true, false, _&&_, _||_, not, cond}
+use mathlib.Core.List.{List, [], _∷_}
+use Prim.Native.Nat.{ℕ, _+_, _*_}
+use lib.Dec.{leb, eqb}
+use lib.ListN.{length, getD}
+use Rattle.rules.specs.Text.{isText, run, equal, bytes, isSome, any, twice}
+use Rattle.rules.specs.Dates.{exists}
+use Rattle.rules.specs.Accounts.{isBic}
+use Rattle.rules.specs.Register.{register}
+
+-- "One position per sender and centralisation date: transferred (MT103) and detailed (MT101)"; a bank is the number of its BIC
+pub record Position : Type 0 where
+  pub bank : ℕ
+  pub date : ℕ
+  pub transferred : ℕ
+  pub detailed : ℕ
+
+-- a reference accepted today, with its sender
+pub record Reference : Type 0 where
+  pub sender : ℕ
+  pub text : List ℕ
+
+-- "An engine is the register, day, open positions, references accepted today with their senders, and outgoing number."
+pub record Engine : Type 0 where
+  pub register : List ℕ
+  pub day : ℕ
+  pub positions : List Position
+  pub references : List Reference
+  pub count : ℕ
+
+-- "Each total is at most 99,999,999,999,999."
+abbrev pub limit : ℕ
+limit = 99999999999999
+
+-- a bank's BIC
+abbrev pub bic : ℕ → List ℕ
+bic bank = bytes 8 bank
+
+-- a number that is a bank's: eight bytes that are a BIC
+unfoldable pub isBank : ℕ → Bool
+isBank bank = leb bank 18446744073709551615 && isBic (bic bank)
+
+-- ---- positions, kept "by BIC in byte order and then date"
+
+unfoldable pub earlier : Position → Position → Bool
+earlier p q = not (leb (q .bank) (p .bank)) || (eqb (p .bank) (q .bank) && not (leb (q .date) (p .date)))
+
+unfoldable pub alike : Position → Position → Bool
+alike p q = eqb (p .bank) (q .bank) && eqb (p .date) (q .date)
+
+-- the position of a bank and date; "a missing one begins with 0 and 0"
+unfoldable pub positionOf : ℕ → ℕ → List Position → Position
+positionOf bank date [] = record { bank = bank; date = date; transferred = 0; detailed = 0 }
+positionOf bank date (p ∷ ps) = let r = positionOf bank date ps in cond (eqb (p .bank) bank && eqb (p .date) date) p r
+
+unfoldable pub isOpen : ℕ → ℕ → List Position → Bool
+isOpen bank date ps = any (λ (p : Position). eqb (p .bank) bank && eqb (p .date) date) ps
+
+-- both totals of q added to its position, which opens in its place where it is missing
+unfoldable pub booked : Position → List Position → List Position
+booked q [] = q ∷ []
+booked q (p ∷ ps) =
+    let sum : Position = record { bank = p .bank; date = p .date; transferred = p .transferred + q .transferred; detailed = p .detailed + q .detailed } in
+    let on = p ∷ booked q ps in
+    cond (alike p q) (sum ∷ ps) (cond (earlier q p) (q ∷ p ∷ ps) on)
+
+-- "each position with detailed above 0"
+unfoldable pub hasDetails : Position → Bool
+hasDetails p = leb 1 (p .detailed)
+
+-- "A position without details stays (000, 1.1.6)."
+unfoldable pub kept : List Position → List Position
+kept [] = []
+kept (p ∷ ps) = let r = kept ps in cond (hasDetails p) r (p ∷ r)
+
+-- ---- references
+
+-- "begins or ends with `/` or has `//`"
+unfoldable pub slashesFrom : List ℕ → Bool
+slashesFrom [] = false
+slashesFrom (c ∷ []) = eqb c 47
+slashesFrom (c ∷ d ∷ cs) = let r = slashesFrom (d ∷ cs) in cond (eqb c 47 && eqb d 47) true r
+
+unfoldable pub slashed : List ℕ → Bool
+slashed cs = eqb (getD cs 0 0) 47 || slashesFrom cs
+
+unfoldable pub sameReference : Reference → Reference → Bool
+sameReference r q = eqb (r .sender) (q .sender) && equal (r .text) (q .text)
+
+-- ---- "within the limits above"
+
+-- a position of a BIC and an existing date no later than the day, both totals within the limit
+unfoldable pub goodPosition : ℕ → Position → Bool
+goodPosition day p = isBank (p .bank) && exists (p .date) && leb (p .date) day && leb (p .transferred) limit && leb (p .detailed) limit
+
+unfoldable pub goodPositions : ℕ → List Position → Bool
+goodPositions day [] = true
+goodPositions day (p ∷ ps) = let r = goodPositions day ps in cond (goodPosition day p) r false
+
+-- "positions distinct", in their order
+unfoldable pub ordered : List Position → Bool
+ordered [] = true
+ordered (p ∷ []) = true
+ordered (p ∷ q ∷ ps) = let r = ordered (q ∷ ps) in cond (earlier p q) r false
+
+-- a reference of a BIC, in the form R, which 5 lets pass
+unfoldable pub goodReference : Reference → Bool
+goodReference r = isBank (r .sender) && run isText 1 16 (r .text) && not (slashed (r .text))
+
+unfoldable pub goodReferences : List Reference → Bool
+goodReferences [] = true
+goodReferences (r ∷ rs) = let q = goodReferences rs in cond (goodReference r) q false
+
+-- the engine is within the limits: a register that passes 9, an existing day, "positions distinct and dated no later than the day, references of one sender distinct,
+-- at most 64 of them in all, outgoing number at most 32 + 18 × their count"
+unfoldable pub within : Engine → Bool
+within e =
+    isSome (register (e .register))
+    && exists (e .day)
+    && leb (length (e .positions)) 32
+    && goodPositions (e .day) (e .positions)
+    && ordered (e .positions)
+    && leb (length (e .references)) 64
+    && goodReferences (e .references)
+    && not (twice sameReference (e .references))
+    && leb (e .count) (32 + 18 * length (e .references))

@@ -1,0 +1,98 @@
+-- Document 01, "Messages read": the fields of MT103 and MT101 as tables of rows, one row for each line.
+use mathlib.Core.Bool.{Bool, true, false, _&&_, not, cond}
+use mathlib.Core.List.{List, [], _∷_, _++_}
+use mathlib.Core.Option.{Option, none, some}
+use Prim.Native.Nat.{ℕ}
+use Prim.Native.String.{String}
+use lib.Dec.{eqb}
+use lib.ListN.{length, getD, take, drop}
+use Rattle.rules.specs.Text.{ascii, isText, isAlnum, run, fits, then}
+use Rattle.rules.specs.Lines.{Line, Taken, line}
+
+-- what stands behind a row's head: nothing; T; a reference R; the bytes behind an account line's slash; N; an amount, which is read with the message's parts
+pub data Rest : Type 0 where
+  nothing : Rest
+  text : Rest
+  reference : Rest
+  account : Rest
+  name : Rest
+  sum : Rest
+
+-- "A text line T has 1 to 35 bytes from 32 to 255, never 125, and doesn't begin with `:` or `-`."
+unfoldable pub textLine : List ℕ → Bool
+textLine cs = run isText 1 35 cs && not (eqb (getD cs 0 0) 58) && not (eqb (getD cs 0 0) 45)
+
+-- "An account line is `/` and 1 to 34 such bytes. A reference R is 1 to 16 such bytes. C is three letters, N one to twelve letters or digits."
+unfoldable pub fitsRest : Rest → List ℕ → Bool
+fitsRest nothing cs = eqb (length cs) 0
+fitsRest text cs = textLine cs
+fitsRest reference cs = run isText 1 16 cs
+fitsRest account cs = run isText 1 34 cs
+fitsRest name cs = run isAlnum 1 12 cs
+fitsRest sum cs = true
+
+-- a row: the pattern of a line's first bytes, what stands behind them, and whether the line may be left out
+pub record Row : Type 0 where
+  pub head : List ℕ
+  pub rest : Rest
+  pub may : Bool
+
+unfoldable pub fitsRow : Row → Line → Bool
+fitsRow r l = fits (r .head) (take (length (r .head)) l) && fitsRest (r .rest) (drop (length (r .head)) l)
+
+abbrev pub row : String → Rest → List Row
+row s r = record { head = ascii s; rest = r; may = false } ∷ []
+
+-- a further T, and one that may be left out
+abbrev pub textRow : List Row
+textRow = row "" text
+
+abbrev pub moreRow : List Row
+moreRow = record { head = []; rest = text; may = true } ∷ []
+
+-- "MT103: 20 R; 23B `CRED`; 32A date, C, amount; 50K account line | 1 to 3 T; 52D BAE | T; 57D BAE | T; 59 account line | 1 to 3 T; 70 1 to 4 T; 71A C; 72 `/DTYPE/PORD` | `/BAEREF/`, date, N | `/CENTRB/`."
+abbrev pub transferRows : List Row
+transferRows =
+    row ":20:" reference
+    ++ row ":23B:CRED" nothing
+    ++ row ":32A:nnnnnnaaa" sum
+    ++ (row ":50K:/" account ++ textRow ++ moreRow ++ moreRow)
+    ++ (row ":52D:aaaannnn" nothing ++ textRow)
+    ++ (row ":57D:aaaannnn" nothing ++ textRow)
+    ++ (row ":59:/" account ++ textRow ++ moreRow ++ moreRow)
+    ++ (row ":70:" text ++ moreRow ++ moreRow ++ moreRow)
+    ++ row ":71A:aaa" nothing
+    ++ (row ":72:/DTYPE/PORD" nothing ++ row "/BAEREF/nnnnnn" name ++ row "/CENTRB/" nothing)
+
+-- "MT101: 20 R; then one or more details"
+abbrev pub orderRows : List Row
+orderRows = row ":20:" reference
+
+-- "21 R; 32B C, amount; 50H `/`, 22 letters or digits, `PAY`, six digits | 1 to 4 T; 52D BAE | T; 59 account line | 1 to 3 T; 70 `CENTRB`, date | `BAEREF`, date, N | 1 to 2 T."
+abbrev pub detailRows : List Row
+detailRows =
+    row ":21:" reference
+    ++ row ":32B:aaa" sum
+    ++ (row ":50H:/ccccccccccccccccccccccPAYnnnnnn" nothing ++ textRow ++ moreRow ++ moreRow ++ moreRow)
+    ++ (row ":52D:aaaannnn" nothing ++ textRow)
+    ++ (row ":59:/" account ++ textRow ++ moreRow ++ moreRow)
+    ++ (row ":70:CENTRBnnnnnn" nothing ++ row "BAEREFnnnnnn" name ++ textRow ++ moreRow)
+
+-- lines by rows, an empty one for a row that is left out, and the bytes behind them
+pub record Rowed : Type 0 where
+  pub rows : List Line
+  pub others : List ℕ
+
+-- the lines ls before
+unfoldable pub leadRows : List Line → Option Rowed → Option Rowed
+leadRows ls none = none
+leadRows ls (some r) = some record { rows = ls ++ r .rows; others = r .others }
+
+-- "Fields stand in this order, none left out.": the lines of a text held against the rows
+unfoldable pub rowed : List Row → List ℕ → Option Rowed
+rowed [] cs = some record { rows = []; others = cs }
+rowed (r ∷ rs) cs =
+    then (line cs) (λ t.
+    let with = leadRows (t .line ∷ []) (rowed rs (t .others)) in
+    let without = leadRows ([] ∷ []) (rowed rs cs) in
+    cond (fitsRow r (t .line)) with (cond (r .may) without none))

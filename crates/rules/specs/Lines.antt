@@ -1,0 +1,83 @@
+-- Document 01, "Messages read": lines, and the frame of a message.
+use mathlib.Core.Bool.{Bool, true, false, _&&_, cond}
+use mathlib.Core.List.{List, [], _∷_, _++_}
+use mathlib.Core.Option.{Option, none, some, Option·map}
+use Prim.Native.Nat.{ℕ}
+use lib.Dec.{leb, eqb}
+use lib.ListN.{length, take, drop}
+use Rattle.rules.specs.Text.{ascii, equal, fits}
+
+-- a line, without its CR LF
+abbrev pub Line : Type 0
+Line = List ℕ
+
+-- a line taken off a text, and what stands behind its CR LF
+pub record Taken : Type 0 where
+  pub line : Line
+  pub others : List ℕ
+
+-- the bytes p before the line
+unfoldable pub lead : List ℕ → Option Taken → Option Taken
+lead p none = none
+lead p (some t) = some record { line = p ++ t .line; others = t .others }
+
+-- "A line reader made over the message hands out one line after another.": lines are "ended by CR LF", and "CR and LF stand nowhere else"
+unfoldable pub line : List ℕ → Option Taken
+line [] = none
+line (c ∷ []) = none
+line (c ∷ d ∷ cs) =
+    let on = lead (c ∷ []) (line (d ∷ cs)) in
+    cond (eqb c 13) (cond (eqb d 10) (some record { line = []; others = cs }) none) (cond (eqb c 10) none on)
+
+-- a byte before the first of some lines
+abbrev pub begun : ℕ → List Line → List Line
+begun c [] = (c ∷ []) ∷ []
+begun c (l ∷ ls) = (c ∷ l) ∷ ls
+
+-- a line before others
+abbrev pub before : Line → List Line → List Line
+before l ls = l ∷ ls
+
+-- all lines of a text
+unfoldable pub lines : List ℕ → Option (List Line)
+lines [] = some []
+lines (c ∷ []) = none
+lines (c ∷ d ∷ cs) =
+    let ended = Option·map (before []) (lines cs) in
+    let on = Option·map (begun c) (lines (d ∷ cs)) in
+    cond (eqb c 13) (cond (eqb d 10) ended none) (cond (eqb c 10) none on)
+
+-- "last line `-`"
+unfoldable pub closes : List Line → Bool
+closes [] = false
+closes (l ∷ []) = equal l (ascii "-")
+closes (l ∷ m ∷ ls) = closes (m ∷ ls)
+
+abbrev pub inLines : Option (List Line) → Bool
+inLines none = false
+inLines (some ls) = closes ls
+
+-- all that is left of a message is its closing line
+unfoldable pub closing : List ℕ → Bool
+closing cs = equal cs (ascii "-\r\n")
+
+-- "First line `type,sender,receiver`: three digits .., two BICs"
+unfoldable pub opening : List ℕ → Bool
+opening s = fits (ascii "nnn,aaaaaacc,aaaaaacc\r\n") (take 23 s)
+
+-- "At most 4,096 bytes, lines ended by CR LF, last line `-`."
+unfoldable pub framed : List ℕ → Bool
+framed s = leb (length s) 4096 && inLines (lines s) && opening s
+
+-- the parts of the first line, and the lines behind it
+unfoldable pub type : List ℕ → List ℕ
+type s = take 3 s
+
+unfoldable pub sender : List ℕ → List ℕ
+sender s = take 8 (drop 4 s)
+
+unfoldable pub receiver : List ℕ → List ℕ
+receiver s = take 8 (drop 13 s)
+
+unfoldable pub body : List ℕ → List ℕ
+body s = drop 23 s

@@ -1,0 +1,121 @@
+-- Document 01, "Written": the worked listing as a theorem. Every line ends in CR LF.
+use mathlib.Core.Path.{_≡_, refl}
+use mathlib.Core.List.{List, [], _∷_, _++_}
+use Prim.Native.Nat.{ℕ}
+use Prim.Native.String.{String}
+use Rattle.rules.specs.Text.{ascii, isDigit, isLetter, isAlnum, isText, every, run, equal, fitsSign, fits, any, twice, digitsFrom, places, width, numberFrom, over}
+use Rattle.rules.specs.Dates.{leapRow, monthLength, exists, date}
+use Rattle.rules.specs.Amounts.{decimals, levs, amount, written}
+use Rattle.rules.specs.Accounts.{isBic, ibanShape, withSign, numeral, remainder, control, passes}
+use Rattle.rules.specs.Lines.{lead, line, lines, closes, closing, opening, framed, type, sender, receiver, body}
+use Rattle.rules.specs.Forms.{textLine, fitsRest, fitsRow, leadRows, rowed}
+use Rattle.rules.specs.Messages.{transferOf, detailOf, detailed, details, readTransfer, readOrder, read, senderOf, referenceOf, detailsOf, firstDate, dateOf, transferredBy, sumOf, detailedBy}
+use Rattle.rules.specs.Register.{accountLine, accountLines, sound, ofLines, register, registerOf}
+use Rattle.rules.specs.Verdict.{found, shaped, inBounds, judged, verdict, isReturned}
+use Rattle.rules.specs.Engine.{earlier, alike, positionOf, isOpen, booked, hasDetails, kept, slashesFrom, slashed, sameReference, goodPosition, goodPositions, ordered, goodReference, goodReferences, within}
+use Rattle.rules.specs.Written.{posting, reference, opened, field, returnedRows, allReturned, linked, position79, closed79, mt199, partsOf, mt199s, verdicts, field72, mt204, mt205, corrected, isRefund, correctionPosting, correction, correctionPostings, corrections, correctedCount}
+use Rattle.rules.specs.Calls.{firstOf, holdsOf, openStops, opened as calls-opened, openCall, addressed, badReference, badSum, badAmount, foreignPayer, badAccount, manyDates, misdated, after, noRoom, overLimit, returnedOf, detailPosting, detailPostings, postings, judged as calls-judged, writes, messageText, afterMessage, messageStops, acceptedMessage, bothOf, messageCall, turnText, turnStops, refunded, collected, afterTurn, acceptedTurn, turnCall}
+use Rattle.rules.specs.Replay.{replay, sixDigits, lengthOf, withBytes, commandOf, command, signed, printed, called, onward, run as replay-run, replayIn}
+
+-- texts one below the other
+abbrev pub lined : List String → List ℕ
+lined [] = []
+lined (s ∷ ss) = ascii s ++ ascii "\r\n" ++ lined ss
+
+-- "Opened 060302 with BG80.. as temporary account ..; AAAABGSF transfers 100,00; details ..; turn to 060303"
+abbrev pub input : List String
+input =
+    "O,060302,62"
+    ∷ "BG80BNBG96611020345678"
+    ∷ "BG56BNBG96613000000001,000000,999999"
+    ∷ "M,277"
+    ∷ "103,AAAABGSF,BNBGBGSD"
+    ∷ ":20:T1"
+    ∷ ":23B:CRED"
+    ∷ ":32A:060302BGN100,00"
+    ∷ ":50K:/BG33AAAA12311012345678"
+    ∷ "BANKA A"
+    ∷ ":52D:AAAA1231"
+    ∷ "BANKA A"
+    ∷ ":57D:BNBG9661"
+    ∷ "BNB"
+    ∷ ":59:/BG80BNBG96611020345678"
+    ∷ "VREMENNA SMETKA NA MF"
+    ∷ ":70:CENTRALIZIRANE"
+    ∷ ":71A:OUR"
+    ∷ ":72:/DTYPE/PORD"
+    ∷ "/BAEREF/060302A0"
+    ∷ "/CENTRB/"
+    ∷ "-"
+    ∷ "M,411"
+    ∷ "101,AAAABGSF,BNBGBGSD"
+    ∷ ":20:D1"
+    ∷ ":21:1"
+    ∷ ":32B:BGN60,00"
+    ∷ ":50H:/BG33AAAA12311012345678PAY000001"
+    ∷ "PREDPRIATIE"
+    ∷ ":52D:AAAA1231"
+    ∷ "BANKA A"
+    ∷ ":59:/BG56BNBG96613000000001"
+    ∷ "POLUCHATEL"
+    ∷ ":70:CENTRB060302"
+    ∷ "BAEREF060302A1"
+    ∷ "OSNOVANIE"
+    ∷ ":21:2"
+    ∷ ":32B:BGN54,00"
+    ∷ ":50H:/BG33AAAA12311012345678PAY000001"
+    ∷ "PREDPRIATIE"
+    ∷ ":52D:AAAA1231"
+    ∷ "BANKA A"
+    ∷ ":59:/BG57BNBG96613000000001PAY000001"
+    ∷ "POLUCHATEL"
+    ∷ ":70:CENTRB060302"
+    ∷ "BAEREF060302A2"
+    ∷ "OSNOVANIE"
+    ∷ "-"
+    ∷ "T,060303"
+    ∷ []
+
+-- what it prints
+abbrev pub output : List String
+output =
+    "0,0"
+    ∷ "0,10000"
+    ∷ "060302,AAAABGSF,BG80BNBG96611020345678,10000,AAAABGSF,060302"
+    ∷ "0,-1400"
+    ∷ "060302,BG80BNBG96611020345678,BG56BNBG96613000000001,6000,AAAABGSF,060302"
+    ∷ "060302,BG80BNBG96611020345678,AAAABGSF,5400,AAAABGSF,060302"
+    ∷ "199,BNBGBGSD,AAAABGSF"
+    ∷ ":20:060302GA000001"
+    ∷ ":79:/CENTRB/060302"
+    ∷ "100,00"
+    ∷ "114,00"
+    ∷ "14,00"
+    ∷ "NEKOREKTNI SMETKI"
+    ∷ "AAAA1231/060302/A2"
+    ∷ "BG57BNBG96613000000001PAY000001"
+    ∷ "1/1"
+    ∷ "-"
+    ∷ "0,-1400"
+    ∷ "060303,AAAABGSF,BG80BNBG96611020345678,1400,AAAABGSF,060302"
+    ∷ "204,BNBGBGSD,AAAABGSF"
+    ∷ ":20:060303GA000001"
+    ∷ ":19:14,00"
+    ∷ ":30:060303"
+    ∷ ":58D:/BG80BNBG96611020345678"
+    ∷ "SMETKA ZA RAZPREDELENIE NA PREVODI"
+    ∷ ":20:060303GA000001"
+    ∷ ":32B:BGN14,00"
+    ∷ ":53A:AAAABGSF"
+    ∷ ":72:/BAEREF/060303000001"
+    ∷ "/RELREF/ERRCENTRB060302"
+    ∷ "//RAZLIKA OT CENTRALIZACIA NA BS"
+    ∷ "//SUMA PREZ RINGS 100.00"
+    ∷ "//SUMA PREZ BISERA 114.00"
+    ∷ "-"
+    ∷ []
+
+-- the replay of the one is the other, byte for byte
+pub listing : replay (lined input) ≡ lined output
+unfolding isDigit isLetter isAlnum isText every run equal fitsSign fits digitsFrom places width numberFrom over leapRow monthLength exists date decimals levs amount written isBic ibanShape withSign numeral remainder control passes lead line lines closes closing opening framed type sender receiver body textLine fitsRest fitsRow leadRows rowed transferOf detailOf detailed details readTransfer readOrder read senderOf referenceOf detailsOf firstDate dateOf transferredBy sumOf detailedBy accountLine accountLines any twice sound ofLines register registerOf found shaped inBounds judged verdict isReturned earlier alike positionOf isOpen booked hasDetails kept slashesFrom slashed sameReference goodPosition goodPositions ordered goodReference goodReferences within posting reference opened field returnedRows allReturned linked position79 closed79 mt199 partsOf mt199s verdicts field72 mt204 mt205 corrected isRefund correctionPosting correction correctionPostings corrections correctedCount firstOf holdsOf openStops calls-opened openCall addressed badReference badSum badAmount foreignPayer badAccount manyDates misdated after noRoom overLimit returnedOf detailPosting detailPostings postings calls-judged writes messageText afterMessage messageStops acceptedMessage bothOf messageCall turnText turnStops refunded collected afterTurn acceptedTurn turnCall sixDigits lengthOf withBytes commandOf command signed printed called onward replay-run replayIn
+listing = refl

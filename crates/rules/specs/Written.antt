@@ -1,0 +1,168 @@
+-- Document 01, "Written": posting lines, MT199, MT204 and MT205.
+use mathlib.Core.Bool.{Bool, true, false, _&&_, not, cond}
+use mathlib.Core.List.{List, [], _∷_, _++_}
+use Prim.Native.Nat.{ℕ, zero, suc, _+_, _-_, _/_}
+use Prim.Native.String.{String}
+use lib.Dec.{leb, eqb}
+use lib.ListN.{length, take, drop}
+use Rattle.rules.specs.Text.{ascii, fixed, decimal, ended}
+use Rattle.rules.specs.Amounts.{withComma, withPoint}
+use Rattle.rules.specs.Messages.{Detail, branch, account59, baerefDate, baerefName}
+use Rattle.rules.specs.Engine.{Position, bic, hasDetails}
+
+-- ---- posting lines
+
+-- what the lines of one call for one position share: the day, the temporary account, the bank and the centralisation date
+pub record Book : Type 0 where
+  pub day : ℕ
+  pub temporary : List ℕ
+  pub bank : ℕ
+  pub date : ℕ
+
+-- "Posting line: `day,debit,credit,stotinki,bank,centralisation date`."
+unfoldable pub posting : Book → List ℕ → List ℕ → ℕ → List ℕ
+posting b debit credit stotinki =
+    (fixed 6 (b .day) ++ ascii "," ++ debit ++ ascii ",")
+    ++ (credit ++ ascii "," ++ decimal stotinki ++ ascii ",")
+    ++ (bic (b .bank) ++ ascii "," ++ fixed 6 (b .date) ++ ascii "\r\n")
+
+-- "Transfer and collection: bank to temporary account."
+abbrev pub fromBank : Book → ℕ → List ℕ
+fromBank b v = posting b (bic (b .bank)) (b .temporary) v
+
+-- "Credit: temporary account to the register's account."
+abbrev pub toAccount : Book → List ℕ → ℕ → List ℕ
+toAccount b iban v = posting b (b .temporary) iban v
+
+-- "Return and refund: temporary account to bank."
+abbrev pub toBank : Book → ℕ → List ℕ
+toBank b v = posting b (b .temporary) (bic (b .bank)) v
+
+-- ---- messages
+
+-- "a message's reference is the day, `GA`, six digits from 000001"
+unfoldable pub reference : ℕ → ℕ → List ℕ
+reference day n = fixed 6 day ++ ascii "GA" ++ fixed 6 n
+
+-- "Written messages open with type, BNBGBGSD, bank"
+unfoldable pub opened : List ℕ → ℕ → List ℕ
+opened type bank = type ++ ascii ",BNBGBGSD," ++ bic bank ++ ascii "\r\n"
+
+-- a field of one line, by its tag
+unfoldable pub field : List ℕ → List ℕ → List ℕ
+field tag value = tag ++ value ++ ascii "\r\n"
+
+-- "size of the difference"
+abbrev pub size : ℕ → ℕ → ℕ
+size a b = (a - b) + (b - a)
+
+-- ---- MT199
+
+-- "two rows for each returned detail": "52D's BAE, `/`, BAEREF's date, `/`, its N; then field 59 behind its slash"
+unfoldable pub returnedRows : Detail → List ℕ
+returnedRows d = (branch d ++ ascii "/" ++ baerefDate d ++ ascii "/" ++ baerefName d ++ ascii "\r\n") ++ (account59 d ++ ascii "\r\n")
+
+unfoldable pub allReturned : List Detail → List ℕ
+allReturned [] = []
+allReturned (d ∷ ds) = returnedRows d ++ allReturned ds
+
+-- "From part 2 on, field 21 behind 20 holds part 1's reference.": n is the number before part 1's
+unfoldable pub linked : ℕ → ℕ → ℕ → List ℕ
+linked day n part = cond (leb 2 part) (field (ascii ":21:") (reference day (n + 1))) []
+
+-- the rows of 79 before the returned details
+unfoldable pub position79 : ℕ → ℕ → ℕ → List ℕ
+position79 date transferred detailed =
+    field (ascii ":79:/CENTRB/") (fixed 6 date)
+    ++ field [] (withComma transferred)
+    ++ field [] (withComma detailed)
+    ++ field [] (withComma (size transferred detailed))
+    ++ ascii "NEKOREKTNI SMETKI\r\n"
+
+-- "part/parts", and the closing line
+unfoldable pub closed79 : ℕ → ℕ → List ℕ
+closed79 part parts = decimal part ++ ascii "/" ++ decimal parts ++ ascii "\r\n-\r\n"
+
+-- one part of an MT199 on a position, after n messages written today
+unfoldable pub mt199 : ℕ → ℕ → Position → ℕ → ℕ → List Detail → List ℕ
+mt199 day n p part parts ds =
+    (opened (ascii "199") (p .bank) ++ field (ascii ":20:") (reference day (n + part)) ++ linked day n part)
+    ++ position79 (p .date) (p .transferred) (p .detailed)
+    ++ allReturned ds
+    ++ closed79 part parts
+
+-- "Without returned details it is one part, 1/1. Each part but the last has 14 details"
+unfoldable pub partsOf : ℕ → ℕ
+partsOf returned = cond (eqb returned 0) 1 ((returned + 13) / 14)
+
+-- the parts from part on, k of them
+unfoldable pub mt199s : ℕ → ℕ → ℕ → Position → ℕ → ℕ → List Detail → List ℕ
+mt199s zero day n p part parts ds = []
+mt199s (suc k) day n p part parts ds = mt199 day n p part parts (take 14 ds) ++ mt199s k day n p (part + 1) parts (drop 14 ds)
+
+-- all parts for the returned details
+unfoldable pub verdicts : ℕ → ℕ → Position → List Detail → List ℕ
+verdicts day n p ds = let parts = partsOf (length ds) in mt199s parts day n p 1 parts ds
+
+-- ---- corrections
+
+-- 72: "RELREF the centralisation date, the two sums a point"; and the closing line
+unfoldable pub field72 : ℕ → ℕ → Position → List ℕ
+field72 day n p =
+    (ascii ":72:/BAEREF/" ++ fixed 6 day ++ fixed 6 n ++ ascii "\r\n")
+    ++ field (ascii "/RELREF/ERRCENTRB") (fixed 6 (p .date))
+    ++ ascii "//RAZLIKA OT CENTRALIZACIA NA BS\r\n"
+    ++ field (ascii "//SUMA PREZ RINGS ") (withPoint (p .transferred))
+    ++ (field (ascii "//SUMA PREZ BISERA ") (withPoint (p .detailed)) ++ ascii "-\r\n")
+
+-- MT204: "both 20 and 72's BAEREF carry one number, 30 the day, 19 and 32B the amount"
+unfoldable pub mt204 : ℕ → List ℕ → ℕ → Position → ℕ → List ℕ
+mt204 day temporary n p v =
+    (opened (ascii "204") (p .bank) ++ field (ascii ":20:") (reference day n) ++ field (ascii ":19:") (withComma v) ++ field (ascii ":30:") (fixed 6 day))
+    ++ (field (ascii ":58D:/") temporary ++ ascii "SMETKA ZA RAZPREDELENIE NA PREVODI\r\n" ++ field (ascii ":20:") (reference day n))
+    ++ (field (ascii ":32B:BGN") (withComma v) ++ field (ascii ":53A:") (bic (p .bank)))
+    ++ field72 day n p
+
+-- "MT205: 20; 21, the same; 32A day, BGN, amount; 52A BNBGBGSD; 58A bank; 72 as in the MT204"
+unfoldable pub mt205 : ℕ → ℕ → Position → ℕ → List ℕ
+mt205 day n p v =
+    (opened (ascii "205") (p .bank) ++ field (ascii ":20:") (reference day n) ++ field (ascii ":21:") (reference day n))
+    ++ (ascii ":32A:" ++ fixed 6 day ++ ascii "BGN" ++ withComma v ++ ascii "\r\n")
+    ++ (ascii ":52A:BNBGBGSD\r\n" ++ field (ascii ":58A:") (bic (p .bank)))
+    ++ field72 day n p
+
+-- a position that a turn corrects: it has details, and its totals differ
+unfoldable pub corrected : Position → Bool
+corrected p = hasDetails p && not (eqb (p .transferred) (p .detailed))
+
+-- "transferred minus detailed is refunded if positive (MT205), collected if negative (MT204)"
+unfoldable pub isRefund : Position → Bool
+isRefund p = leb (p .detailed) (p .transferred)
+
+unfoldable pub correctionPosting : ℕ → List ℕ → Position → List ℕ
+correctionPosting day temporary p =
+    let b : Book = record { day = day; temporary = temporary; bank = p .bank; date = p .date } in
+    cond (isRefund p) (toBank b (p .transferred - p .detailed)) (fromBank b (p .detailed - p .transferred))
+
+unfoldable pub correction : ℕ → List ℕ → ℕ → Position → List ℕ
+correction day temporary n p =
+    cond (isRefund p) (mt205 day n p (p .transferred - p .detailed)) (mt204 day temporary n p (p .detailed - p .transferred))
+
+-- the posting lines of a turn, "in the order of .. positions"
+unfoldable pub correctionPostings : ℕ → List ℕ → List Position → List ℕ
+correctionPostings day temporary [] = []
+correctionPostings day temporary (p ∷ ps) =
+    let r = correctionPostings day temporary ps in cond (corrected p) (correctionPosting day temporary p ++ r) r
+
+-- its messages, after n
+unfoldable pub corrections : ℕ → List ℕ → ℕ → List Position → List ℕ
+corrections day temporary n [] = []
+corrections day temporary n (p ∷ ps) =
+    let some = correction day temporary (n + 1) p ++ corrections day temporary (n + 1) ps in
+    let none = corrections day temporary n ps in
+    cond (corrected p) some none
+
+-- how many they are
+unfoldable pub correctedCount : List Position → ℕ
+correctedCount [] = 0
+correctedCount (p ∷ ps) = let r = correctedCount ps in cond (corrected p) (suc r) r
