@@ -1,0 +1,70 @@
+-- From facts to Bool tests and back, as branches hand them out and contracts ask for them.
+use mathlib.Core.Path.{_≡_, refl, sym, _∙_}
+use mathlib.Core.Bool.{Bool, true, false, _&&_, _||_, not, cond}
+use Prim.Native.Nat.{ℕ, _≤_, _<_}
+use native.Mathlib.Omega.{arith}
+use lib.Dec.{leb, eqb}
+use borrow.Author.Tests.{le-leb, lt-leb, leb-true, eq-eqb, ne-eqb}
+use Rattle.rules.specs.Text.{between}
+
+-- ---- both of two tests
+
+pub and-left : (a b : Bool) → (a && b) ≡ true → a ≡ true
+and-left true b h = refl
+and-left false b h = h
+
+pub and-right : (a b : Bool) → (a && b) ≡ true → b ≡ true
+and-right true b h = h
+and-right false b h = absurd (let z : _≡_ {A = ℕ} 0 1 = cc in omega arith)
+
+-- as `every` and its like join tests
+pub cond-right : (a b : Bool) → cond a b false ≡ true → b ≡ true
+cond-right true b h = h
+cond-right false b h = absurd (let z : _≡_ {A = ℕ} 0 1 = cc in omega arith)
+
+-- a test that cannot hold
+pub not-held : (a : Bool) → (a ≡ true → ⊥) → false ≡ a
+not-held true h = absurd (h refl)
+not-held false h = refl
+
+-- a test holds where a call answered so
+pub held-told : (t a : Bool) → t ≡ a → t ≡ true → a ≡ true
+held-told t a u h = sym u ∙ h
+
+-- the answer of `a && b` in code, t being what the first test answered: the second answer where it held, else t itself
+pub and-held : (a b t r : Bool) → t ≡ a → t ≡ true → r ≡ b → r ≡ (a && b)
+and-held a b t r u h e = rw (← u, h) e
+
+pub and-failed : (a b t : Bool) → t ≡ a → t ≡ false → t ≡ (a && b)
+and-failed a b t u h = rw (← u, h)
+
+-- the answer of `a || b` in code
+pub or-held : (a b t : Bool) → t ≡ a → t ≡ true → t ≡ (a || b)
+or-held a b t u h = rw (← u, h)
+
+pub or-failed : (a b t r : Bool) → t ≡ a → t ≡ false → r ≡ b → r ≡ (a || b)
+or-failed a b t r u h e = rw (← u, h) e
+
+-- ---- the answer picked by a comparison
+
+pub pick-equal : {A : Type 0} (a b : ℕ) (x y r : A) → a ≡ b → r ≡ x → r ≡ cond (eqb a b) x y
+pick-equal a b x y r h e = rw (eq-eqb a b h) e
+
+pub pick-other : {A : Type 0} (a b : ℕ) (x y r : A) → (a ≡ b → ⊥) → r ≡ y → r ≡ cond (eqb a b) x y
+pick-other a b x y r h e = rw (ne-eqb a b h) e
+
+-- ---- low to high
+
+pub between-in : (low high c : ℕ) → low ≤ c → leb c high ≡ between low high c
+between-in low high c h = rw (le-leb low c h)
+
+pub between-out : (low high c : ℕ) → c < low → leb low c ≡ between low high c
+between-out low high c h = rw (lt-leb low c h)
+
+pub between-low : (low high c : ℕ) → between low high c ≡ true → low ≤ c
+between-low low high c h = leb-true low c (and-left _ _ h)
+
+pub between-high : (low high c : ℕ) → between low high c ≡ true → c ≤ high
+between-high low high c h = leb-true c high (and-right (leb low c) _ h)
+
+pub ruleset tests = (held-told, and-held, and-failed, or-held, or-failed, pick-equal, pick-other, between-in, between-out)

@@ -1,0 +1,71 @@
+// Two parts of one length held against each other: equal bytes, and bytes against a pattern.
+use crate::classes::is_alnum;
+use crate::classes::is_digit;
+use crate::classes::is_letter;
+ghost use mathlib.Core.Path.{_≡_};
+ghost use Prim.Native.Nat.{_+_, _≤_};
+ghost use lib.ListN.{length};
+ghost use Rattle.rules.specs.Text.{equal, fits, fitsSign};
+ghost use Rattle.laws.specs.Parts.{cut};
+
+// Are the n bytes from a and the n bytes of t from b equal?
+pub fn equal_parts(s: &[u8], a: usize, t: &[u8], b: usize, n: usize) -> bool
+    requires { ⌜ a + n ≤ length (now s) ⌝ }
+    requires { ⌜ b + n ≤ length (now t) ⌝ }
+    ensures { λ r. ⌜ r ≡ equal (cut (now (s .entry)) a (a + n)) (cut (now (t .entry)) b (b + n)) ⌝ }
+{
+    let mut k = 0;
+    while k < n {
+        let same = s[a + k] == t[b + k];
+        if same {
+            k += 1;
+        } else {
+            return false;
+        }
+    }
+    true
+}
+
+// A byte against the sign of its place: n a digit, a a letter, c a letter or digit, any other sign itself.
+pub fn fits_sign(p: u8, c: u8) -> bool
+    ensures { λ r. ⌜ r ≡ fitsSign p c ⌝ }
+{
+    if p == 110 {
+        return is_digit(c);
+    }
+    if p == 97 {
+        return is_letter(c);
+    }
+    if p == 99 {
+        return is_alnum(c);
+    }
+    p == c
+}
+
+// Do the n bytes from a fit the n signs of p from b?
+pub fn fits_part(p: &[u8], b: usize, s: &[u8], a: usize, n: usize) -> bool
+    requires { ⌜ b + n ≤ length (now p) ⌝ }
+    requires { ⌜ a + n ≤ length (now s) ⌝ }
+    ensures { λ r. ⌜ r ≡ fits (cut (now (p .entry)) b (b + n)) (cut (now (s .entry)) a (a + n)) ⌝ }
+{
+    let mut k = 0;
+    while k < n {
+        if fits_sign(p[b + k], s[a + k]) {
+            k += 1;
+        } else {
+            return false;
+        }
+    }
+    true
+}
+
+// Do the bytes from at on fit the pattern, as many as it has? Not where fewer are left.
+pub fn fits_pattern(p: &[u8], s: &[u8], at: usize) -> bool
+    requires { ⌜ at ≤ length (now s) ⌝ }
+    ensures { λ r. ⌜ r ≡ fits (now (p .entry)) (cut (now (s .entry)) at (at + length (now (p .entry)))) ⌝ }
+{
+    if s.len() - at < p.len() {
+        return false;
+    }
+    fits_part(p, 0, s, at, p.len())
+}

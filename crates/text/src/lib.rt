@@ -1,0 +1,23 @@
+// Bytes and texts: classes of bytes, runs of a class, parts held against each other, numbers.
+mod against;
+mod classes;
+mod numbers;
+
+pub use against::equal_parts;
+pub use against::fits_part;
+pub use against::fits_pattern;
+pub use against::fits_sign;
+pub use classes::Class;
+pub use classes::every_in;
+pub use classes::in_class;
+pub use classes::is_alnum;
+pub use classes::is_digit;
+pub use classes::is_letter;
+pub use classes::is_text;
+pub use classes::run_in;
+pub use numbers::Num;
+pub use numbers::less;
+pub use numbers::read_be;
+pub use numbers::read_digits;
+pub use numbers::wide;
+pub use numbers::with_digit;
