@@ -179,27 +179,38 @@ afterMessage e m = record {
   count = e .count + writes e m;
 }
 
--- 10, "tested before all others", 1 to 8, 11 to 16; room is the output's
-unfoldable pub messageStops : ℕ → Option Engine → List ℕ → List Stop
-messageStops room held s =
-    let e = Option·getD held (opened [] 0) in
+-- "Stopped by the input": 1 to 8, of a message's bytes and the temporary account
+unfoldable pub inputStops : List ℕ → List ℕ → List Stop
+inputStops temporary s =
     let m = read s in
-    stop 10 (not (isSome held))
-    ∷ stop 1 (not (framed s))
+    stop 1 (not (framed s))
     ∷ stop 2 (not (addressed s))
     ∷ stop 3 (not (isSome m))
     ∷ stop 4 (holdsOf (λ m. not (leb (length (detailsOf m)) 16)) m)
     ∷ stop 5 (holdsOf badReference m)
     ∷ stop 6 (holdsOf badAmount m)
-    ∷ stop 7 (holdsOf (badAccount (registerOf (e .register) .temporary)) m)
+    ∷ stop 7 (holdsOf (badAccount temporary) m)
     ∷ stop 8 (holdsOf manyDates m)
-    ∷ stop 11 (holdsOf (misdated (e .day)) m)
+    ∷ []
+
+-- "Stopped by the state": 11 to 16; room is the output's
+unfoldable pub stateStops : ℕ → Engine → Option Message → List Stop
+stateStops room e m =
+    stop 11 (holdsOf (misdated (e .day)) m)
     ∷ stop 12 (holdsOf (λ m. any (sameReference (ownReference m)) (e .references)) m)
     ∷ stop 13 (leb 64 (length (e .references)))
     ∷ stop 14 (holdsOf (noRoom e) m)
     ∷ stop 15 (holdsOf (overLimit e) m)
     ∷ stop 16 (holdsOf (λ m. not (leb (length (messageText e m)) room)) m)
     ∷ []
+
+-- "10, tested before all others"
+unfoldable pub messageStops : ℕ → Option Engine → List ℕ → List Stop
+messageStops room held s =
+    let e = Option·getD held (opened [] 0) in
+    (stop 10 (not (isSome held)) ∷ [])
+    ++ inputStops (registerOf (e .register) .temporary) s
+    ++ stateStops room e (read s)
 
 -- "for a message its position's transferred minus detailed"
 unfoldable pub acceptedMessage : Engine → Message → Answer
