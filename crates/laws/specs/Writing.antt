@@ -1,0 +1,120 @@
+-- What a writer ensures and what a writing loop keeps: the records that their contracts and invariants are made of, and the laws
+-- that join them. A writer asks nothing. It answers the next place and lays its text as far as the output reaches, so that over an
+-- empty output it only measures; and a text that would end beyond every output ends at the furthest place. Assumes nothing.
+use mathlib.Core.Path.{_≡_, refl, sym, ap, _∙_}
+use mathlib.Core.Logic.{_⊎_, inl, inr}
+use mathlib.Core.List.{List, [], _∷_, _++_}
+use Prim.Native.Nat.{ℕ, suc, _+_, _-_, _^_, _≤_, _<_, min}
+use native.Mathlib.Nat.{eq-or-lt-of-le}
+use native.Mathlib.Omega.{arith}
+use native.Mathlib.Numerals.{add-one}
+use lib.ListN.{length, getD, take, drop, set, length-append}
+use lib.Seq.{slice-cons, slice-empty, set-out, take-length}
+use Rattle.laws.specs.Parts.{cut}
+use Rattle.laws.specs.Laid.{laid, laid-append, laid-length, laid-behind}
+
+-- the furthest place: every output is shorter
+abbrev pub furthest : ℕ
+furthest = 2 ^ 63
+
+-- the place n bytes ahead, as far as places go
+unfoldable pub ahead : ℕ → ℕ → ℕ
+ahead at n = at + min n (furthest - at)
+
+-- a text was written at a place: r is the place behind it, and out' the output then
+pub record Wrote (bs : List ℕ) (at : ℕ) (out : List ℕ) (r : ℕ) (out' : List ℕ) : Type 0 where
+  pub cursor : r ≡ ahead at (length bs)
+  pub output : out' ≡ laid bs at out
+  pub short : length out ≤ furthest
+
+-- of a whole text, to be written at a place over start, the rest is left to write at the place o over out
+pub record Left (rest : List ℕ) (o : ℕ) (out whole : List ℕ) (at : ℕ) (start : List ℕ) : Type 0 where
+  pub cursor : ahead o (length rest) ≡ ahead at (length whole)
+  pub output : laid rest o out ≡ laid whole at start
+  pub short : length out ≤ furthest
+
+-- ---- places
+
+pub ahead-none : (at : ℕ) → at ≡ ahead at 0
+unfolding ahead
+ahead-none at = omega arith
+
+pub ahead-ahead : (at n k : ℕ) → ahead (ahead at n) k ≡ ahead at (n + k)
+unfolding ahead
+ahead-ahead at n k = omega arith
+
+-- a place that is not the furthest is exact
+pub ahead-exact : (at n m : ℕ) → ahead at n ≤ m → m < furthest → ahead at n ≡ at + n
+unfolding ahead
+ahead-exact at n m h l = omega arith
+
+-- for what is laid there, a place is exact: the furthest is behind every output
+pub laid-ahead : (bs : List ℕ) (at n : ℕ) (out : List ℕ) → length out ≤ furthest → laid bs (ahead at n) out ≡ laid bs (at + n) out
+unfolding ahead
+laid-ahead bs at n out h = pick (eq-or-lt-of-le (omega arith))
+  where
+    m : ℕ
+    m = at + min n (furthest - at)
+
+    pick : (m ≡ at + n) ⊎ (m < at + n) → laid bs m out ≡ laid bs (at + n) out
+    pick (inl e) = ap (λ (k : ℕ). laid bs k out) e
+    pick (inr l) = laid-behind bs m out (omega arith) ∙ sym (laid-behind bs (at + n) out (omega arith))
+
+-- ---- one byte, and texts one behind the other
+
+pub laid-none : (at : ℕ) (out : List ℕ) → out ≡ laid [] at out
+unfolding laid
+laid-none at out = refl
+
+pub laid-outside : (b at : ℕ) (out : List ℕ) → length out ≤ at → out ≡ laid (b ∷ []) at out
+laid-outside b at out h = sym (laid-behind (b ∷ []) at out h)
+
+pub laid-inside : (b at : ℕ) (out : List ℕ) → set out at b ≡ laid (b ∷ []) at out
+unfolding laid
+laid-inside b at out = refl
+
+pub wrote-length : {bs out out' : List ℕ} {at r : ℕ} → Wrote bs at out r out' → length out' ≡ length out
+wrote-length {bs} {out} {at = at} w = ap length (w .output) ∙ laid-length bs at out
+
+pub wrote-then : {a b out out₁ out₂ : List ℕ} {at m r : ℕ} → Wrote a at out m out₁ → Wrote b m out₁ r out₂ → Wrote (a ++ b) at out r out₂
+wrote-then {a} {b} {out} {at = at} v w = record {
+  cursor = w .cursor ∙ rw (v .cursor, length-append) (ahead-ahead at (length a) (length b));
+  output =
+      w .output ∙ rw (v .cursor, v .output, laid-append)
+      (laid-ahead b at (length a) (laid a at out) (rw laid-length (v .short)));
+  short = v .short;
+}
+
+-- ---- a writing loop
+
+module _ {whole start : List ℕ} {at : ℕ} where
+  pub left-turn : {b rest out out' : List ℕ} {o o' : ℕ} → Left (b ++ rest) o out whole at start → Wrote b o out o' out' → Left rest o' out' whole at start
+  left-turn {b} {rest} {out} {o = o} l w = record {
+    cursor = rw (w .cursor, ahead-ahead, ← length-append) (l .cursor);
+    output =
+        rw (w .cursor, w .output, laid-ahead rest o (length b) (laid b o out) (rw laid-length (w .short)), ← laid-append) (l .output);
+    short = rw (w .output, laid-length) (w .short);
+  }
+
+  pub left-length : {rest out : List ℕ} {o : ℕ} → Left rest o out whole at start → length out ≡ length start
+  left-length {rest} {out} {o} l = sym (laid-length rest o out) ∙ ap length (l .output) ∙ laid-length whole at start
+
+  pub left-none : {out : List ℕ} {o : ℕ} → Left [] o out whole at start → Wrote whole at start o out
+  unfolding laid
+  left-none {out} {o} l = record {
+    cursor = ahead-none o ∙ l .cursor;
+    output = l .output;
+    short = rw (left-length l) at (l .short);
+  }
+
+-- ---- a loop that copies: the bytes of src from index i up to end are left
+
+module _ (src : List ℕ) (i end : ℕ) {whole start out : List ℕ} {at o : ℕ} where
+  pub copy-turn : {o' : ℕ} {out' : List ℕ} → Left (cut src i end) o out whole at start → i < end → end ≤ length src → Wrote (getD src i 0 ∷ []) o out o' out'
+      → Left (cut src (i + 1) end) o' out' whole at start
+  unfolding cut
+  copy-turn l h k w = rw add-one (left-turn {b = getD src i 0 ∷ []} (rw (slice-cons i end src 0 h k) at l) w)
+
+  pub copy-end : Left (cut src i end) o out whole at start → i ≤ end → end ≤ i → Wrote whole at start o out
+  unfolding cut
+  copy-end l h k = let e : i ≡ end = omega arith in left-none (rw (e, slice-empty) at l)
