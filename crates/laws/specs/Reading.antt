@@ -5,12 +5,12 @@ use mathlib.Core.Bool.{Bool, true, false, _&&_, cond}
 use mathlib.Core.List.{List, [], _∷_}
 use mathlib.Core.Option.{Option, none, some}
 use Prim.Native.Nat.{ℕ, zero, suc, _+_, _-_, _*_, _^_, _≤_, _<_, min}
-use native.Mathlib.Nat.{zero-add, add-zero, suc-mul, mul-comm, mul-assoc, pow-zero, pow-suc, pow-le-pow-right, mul-le-mul-right, lt-of-lt-of-le}
+use native.Mathlib.Nat.{zero-add, add-zero, suc-mul, one-mul, mul-comm, mul-assoc, pow-zero, pow-suc, pow-le-pow-right, mul-le-mul-right, lt-of-lt-of-le}
 use native.Mathlib.Omega.{arith}
 use lib.ListN.{length, getD}
 use lib.Dec.{leb, eqb, lit<}
 use borrow.Author.Tests.{le-leb, lt-leb}
-use Rattle.rules.specs.Text.{isDigit, every, run, equal, fits, fitsSign, digitsFrom, numberFrom}
+use Rattle.rules.specs.Text.{isDigit, every, run, equal, fits, fitsSign, digits, digitsFrom, numberFrom}
 use Rattle.laws.specs.Parts.{cut, cut-step, cut-done, cut-length, cut-size, cut-all}
 use Rattle.laws.specs.Tests.{between-low, between-high, cond-right, not-held, held-told}
 
@@ -178,5 +178,8 @@ digits-bound (c ∷ cs) v n h = go (isDigit c) refl (digits-bound cs (v * 10 + (
         let m : suc (v * 10 + (c - 48)) * 10 ^ length cs ≤ suc v * 10 * 10 ^ length cs = mul-le-mul-right (10 ^ length cs) (omega arith) in
         rw (pow-suc, mul-comm (10 ^ length cs) 10, ← mul-assoc (suc v) 10 (10 ^ length cs)) (lt-of-lt-of-le (f (rw d at h)) m)
     go false d f = absurd (let g : _≡_ {A = Option ℕ} none (some n) = rw d at h in let z : _≡_ {A = ℕ} 0 1 = cc in omega arith)
+
+pub digits-below : (cs : List ℕ) (n : ℕ) → digits cs ≡ some n → n < 10 ^ length cs
+digits-below cs n h = let b : n < 1 * 10 ^ length cs = digits-bound cs 0 n h in rw one-mul at b
 
 pub ruleset reading = (held-told, every-more, every-bad, every-end, run-short, run-long, run-each, equal-pairs, fits-pairs, pairs-more, pairs-bad, pairs-end, fits-short, fits-whole, power-start, power-step, power-room, digit-small, digits-more, digits-bad, digits-end, number-more, number-end, add-zero)

@@ -1,10 +1,10 @@
 -- `text::against::equal_parts` meets its contract. The loop's invariant: what is left of both parts is equal where they are. Assumes nothing.
+use mathlib.Core.Path.{_≡_}
+use Prim.Native.Nat.{_≤_, _+_, _-_}
+use lib.Dec.{eqb}
+use borrow.Author.Needs.{needs}
 use Rattle.rules.specs.Text.{equal}
 use Rattle.laws.specs.Parts.{cut}
-use Prim.Native.Nat.{_≤_, _+_, _-_}
-use mathlib.Core.Path.{_≡_}
-use borrow.Author.Needs.{needs}
-use lib.Dec.{eqb}
 use Rattle.laws.specs.Reading.{reading, pairs-more, equal-pairs}
 use Rattle.text.proofs.against.equal_parts.Statement.{statement}
 use Rattle.text.proofs.against.equal_parts.Tie as tie

@@ -1,9 +1,9 @@
 -- `text::against::fits_part` meets its contract. The loop's invariant: what is left fits where the whole does. Assumes nothing.
+use mathlib.Core.Path.{_≡_}
+use Prim.Native.Nat.{_≤_, _+_, _-_}
+use borrow.Author.Needs.{needs}
 use Rattle.rules.specs.Text.{fits, fitsSign}
 use Rattle.laws.specs.Parts.{cut}
-use Prim.Native.Nat.{_≤_, _+_, _-_}
-use mathlib.Core.Path.{_≡_}
-use borrow.Author.Needs.{needs}
 use Rattle.laws.specs.Reading.{reading, pairs-more, fits-pairs}
 use Rattle.text.proofs.against.fits_part.Statement.{statement}
 use Rattle.text.proofs.against.fits_part.Tie as tie

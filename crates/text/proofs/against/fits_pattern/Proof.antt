@@ -1,6 +1,6 @@
 -- `text::against::fits_pattern` meets its contract: too few bytes fit no pattern; else the pattern is a part of itself. Assumes nothing.
-use Rattle.laws.specs.Reading.{reading}
 use borrow.Author.Needs.{needs}
+use Rattle.laws.specs.Reading.{reading}
 use Rattle.text.proofs.against.fits_pattern.Statement.{statement}
 use Rattle.text.proofs.against.fits_pattern.Tie as tie
 

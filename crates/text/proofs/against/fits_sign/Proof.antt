@@ -1,7 +1,7 @@
 -- `text::against::fits_sign` meets its contract: the tests on the sign are those of the definition, in its order. Assumes nothing.
+use borrow.Author.Needs.{needs}
 use Rattle.rules.specs.Text.{fitsSign}
 use Rattle.laws.specs.Tests.{tests}
-use borrow.Author.Needs.{needs}
 use Rattle.text.proofs.against.fits_sign.Statement.{statement}
 use Rattle.text.proofs.against.fits_sign.Tie as tie
 

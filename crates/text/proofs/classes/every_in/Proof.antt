@@ -1,11 +1,11 @@
 -- `text::classes::every_in` meets its contract. The loop's invariant: what is left of the part passes where the whole part does. Assumes nothing.
-use Rattle.text.specs.Answers.{classOf}
-use Rattle.laws.specs.Parts.{cut}
-use Rattle.rules.specs.Text.{every}
-use Prim.Native.Nat.{_≤_, _-_}
 use mathlib.Core.Path.{_≡_}
+use Prim.Native.Nat.{_≤_, _-_}
 use borrow.Author.Needs.{needs}
+use Rattle.rules.specs.Text.{every}
+use Rattle.laws.specs.Parts.{cut}
 use Rattle.laws.specs.Reading.{reading}
+use Rattle.text.specs.Answers.{classOf}
 use Rattle.text.proofs.classes.every_in.Statement.{statement}
 use Rattle.text.proofs.classes.every_in.Tie as tie
 

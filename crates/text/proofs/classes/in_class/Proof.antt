@@ -1,6 +1,6 @@
 -- `text::classes::in_class` meets its contract: each case of the enum has the test that `classOf` gives it. Assumes nothing.
-use Rattle.text.specs.Answers.{class-told}
 use borrow.Author.Needs.{needs}
+use Rattle.text.specs.Answers.{class-told}
 use Rattle.text.proofs.classes.in_class.Statement.{statement}
 use Rattle.text.proofs.classes.in_class.Tie as tie
 

@@ -1,7 +1,7 @@
 -- `text::classes::is_alnum` meets its contract: the two tests are those of the definition, in its order. Assumes nothing.
+use borrow.Author.Needs.{needs}
 use Rattle.rules.specs.Text.{isAlnum}
 use Rattle.laws.specs.Tests.{tests}
-use borrow.Author.Needs.{needs}
 use Rattle.text.proofs.classes.is_alnum.Statement.{statement}
 use Rattle.text.proofs.classes.is_alnum.Tie as tie
 

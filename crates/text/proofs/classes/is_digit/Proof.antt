@@ -1,7 +1,7 @@
 -- `text::classes::is_digit` meets its contract: a digit is a byte of 48 to 57. Assumes nothing.
+use borrow.Author.Needs.{needs}
 use Rattle.rules.specs.Text.{isDigit}
 use Rattle.laws.specs.Tests.{tests}
-use borrow.Author.Needs.{needs}
 use Rattle.text.proofs.classes.is_digit.Statement.{statement}
 use Rattle.text.proofs.classes.is_digit.Tie as tie
 

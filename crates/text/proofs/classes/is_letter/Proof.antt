@@ -1,7 +1,7 @@
 -- `text::classes::is_letter` meets its contract: a letter is a byte of 65 to 90. Assumes nothing.
+use borrow.Author.Needs.{needs}
 use Rattle.rules.specs.Text.{isLetter}
 use Rattle.laws.specs.Tests.{tests}
-use borrow.Author.Needs.{needs}
 use Rattle.text.proofs.classes.is_letter.Statement.{statement}
 use Rattle.text.proofs.classes.is_letter.Tie as tie
 

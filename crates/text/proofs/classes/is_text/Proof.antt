@@ -1,7 +1,7 @@
 -- `text::classes::is_text` meets its contract: the two tests are those of the definition, in its order. Assumes nothing.
+use borrow.Author.Needs.{needs}
 use Rattle.rules.specs.Text.{isText}
 use Rattle.laws.specs.Tests.{tests}
-use borrow.Author.Needs.{needs}
 use Rattle.text.proofs.classes.is_text.Statement.{statement}
 use Rattle.text.proofs.classes.is_text.Tie as tie
 

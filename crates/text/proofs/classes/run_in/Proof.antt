@@ -1,6 +1,6 @@
 -- `text::classes::run_in` meets its contract: too short, too long, or as its bytes are. Assumes nothing.
-use Rattle.laws.specs.Reading.{reading}
 use borrow.Author.Needs.{needs}
+use Rattle.laws.specs.Reading.{reading}
 use Rattle.text.proofs.classes.run_in.Statement.{statement}
 use Rattle.text.proofs.classes.run_in.Tie as tie
 

@@ -1,12 +1,11 @@
 -- `text::numbers::read_digits` meets its contract. The loop's invariant: the number so far, with the digits that are left behind it, is the number of the part,
 -- and it has no more places than bytes were read. Assumes nothing.
-use Rattle.rules.specs.Text.{digits, digitsFrom}
-use Rattle.laws.specs.Reading.{power}
-use Rattle.laws.specs.Parts.{cut}
-use Prim.Native.Nat.{_≤_, _<_, _-_}
 use mathlib.Core.Path.{_≡_}
+use Prim.Native.Nat.{_≤_, _<_, _-_}
 use borrow.Author.Needs.{needs}
-use Rattle.laws.specs.Reading.{reading}
+use Rattle.rules.specs.Text.{digits, digitsFrom}
+use Rattle.laws.specs.Reading.{power, reading}
+use Rattle.laws.specs.Parts.{cut}
 use Rattle.text.proofs.numbers.read_digits.Statement.{statement}
 use Rattle.text.proofs.numbers.read_digits.Tie as tie
 

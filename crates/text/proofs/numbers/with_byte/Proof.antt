@@ -1,7 +1,6 @@
 -- `text::numbers::with_byte` meets its contract: a number of seven bytes leaves room for an eighth. Assumes nothing.
-use Rattle.laws.specs.Reading.{power}
-use Rattle.laws.specs.Reading.{reading}
 use borrow.Author.Needs.{needs}
+use Rattle.laws.specs.Reading.{power, reading}
 use Rattle.text.proofs.numbers.with_byte.Statement.{statement}
 use Rattle.text.proofs.numbers.with_byte.Tie as tie
 

@@ -1,7 +1,6 @@
 -- `text::numbers::with_digit` meets its contract: a number of 17 digits leaves room for one more. Assumes nothing.
-use Rattle.laws.specs.Reading.{power}
-use Rattle.laws.specs.Reading.{reading}
 use borrow.Author.Needs.{needs}
+use Rattle.laws.specs.Reading.{power, reading}
 use Rattle.text.proofs.numbers.with_digit.Statement.{statement}
 use Rattle.text.proofs.numbers.with_digit.Tie as tie
 

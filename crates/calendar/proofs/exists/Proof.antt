@@ -1,0 +1,42 @@
+-- `calendar::exists` meets its contract: year, month and day are held to their bounds in the order of the definition. Assumes nothing.
+use borrow.Author.Needs.{needs}
+use Rattle.calendar.specs.Days.{days}
+use Rattle.calendar.proofs.exists.Statement.{statement}
+use Rattle.calendar.proofs.exists.Tie as tie
+
+cast-month : tie.Need-cast-month
+cast-month c = search (days, needs)
+
+cast-day : tie.Need-cast-day
+cast-day c = search (days, needs)
+
+returns : tie.Need-returns
+returns c = search (days, needs)
+
+returns-2 : tie.Need-returns-2
+returns-2 c = search (days, needs)
+
+returns-3 : tie.Need-returns-3
+returns-3 c = search (days, needs)
+
+month-length-requires : tie.Need-month-length-requires
+month-length-requires c κs = search (days, needs)
+
+returns-4 : tie.Need-returns-4
+returns-4 c = search (days, needs)
+
+returns-5 : tie.Need-returns-5
+returns-5 c = search (days, needs)
+
+pub exists-spec : {M : Type 1} → statement M
+exists-spec =
+    tie.close
+    (tie.spec
+    cast-month
+    cast-day
+    returns
+    returns-2
+    returns-3
+    month-length-requires
+    returns-4
+    returns-5)
