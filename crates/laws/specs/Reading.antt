@@ -166,18 +166,22 @@ module _ (s : List ℕ) (i e v x : ℕ) (inv : numberFrom v (cut s i e) ≡ x) w
   unfolding numberFrom
   number-end h k = left-done (numberFrom v) s i e x inv h k
 
+-- a bound on what is read with one place more is the bound of one power more
+pub place-more : (v d n k : ℕ) → d < 10 → n < suc (v * 10 + d) * 10 ^ k → n < suc v * 10 ^ suc k
+place-more v d n k l b =
+    let m : suc (v * 10 + d) * 10 ^ k ≤ suc v * 10 * 10 ^ k = mul-le-mul-right (10 ^ k) (omega arith) in
+    rw (pow-suc, mul-comm (10 ^ k) 10, ← mul-assoc (suc v) 10 (10 ^ k)) (lt-of-lt-of-le b m)
+
 -- digits are worth less than the power of ten that has as many places
 digits-bound : (cs : List ℕ) (v n : ℕ) → digitsFrom v cs ≡ some n → n < suc v * 10 ^ length cs
 unfolding digitsFrom
 digits-bound [] v n h = let e : v ≡ n = cc in omega arith
-digits-bound (c ∷ cs) v n h = go (isDigit c) refl (digits-bound cs (v * 10 + (c - 48)) n)
+digits-bound (c ∷ cs) v n h = go (isDigit c) refl h (digits-bound cs (v * 10 + (c - 48)) n)
   where
-    go : (t : Bool) → isDigit c ≡ t → (digitsFrom (v * 10 + (c - 48)) cs ≡ some n → n < suc (v * 10 + (c - 48)) * 10 ^ length cs) → n < suc v * 10 ^ suc (length cs)
-    go true d f =
-        let l : c ≤ 57 = digit-high c d in
-        let m : suc (v * 10 + (c - 48)) * 10 ^ length cs ≤ suc v * 10 * 10 ^ length cs = mul-le-mul-right (10 ^ length cs) (omega arith) in
-        rw (pow-suc, mul-comm (10 ^ length cs) 10, ← mul-assoc (suc v) 10 (10 ^ length cs)) (lt-of-lt-of-le (f (rw d at h)) m)
-    go false d f = absurd (let g : _≡_ {A = Option ℕ} none (some n) = rw d at h in let z : _≡_ {A = ℕ} 0 1 = cc in omega arith)
+    go : (t : Bool) → isDigit c ≡ t → cond t (digitsFrom (v * 10 + (c - 48)) cs) none ≡ some n
+        → (digitsFrom (v * 10 + (c - 48)) cs ≡ some n → n < suc (v * 10 + (c - 48)) * 10 ^ length cs) → n < suc v * 10 ^ suc (length cs)
+    go true d g f = place-more v (c - 48) n (length cs) (digit-small c d) (f g)
+    go false d g f = absurd (let z : _≡_ {A = ℕ} 0 1 = cc in omega arith)
 
 pub digits-below : (cs : List ℕ) (n : ℕ) → digits cs ≡ some n → n < 10 ^ length cs
 digits-below cs n h = let b : n < 1 * 10 ^ length cs = digits-bound cs 0 n h in rw one-mul at b
