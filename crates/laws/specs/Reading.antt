@@ -87,7 +87,7 @@ module _ (g : List ℕ → List ℕ → Bool) (p : ℕ → ℕ → Bool) (w : Pa
   pairs-end h l = sym (w .ends) ∙ (rw (cut-done s (a + k) (a + n) (omega arith) (omega arith), cut-done t (b + k) (b + n) (omega arith) (omega arith)) at inv)
 
 -- bytes fit a pattern only where there are as many
-fits-length : (ps cs : List ℕ) → fits ps cs ≡ true → length ps ≡ length cs
+pub fits-length : (ps cs : List ℕ) → fits ps cs ≡ true → length ps ≡ length cs
 unfolding fits
 fits-length [] [] h = refl
 fits-length [] (c ∷ cs) h = absurd (let z : _≡_ {A = ℕ} 0 1 = cc in omega arith)

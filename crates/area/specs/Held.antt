@@ -1,0 +1,153 @@
+-- What an area holds: the area that `encode` gives holds that engine, whatever stands behind it, and an area holds at most one engine. Assumes nothing.
+use mathlib.Core.Path.{_≡_, refl, sym, ap, _∙_}
+use mathlib.Core.Bool.{Bool, true, false, _&&_, not, cond}
+use mathlib.Core.List.{List, [], _∷_, _++_, map, append-assoc, append-nil}
+use mathlib.Core.Option.{Option, none, some}
+use Prim.Native.Nat.{ℕ, zero, suc, _+_, _-_, _*_, _^_, _≤_, _<_}
+use native.Mathlib.Omega.{arith}
+use lib.Dec.{leb, eqb}
+use lib.ListN.{length, take, drop, length-append, take-append-drop}
+use lib.Seq.{take-at, drop-at}
+use borrow.Author.Tests.{leb-true, le-leb}
+use Rattle.rules.specs.Text.{bytes, equal, given}
+use Rattle.rules.specs.Engine.{Position, Reference, Engine, goodPosition, goodPositions, goodReference, goodReferences, within}
+use Rattle.rules.specs.Area.{zeros, padded, joined, referenceRecord, positionRecord, mark, header, encode, numberAt, referenceIn, positionIn, records, decode, holds}
+use Rattle.laws.specs.Tests.{and-left, and-right, cond-right}
+use Rattle.area.specs.Facts.{cond-left, equal-true, equal-same, Gave, gave}
+use Rattle.area.specs.Registers.{register-length}
+use Rattle.area.specs.Limits.{Limits, limits, date-small}
+use Rattle.area.specs.Layout.{Kept, All, All.none, All.more, places-length, zeros-length, padded-length, part-at, number-at, joined-length, records-back, position-kept, reference-kept}
+
+-- ---- the records of an engine within its limits
+
+pub positions-kept : (day : ℕ) (ps : List Position) → goodPositions day ps ≡ true → All (Kept positionRecord positionIn) ps
+unfolding goodPositions
+positions-kept day [] h = none
+positions-kept day (p ∷ ps) h =
+    more (position-kept day p (cond-left (goodPosition day p) (goodPositions day ps) h)) (positions-kept day ps (cond-right (goodPosition day p) (goodPositions day ps) h))
+
+pub references-kept : (rs : List Reference) → goodReferences rs ≡ true → All (Kept referenceRecord referenceIn) rs
+unfolding goodReferences
+references-kept [] h = none
+references-kept (r ∷ rs) h =
+    more (reference-kept r (cond-left (goodReference r) (goodReferences rs) h)) (references-kept rs (cond-right (goodReference r) (goodReferences rs) h))
+
+-- ---- an encoded engine
+
+drop-of : (a p q : List ℕ) (i : ℕ) → length p ≡ i → a ≡ p ++ q → drop i a ≡ q
+drop-of a p q i h e = rw (e, drop-at p q i h)
+
+-- the layout, with any two bytes m for the mark
+image : List ℕ → Engine → List ℕ
+image m e =
+    (m ++ bytes 3 (e .day) ++ bytes 2 (e .count) ++ bytes 1 (length (e .positions)) ++ bytes 1 (length (e .references)) ++ (bytes 1 0 ++ bytes 2 (length (e .register)) ++ bytes 4 0))
+    ++ padded 1536 (joined (map referenceRecord (e .references)))
+    ++ padded 768 (joined (map positionRecord (e .positions)))
+    ++ padded 3824 (e .register)
+
+module _ (e : Engine) (l : Limits e) (m : List ℕ) (two : length m ≡ 2) where
+  R : List ℕ
+  R = joined (map referenceRecord (e .references))
+
+  P : List ℕ
+  P = joined (map positionRecord (e .positions))
+
+  length-R : length R ≤ 1536
+  unfolding R
+  length-R = omega (arith, joined-length referenceRecord referenceIn (references-kept (e .references) (l .forms)), l .today)
+
+  length-P : length P ≤ 768
+  unfolding P
+  length-P = omega (arith, joined-length positionRecord positionIn (positions-kept (e .day) (e .positions) (l .good)), l .few)
+
+  length-G : length (e .register) ≤ 3824
+  length-G = omega (arith, register-length (e .register) (l .register))
+
+  image-length : length (image m e) ≡ 6144
+  unfolding image R P
+  image-length = simp (length-append, places-length, two, padded-length 1536 R length-R, padded-length 768 P length-P, padded-length 3824 (e .register) length-G)
+
+  -- it is read back, whatever stands behind it
+  decode-image : (rest : List ℕ) → decode (image m e ++ rest) ≡ e
+  unfolding decode image padded R P
+  decode-image rest =
+      let a : List ℕ = image m e ++ rest in
+      let D : List ℕ = bytes 3 (e .day) in
+      let C : List ℕ = bytes 2 (e .count) in
+      let N : List ℕ = bytes 1 (length (e .positions)) in
+      let M : List ℕ = bytes 1 (length (e .references)) in
+      let O : List ℕ = bytes 1 0 in
+      let L : List ℕ = bytes 2 (length (e .register)) in
+      let Q : List ℕ = bytes 4 0 in
+      let G : List ℕ = e .register in
+      let u : List ℕ = zeros (1536 - length R) in
+      let v : List ℕ = zeros (768 - length P) in
+      let w : List ℕ = zeros (3824 - length G) ++ rest in
+      let texts : List ℕ = R ++ (u ++ (P ++ (v ++ (G ++ w)))) in
+      let few : length (e .references) ≤ 64 = l .today in
+      let many : length (e .positions) ≤ 32 = l .few in
+      let small : e .count ≤ 32 + 18 * length (e .references) = l .numbered in
+      let short : length G ≤ 1544 = register-length G (l .register) in
+      let day : e .day < 1000000 = date-small (e .day) (l .day) in
+      let sizes : (length R ≤ 1536) × (length P ≤ 768) = (length-R, length-P) in
+      let count-at : numberAt a 5 2 ≡ e .count =
+      number-at a (m ++ D) (N ++ (M ++ (O ++ (L ++ (Q ++ texts))))) 5 2 (e .count) (simp (length-append, places-length, two)) (omega arith) (simp append-assoc) in
+      let positions-at : numberAt a 7 1 ≡ length (e .positions) =
+      number-at a (m ++ D ++ C) (M ++ (O ++ (L ++ (Q ++ texts)))) 7 1 _ (simp (length-append, places-length, two)) (omega arith) (simp append-assoc) in
+      let references-at : numberAt a 8 1 ≡ length (e .references) =
+      number-at a (m ++ D ++ C ++ N) (O ++ (L ++ (Q ++ texts))) 8 1 _ (simp (length-append, places-length, two)) (omega arith) (simp append-assoc) in
+      let length-at : numberAt a 10 2 ≡ length G =
+      number-at a (m ++ D ++ C ++ N ++ M ++ O) (Q ++ texts) 10 2 (length G) (simp (length-append, places-length, two)) (omega arith) (simp append-assoc) in
+      let H : List ℕ = m ++ D ++ C ++ N ++ M ++ O ++ L ++ Q in
+      let from-R : drop 16 a ≡ R ++ (u ++ (P ++ (v ++ (G ++ w)))) = drop-of a H texts 16 (simp (length-append, places-length, two)) (simp append-assoc) in
+      let from-P : drop 1552 a ≡ P ++ (v ++ (G ++ w)) =
+      drop-of a (H ++ R ++ u) (P ++ (v ++ (G ++ w))) 1552 (simp (length-append, places-length, two, zeros-length) (omega arith)) (simp append-assoc) in
+      let from-G : drop 2320 a ≡ G ++ w =
+      drop-of a (H ++ R ++ u ++ P ++ v) (G ++ w) 2320 (simp (length-append, places-length, two, zeros-length) (omega arith)) (simp append-assoc) in
+      let text : take (numberAt a 10 2) (drop 2320 a) ≡ G = rw (length-at, from-G) (take-at G w (length G) refl) in
+      let rs : map referenceIn (records (numberAt a 8 1) (drop 16 a)) ≡ e .references =
+      rw (references-at, from-R) (records-back referenceRecord referenceIn (u ++ (P ++ (v ++ (G ++ w)))) (references-kept (e .references) (l .forms))) in
+      let ps : map positionIn (records (numberAt a 7 1) (drop 1552 a)) ≡ e .positions =
+      rw (positions-at, from-P) (records-back positionRecord positionIn (v ++ (G ++ w)) (positions-kept (e .day) (e .positions) (l .good))) in
+      let at-day : numberAt a 2 3 ≡ e .day =
+      number-at a m (C ++ (N ++ (M ++ (O ++ (L ++ (Q ++ texts)))))) 2 3 (e .day) two (omega arith) (simp append-assoc) in
+      λ i. record { register = text i; day = at-day i; positions = ps i; references = rs i; count = count-at i }
+
+module _ (e : Engine) (h : within e ≡ true) where
+  pub encode-length : length (encode e) ≡ 6144
+  unfolding encode header image
+  encode-length = image-length e (limits e h) mark refl
+
+  pub decode-encode : (rest : List ℕ) → decode (encode e ++ rest) ≡ e
+  unfolding encode header image
+  decode-encode rest = decode-image e (limits e h) mark refl rest
+
+  -- the area that `encode` gives holds that engine
+  pub holds-encode : (rest : List ℕ) → holds (encode e ++ rest) ≡ some e
+  unfolding holds
+  holds-encode rest =
+      let long : leb 6144 (length (encode e ++ rest)) ≡ true = le-leb 6144 (length (encode e ++ rest)) (rw (length-append, encode-length) (omega arith)) in
+      let front : take 6144 (encode e ++ rest) ≡ encode e = take-at (encode e) rest 6144 encode-length in
+      rw (decode-encode rest, long, h, front, equal-same (encode e))
+
+-- an area that holds an engine: it is long enough, the engine is within its limits, and the first 6,144 bytes are the engine's, so that there is but one
+pub record Held (area : List ℕ) (e : Engine) : Type 0 where
+  pub long : 6144 ≤ length area
+  pub good : within e ≡ true
+  pub front : take 6144 area ≡ encode e
+  pub read : decode area ≡ e
+
+pub held : (area : List ℕ) (e : Engine) → holds area ≡ some e → Held area e
+unfolding holds
+held area e h =
+    let g : Gave _ (decode area) e = gave _ _ h in
+    let t : (leb 6144 (length area) && within (decode area)) ≡ true = and-left _ _ (g .test) in record {
+      long = leb-true 6144 (length area) (and-left _ _ t);
+      good = rw (g .is) at (and-right (leb 6144 (length area)) _ t);
+      front = sym (rw (g .is) at (equal-true (encode (decode area)) (take 6144 area) (and-right (leb 6144 (length area) && within (decode area)) _ (g .test))));
+      read = g .is;
+    }
+
+-- such an area is the engine's bytes and what stands behind them
+pub held-parts : (area : List ℕ) (e : Engine) → Held area e → area ≡ encode e ++ drop 6144 area
+held-parts area e a = sym (take-append-drop 6144 area) ∙ ap (λ (l : List ℕ). l ++ drop 6144 area) (a .front)

@@ -1,0 +1,143 @@
+-- The layout of an area, read back: every part of `encode e` stands at its place and says what the engine has. Assumes nothing.
+use mathlib.Core.Path.{_≡_, refl, sym, ap, _∙_}
+use mathlib.Core.Bool.{Bool, true, false, _&&_, not, cond}
+use mathlib.Core.List.{List, [], _∷_, _++_, map, append-assoc, append-nil}
+use Prim.Native.Nat.{ℕ, zero, suc, _+_, _-_, _*_, _/_, _%_, _^_, _≤_, _<_}
+use native.Mathlib.Nat.{zero-add, pow-zero, pow-suc, div-one, div-add-mod', div-div-eq-div-mul, div-eq-of-lt, mul-suc}
+use native.Mathlib.Omega.{arith}
+use lib.Dec.{leb, eqb}
+use lib.ListN.{length, take, drop, replicate, length-append, length-replicate, length-map}
+use lib.Seq.{take-at, drop-at, take-append-le, length-take-le}
+use borrow.Author.Tests.{leb-true, ne-eqb}
+use Rattle.rules.specs.Text.{isText, every, run, places, bytes, numberFrom, number}
+use Rattle.rules.specs.Engine.{Position, Reference, Engine, limit, goodPosition, goodPositions, goodReference, goodReferences, within}
+use Rattle.rules.specs.Area.{zeros, padded, joined, referenceRecord, positionRecord, mark, header, encode, numberAt, untilZero, referenceIn, positionIn, records, decode, holds}
+use Rattle.laws.specs.Tests.{and-left, and-right, cond-right, between-low, between-high}
+use Rattle.area.specs.Facts.{cond-left, never}
+use Rattle.area.specs.Registers.{register-length}
+use Rattle.area.specs.Limits.{Limits, limits, date-small, bank-small}
+
+-- ---- numbers
+
+pub places-length : (base null k v : ℕ) → length (places base null k v) ≡ k
+unfolding places
+places-length base null zero v = refl
+places-length base null (suc k) v = ap suc (places-length base null k v)
+
+bytes-back : (k v : ℕ) → numberFrom (v / 256 ^ k) (bytes k v) ≡ v
+unfolding places numberFrom
+bytes-back zero v = rw (pow-zero, div-one)
+bytes-back (suc k) v =
+    let e : v / 256 ^ suc k * 256 + (0 + v / 256 ^ k % 256) ≡ v / 256 ^ k =
+    rw (pow-suc, ← div-div-eq-div-mul, zero-add) (div-add-mod' (v / 256 ^ k) 256) in
+    ap (λ (n : ℕ). numberFrom n (bytes k v)) e ∙ bytes-back k v
+
+-- the number of its bytes is the number
+pub number-bytes : (k v : ℕ) → v < 256 ^ k → number (bytes k v) ≡ v
+number-bytes k v h = ap (λ (n : ℕ). numberFrom n (bytes k v)) (sym (div-eq-of-lt h)) ∙ bytes-back k v
+
+-- ---- parts
+
+pub zeros-length : (n : ℕ) → length (zeros n) ≡ n
+unfolding zeros
+zeros-length n = length-replicate n 0
+
+pub padded-length : (n : ℕ) (cs : List ℕ) → length cs ≤ n → length (padded n cs) ≡ n
+unfolding padded
+padded-length n cs h = rw (length-append, zeros-length) (omega arith)
+
+-- a part of w bytes behind i bytes
+pub part-at : (a p x q : List ℕ) (i w : ℕ) → length p ≡ i → length x ≡ w → a ≡ p ++ (x ++ q) → take w (drop i a) ≡ x
+part-at a p x q i w h k e = rw (e, drop-at p (x ++ q) i h, take-at x q w k)
+
+pub number-at : (a p q : List ℕ) (i w v : ℕ) → length p ≡ i → v < 256 ^ w → a ≡ p ++ (bytes w v ++ q) → numberAt a i w ≡ v
+number-at a p q i w v h k e = ap number (part-at a p (bytes w v) q i w h (places-length 256 0 w v) e) ∙ number-bytes w v k
+
+-- ---- records
+
+-- x is written in 24 bytes and read back
+pub record Kept {A : Type 0} (write : A → List ℕ) (reads : List ℕ → A) (x : A) : Type 0 where
+  pub wide : length (write x) ≡ 24
+  pub back : reads (write x) ≡ x
+
+pub data All {A : Type 0} (P : A → Type 0) : List A → Type 0 where
+  none : All P []
+  more : {x : A} {xs : List A} → P x → All P xs → All P (x ∷ xs)
+
+module _ {A : Type 0} (write : A → List ℕ) (reads : List ℕ → A) where
+  pub joined-length : {xs : List A} → All (Kept write reads) xs → length (joined (map write xs)) ≡ 24 * length xs
+  unfolding joined
+  joined-length none = refl
+  joined-length (more {x} {xs} k s) = length-append (write x) (joined (map write xs)) ∙ omega (arith, k .wide, joined-length s)
+
+  -- records one behind the other, and what stands behind them
+  pub records-back : {xs : List A} (z : List ℕ) → All (Kept write reads) xs → map reads (records (length xs) (joined (map write xs) ++ z)) ≡ xs
+  unfolding joined records
+  records-back z none = refl
+  records-back z (more {x} {xs} k s) =
+      rw (append-assoc, take-at (write x) (joined (map write xs) ++ z) 24 (k .wide), drop-at (write x) (joined (map write xs) ++ z) 24 (k .wide), k .back, records-back z s)
+
+-- ---- a position's record, and a reference's
+
+pub position-kept : (day : ℕ) (p : Position) → goodPosition day p ≡ true → Kept positionRecord positionIn p
+unfolding goodPosition positionRecord positionIn
+position-kept day p h =
+    let a : List ℕ = positionRecord p in
+    let B : List ℕ = bytes 8 (p .bank) in
+    let D : List ℕ = bytes 3 (p .date) in
+    let S : List ℕ = bytes 6 (p .transferred) in
+    let T : List ℕ = bytes 6 (p .detailed) in
+    let Z : List ℕ = bytes 1 0 in
+    let b : p .bank ≤ 18446744073709551615 = bank-small _ (search (and-left, and-right)) in
+    let d : p .date < 1000000 = date-small _ (search (and-left, and-right)) in
+    let s : p .transferred ≤ limit = leb-true _ _ (search (and-left, and-right)) in
+    let t : p .detailed ≤ limit = leb-true _ _ (search (and-left, and-right)) in
+    let lB : length B ≡ 8 = places-length 256 0 8 _ in
+    let lD : length D ≡ 3 = places-length 256 0 3 _ in
+    let lS : length S ≡ 6 = places-length 256 0 6 _ in
+    record {
+      wide = simp (length-append, places-length);
+      back = λ i. record {
+        bank = number-at a [] (D ++ (S ++ (T ++ Z))) 0 8 (p .bank) refl (omega arith) (simp append-assoc) i;
+        date = number-at a B (S ++ (T ++ Z)) 8 3 (p .date) lB (omega arith) (simp append-assoc) i;
+        transferred = number-at a (B ++ D) (T ++ Z) 11 6 (p .transferred) (simp (length-append, lB, lD)) (omega arith) (simp append-assoc) i;
+        detailed = number-at a (B ++ D ++ S) Z 17 6 (p .detailed) (simp (length-append, lB, lD, lS)) (omega arith) (simp append-assoc) i;
+      };
+    }
+
+text-byte : (c : ℕ) → isText c ≡ true → eqb c 0 ≡ false
+unfolding isText
+text-byte c h = let l : 32 ≤ c = between-low 32 255 c (and-left _ _ h) in ne-eqb c 0 (λ e. omega arith)
+
+until-zeros : (n : ℕ) → untilZero (zeros n) ≡ []
+unfolding untilZero zeros
+until-zeros zero = refl
+until-zeros (suc n) = refl
+
+until-zero : (cs : List ℕ) (n : ℕ) → every isText cs ≡ true → untilZero (cs ++ zeros n) ≡ cs
+unfolding untilZero every
+until-zero [] n h = until-zeros n
+until-zero (c ∷ cs) n h =
+    rw (text-byte c (cond-left (isText c) (every isText cs) h), until-zero cs n (cond-right (isText c) (every isText cs) h))
+
+until-padded : (n : ℕ) (cs : List ℕ) → every isText cs ≡ true → untilZero (padded n cs) ≡ cs
+unfolding padded
+until-padded n cs h = until-zero cs (n - length cs) h
+
+pub reference-kept : (r : Reference) → goodReference r ≡ true → Kept referenceRecord referenceIn r
+unfolding goodReference referenceRecord referenceIn run
+reference-kept r h =
+    let a : List ℕ = referenceRecord r in
+    let B : List ℕ = bytes 8 (r .sender) in
+    let b : r .sender ≤ 18446744073709551615 = bank-small _ (search (and-left, and-right)) in
+    let l : length (r .text) ≤ 16 = between-high 1 16 _ (search (and-left, and-right)) in
+    let t : every isText (r .text) ≡ true = search (and-left, and-right) in
+    let w : length (padded 16 (r .text)) ≡ 16 = padded-length 16 (r .text) l in
+    let lB : length B ≡ 8 = places-length 256 0 8 _ in
+    record {
+      wide = simp (length-append, places-length, w);
+      back = λ i. record {
+        sender = number-at a [] _ 0 8 (r .sender) refl (omega arith) refl i;
+        text = (ap untilZero (part-at a B (padded 16 (r .text)) [] 8 16 lB w (simp append-nil)) ∙ until-padded 16 (r .text) t) i;
+      };
+    }

@@ -1,0 +1,5 @@
+pub mod Facts
+pub mod Registers
+pub mod Limits
+pub mod Layout
+pub mod Held

@@ -1,0 +1,55 @@
+-- An engine within its limits (10): the limits one by one, and that its numbers fit the bytes of the layout. Assumes nothing.
+use mathlib.Core.Path.{_≡_, refl, sym, ap, _∙_}
+use mathlib.Core.Bool.{Bool, true, false, _&&_, not, cond}
+use mathlib.Core.List.{List, [], _∷_}
+use Prim.Native.Nat.{ℕ, _+_, _*_, _/_, _≤_, _<_}
+use native.Mathlib.Omega.{arith}
+use lib.Dec.{leb}
+use lib.ListN.{length}
+use borrow.Author.Tests.{leb-true, le-leb, not-true}
+use Rattle.rules.specs.Text.{isSome, twice}
+use Rattle.rules.specs.Dates.{exists}
+use Rattle.rules.specs.Register.{register}
+use Rattle.rules.specs.Engine.{Position, Reference, Engine, isBank, goodPositions, ordered, goodReferences, sameReference, within}
+use Rattle.laws.specs.Tests.{and-left, and-right}
+use Rattle.area.specs.Facts.{and-both}
+
+-- "within the limits above"
+pub record Limits (e : Engine) : Type 0 where
+  pub register : isSome (register (e .register)) ≡ true
+  pub day : exists (e .day) ≡ true
+  pub few : length (e .positions) ≤ 32
+  pub good : goodPositions (e .day) (e .positions) ≡ true
+  pub order : ordered (e .positions) ≡ true
+  pub today : length (e .references) ≤ 64
+  pub forms : goodReferences (e .references) ≡ true
+  pub distinct : twice sameReference (e .references) ≡ false
+  pub numbered : e .count ≤ 32 + 18 * length (e .references)
+
+pub limits : (e : Engine) → within e ≡ true → Limits e
+unfolding within
+limits e h = record {
+  register = search (and-left, and-right) depth 10;
+  day = search (and-left, and-right) depth 10;
+  few = leb-true _ _ (search (and-left, and-right) depth 10);
+  good = search (and-left, and-right) depth 10;
+  order = search (and-left, and-right) depth 10;
+  today = leb-true _ _ (search (and-left, and-right) depth 10);
+  forms = search (and-left, and-right) depth 10;
+  distinct = not-true _ (search (and-left, and-right) depth 10);
+  numbered = leb-true _ _ (search (and-left, and-right) depth 10);
+}
+
+pub limits-within : (e : Engine) → Limits e → within e ≡ true
+unfolding within
+limits-within e l = rw (l .register, l .day, le-leb _ _ (l .few), l .good, l .order, le-leb _ _ (l .today), l .forms, l .distinct, le-leb _ _ (l .numbered))
+
+-- an existing date has at most six digits
+pub date-small : (n : ℕ) → exists n ≡ true → n < 1000000
+unfolding exists
+date-small n h = let y : n / 10000 ≤ 99 = leb-true _ 99 (and-left _ _ (and-left _ _ h)) in omega arith
+
+-- a bank fits eight bytes
+pub bank-small : (n : ℕ) → isBank n ≡ true → n ≤ 18446744073709551615
+unfolding isBank
+bank-small n h = leb-true _ _ (and-left _ _ h)
