@@ -4,14 +4,16 @@
 use mathlib.Core.Path.{_≡_, refl, sym, ap, _∙_}
 use mathlib.Core.Logic.{_⊎_, inl, inr}
 use mathlib.Core.List.{List, [], _∷_, _++_}
-use Prim.Native.Nat.{ℕ, suc, _+_, _-_, _^_, _≤_, _<_, min}
+use Prim.Native.Nat.{ℕ, zero, suc, _+_, _-_, _^_, _≤_, _<_, min}
 use native.Mathlib.Nat.{eq-or-lt-of-le}
 use native.Mathlib.Omega.{arith}
 use native.Mathlib.Numerals.{add-one}
-use lib.ListN.{length, getD, take, drop, set, length-append}
-use lib.Seq.{slice-cons, slice-empty, set-out, take-length}
+use lib.ListN.{length, getD, set, length-append}
+use lib.Seq.{slice-cons, slice-empty}
+use Rattle.rules.specs.Text.{over}
+use Rattle.rules.specs.Area.{zeros}
 use Rattle.laws.specs.Parts.{cut}
-use Rattle.laws.specs.Laid.{laid, laid-append, laid-length, laid-behind}
+use Rattle.laws.specs.Laid.{laid, laid-append, laid-length, laid-behind, over-laid}
 
 -- the furthest place: every output is shorter
 abbrev pub furthest : ℕ
@@ -85,6 +87,20 @@ wrote-then {a} {b} {out} {at = at} v w = record {
   short = v .short;
 }
 
+-- a text was written from the first place on, perhaps over nothing: against a room of m bytes its end tells its length
+module _ {text out out' : List ℕ} {r : ℕ} (w : Wrote text 0 out r out') (m : ℕ) where
+  pub measured-long : m < r → m < length text
+  unfolding ahead
+  measured-long h = omega (arith, w .cursor)
+
+  pub measured-fits : r ≤ m → m < furthest → r ≡ length text
+  unfolding ahead
+  measured-fits h l = omega (arith, w .cursor)
+
+-- where it fits, the output is the text and what stood behind it
+pub wrote-over : {text out out' : List ℕ} {r : ℕ} → Wrote text 0 out r out' → length text ≤ length out → out' ≡ over text out
+wrote-over {text} {out} w h = w .output ∙ sym (over-laid text out h)
+
 -- ---- a writing loop
 
 module _ {whole start : List ℕ} {at : ℕ} where
@@ -118,3 +134,18 @@ module _ (src : List ℕ) (i end : ℕ) {whole start out : List ℕ} {at o : ℕ
   pub copy-end : Left (cut src i end) o out whole at start → i ≤ end → end ≤ i → Wrote whole at start o out
   unfolding cut
   copy-end l h k = let e : i ≡ end = omega arith in left-none (rw (e, slice-empty) at l)
+
+-- ---- a loop that writes zeros: k of them are left
+
+zeros-front : (k : ℕ) → 0 < k → zeros k ≡ (0 ∷ []) ++ zeros (k - 1)
+unfolding zeros
+zeros-front zero h = absurd (omega arith)
+zeros-front (suc k) h = let e : suc k - 1 ≡ k = omega arith in rw e
+
+module _ (k : ℕ) {whole start out : List ℕ} {at o : ℕ} where
+  pub zeros-turn : {o' : ℕ} {out' : List ℕ} → Left (zeros k) o out whole at start → 0 < k → Wrote (0 ∷ []) o out o' out' → Left (zeros (k - 1)) o' out' whole at start
+  zeros-turn l h w = left-turn {b = 0 ∷ []} (rw (zeros-front k h) at l) w
+
+  pub zeros-end : Left (zeros k) o out whole at start → k ≤ 0 → Wrote whole at start o out
+  unfolding zeros
+  zeros-end l h = let e : k ≡ 0 = omega arith in left-none (rw e at l)

@@ -1,0 +1,125 @@
+-- What was written as a number is read as that number, and what was read is written as it stood: one law each over the base, and
+-- its two uses, digits and big-endian bytes. Assumes nothing.
+use mathlib.Core.Path.{_≡_, refl, sym, ap, _∙_}
+use mathlib.Core.Bool.{Bool, true, false}
+use mathlib.Core.List.{List, [], _∷_}
+use mathlib.Core.Option.{Option, none, some}
+use Prim.Native.Nat.{ℕ, zero, suc, _+_, _-_, _*_, _/_, _%_, _^_, _≤_, _<_}
+use native.Mathlib.Nat.{pow-zero, pow-suc, pow-succ', mul-assoc, add-mul, mul-one, one-le-pow, mod-one, mod-lt, mod-eq-of-lt, add-assoc, suc-mul, mul-le-mul-right, lt-of-lt-of-le, div-one, div-div-eq-div-mul, add-sub-cancel-left}
+use native.Mathlib.Omega.{arith}
+use lib.Arith.{mod-mul, digits-div, digits-mod}
+use lib.Dec.{lit<}
+use lib.ListN.{length, getD}
+use borrow.Author.Tests.{le-leb}
+use Rattle.rules.specs.Text.{isDigit, places, width, fixed, bytes, decimal, digits, digitsFrom, number, numberFrom}
+use Rattle.laws.specs.Digits.{width-power}
+use Rattle.laws.specs.Reading.{digit-low, digit-high}
+
+-- the number v and then some places behind it, to a base
+unfoldable valueFrom : ℕ → ℕ → ℕ → List ℕ → ℕ
+valueFrom base null v [] = v
+valueFrom base null v (c ∷ cs) = valueFrom base null (v * base + (c - null)) cs
+
+-- each byte is a place to the base
+pub data Within (base null : ℕ) : List ℕ → Type 0 where
+  no-place : Within base null []
+  and-place : {c : ℕ} {cs : List ℕ} → null ≤ c → c - null < base → Within base null cs → Within base null (c ∷ cs)
+
+-- ---- written, then read
+
+value-places : (base null v k x : ℕ) → 0 < base → valueFrom base null v (places base null k x) ≡ v * base ^ k + x % base ^ k
+unfolding valueFrom places
+value-places base null v zero x h = rw (pow-zero, mul-one, mod-one) (omega arith)
+value-places base null v (suc k) x h =
+    let d : ℕ = x / base ^ k % base in
+    let e : null + d - null ≡ d = add-sub-cancel-left null d in
+    ap (λ (n : ℕ). valueFrom base null (v * base + n) (places base null k x)) e
+    ∙ value-places base null (v * base + d) k x h
+    ∙ rw (add-mul, mul-assoc, ← (pow-succ' base k), add-assoc)
+    (ap (λ (n : ℕ). v * base ^ suc k + n) (sym (ap (λ (n : ℕ). x % n) (pow-succ' base k) ∙ mod-mul x h (one-le-pow k base h))))
+
+pub places-within : (base null k x : ℕ) → 0 < base → Within base null (places base null k x)
+unfolding places
+places-within base null zero x h = no-place
+places-within base null (suc k) x h =
+    let d : ℕ = x / base ^ k % base in
+    let e : null + d - null ≡ d = add-sub-cancel-left null d in
+    and-place {c = null + d} (omega arith) (rw e (mod-lt (x / base ^ k) h)) (places-within base null k x h)
+
+-- ---- read, then written
+
+-- the places in front of the last ones are those of v
+value-front : {base null : ℕ} {cs : List ℕ} (v : ℕ) → Within base null cs → valueFrom base null v cs / base ^ length cs ≡ v
+unfolding valueFrom
+value-front {base} v no-place = rw (pow-zero, div-one)
+value-front {base} {null} v (and-place {c} {cs} h l s) =
+    ap (λ (n : ℕ). valueFrom base null (v * base + (c - null)) cs / n) (pow-suc base (length cs))
+    ∙ sym (div-div-eq-div-mul (valueFrom base null (v * base + (c - null)) cs) (base ^ length cs) base)
+    ∙ ap (λ (n : ℕ). n / base) (value-front (v * base + (c - null)) s)
+    ∙ digits-div v l
+
+places-value : {base null : ℕ} {cs : List ℕ} (v : ℕ) → Within base null cs → places base null (length cs) (valueFrom base null v cs) ≡ cs
+unfolding valueFrom places
+places-value v no-place = refl
+places-value {base} {null} v (and-place {c} {cs} h l s) =
+    let w : ℕ = v * base + (c - null) in
+    let e : null + valueFrom base null w cs / base ^ length cs % base ≡ c =
+    ap (λ (n : ℕ). null + n % base) (value-front w s) ∙ ap (λ (n : ℕ). null + n) (digits-mod v l) ∙ omega arith in
+    ap (λ (x : ℕ). x ∷ places base null (length cs) (valueFrom base null w cs)) e ∙ ap (λ (xs : List ℕ). c ∷ xs) (places-value w s)
+
+value-small : {base null : ℕ} {cs : List ℕ} (v : ℕ) → Within base null cs → valueFrom base null v cs < suc v * base ^ length cs
+unfolding valueFrom
+value-small v no-place = rw (pow-zero, mul-one) (omega arith)
+value-small {base} {null} v (and-place {c} {cs} h l s) =
+    let w : ℕ = v * base + (c - null) in
+    let m : suc w * base ^ length cs ≤ suc v * base * base ^ length cs = mul-le-mul-right (base ^ length cs) (omega (arith, suc-mul v base)) in
+    rw (pow-succ', ← mul-assoc (suc v) base (base ^ length cs)) (lt-of-lt-of-le (value-small w s) m)
+
+-- ---- big-endian bytes
+
+number-value : (v : ℕ) (bs : List ℕ) → numberFrom v bs ≡ valueFrom 256 0 v bs
+unfolding numberFrom valueFrom
+number-value v [] = refl
+number-value v (b ∷ bs) = let e : b - 0 ≡ b = omega arith in rw e (number-value (v * 256 + b) bs)
+
+pub bytes-within : (bs : List ℕ) → ((i : ℕ) → getD bs i 0 < 256) → Within 256 0 bs
+bytes-within [] h = no-place
+bytes-within (b ∷ bs) h = and-place {c = b} (omega arith) (omega (arith, h 0)) (bytes-within bs (λ i. h (suc i)))
+
+pub number-bytes : (k v : ℕ) → v < 256 ^ k → number (bytes k v) ≡ v
+number-bytes k v h = number-value 0 (bytes k v) ∙ value-places 256 0 0 k v (lit< tt) ∙ rw (mod-eq-of-lt h) (omega arith)
+
+pub bytes-number : {bs : List ℕ} → Within 256 0 bs → bytes (length bs) (number bs) ≡ bs
+bytes-number {bs} s = ap (bytes (length bs)) (number-value 0 bs) ∙ places-value 0 s
+
+pub number-small : {bs : List ℕ} → Within 256 0 bs → number bs < 256 ^ length bs
+number-small {bs} s = let l : valueFrom 256 0 0 bs < 1 * 256 ^ length bs = value-small 0 s in rw number-value (omega arith)
+
+-- ---- digits
+
+digits-value : {cs : List ℕ} (v : ℕ) → Within 10 48 cs → digitsFrom v cs ≡ some (valueFrom 10 48 v cs)
+unfolding digitsFrom valueFrom isDigit
+digits-value v no-place = refl
+digits-value v (and-place {c} {cs} h l s) = rw (le-leb 48 c h, le-leb c 57 (omega arith)) (digits-value (v * 10 + (c - 48)) s)
+
+pub digits-within : (cs : List ℕ) (v n : ℕ) → digitsFrom v cs ≡ some n → Within 10 48 cs
+unfolding digitsFrom
+digits-within [] v n h = no-place
+digits-within (c ∷ cs) v n h = go (isDigit c) refl (digits-within cs (v * 10 + (c - 48)) n)
+  where
+    go : (t : Bool) → isDigit c ≡ t → (digitsFrom (v * 10 + (c - 48)) cs ≡ some n → Within 10 48 cs) → Within 10 48 (c ∷ cs)
+    go true e f = and-place (digit-low c e) (omega (arith, digit-high c e)) (f (rw e at h))
+    go false e f = absurd (let g : _≡_ {A = Option ℕ} none (some n) = rw e at h in let z : _≡_ {A = ℕ} 0 1 = cc in omega arith)
+
+pub digits-fixed : (k v : ℕ) → v < 10 ^ k → digits (fixed k v) ≡ some v
+digits-fixed k v h =
+    digits-value 0 (places-within 10 48 k v (lit< tt)) ∙ ap {A = ℕ} some (value-places 10 48 0 k v (lit< tt) ∙ rw (mod-eq-of-lt h) (omega arith))
+
+pub digits-decimal : (v : ℕ) → v < 10 ^ 20 → digits (decimal v) ≡ some v
+digits-decimal v h = digits-fixed (width 19 v) v (width-power 19 v h)
+
+pub fixed-digits : (cs : List ℕ) (v : ℕ) → digits cs ≡ some v → fixed (length cs) v ≡ cs
+fixed-digits cs v h =
+    let s : Within 10 48 cs = digits-within cs 0 v h in
+    let e : some v ≡ some (valueFrom 10 48 0 cs) = sym h ∙ digits-value 0 s in
+    let f : v ≡ valueFrom 10 48 0 cs = cc in rw f (places-value 0 s)

@@ -1,0 +1,20 @@
+-- A decimal number is as many digits as were counted. Assumes nothing.
+use borrow.Author.Needs.{needs}
+use Rattle.laws.specs.Sets.{writing}
+use Rattle.put.proofs.put_decimal.Statement.{statement}
+use Rattle.put.proofs.put_decimal.Tie as tie
+
+width-of-requires : tie.Need-width-of-requires
+width-of-requires c κs = search (writing, needs)
+
+put-fixed-requires : tie.Need-put-fixed-requires
+put-fixed-requires c κs = search (writing, needs)
+
+same-length : tie.Need-same-length
+same-length c = search (writing, needs)
+
+returns : tie.Need-returns
+returns c = search (writing, needs)
+
+pub put-decimal-spec : {M : Type 1} → statement M
+put-decimal-spec = tie.close (tie.spec width-of-requires put-fixed-requires same-length returns)
