@@ -1,0 +1,6 @@
+pub mod Answers
+pub mod Minus
+pub mod Stops
+pub mod Opening
+pub mod Message
+pub mod Turn

@@ -1,0 +1,46 @@
+-- Opening, one law for each way out of the call.
+use mathlib.Core.Path.{_≡_, refl, sym, ap, _∙_}
+use mathlib.Core.Bool.{Bool, true, false, cond, not}
+use mathlib.Core.List.{List, [], _++_}
+use mathlib.Core.Option.{Option, none, some}
+use Prim.Native.Nat.{ℕ, _≤_, _<_}
+use borrow.Author.Tests.{le-leb, lt-leb}
+use lib.Dec.{leb, eqb}
+use lib.IntN.{ℤ, pos}
+use lib.ListN.{length, drop}
+use Rattle.rules.specs.Text.{isSome, over}
+use Rattle.rules.specs.Dates.{exists}
+use Rattle.rules.specs.Register.{register}
+use Rattle.rules.specs.Engine.{Engine}
+use Rattle.rules.specs.Calls.{firstOf, openStops, opened, openCall, refused}
+use Rattle.rules.specs.Area.{cardOpen, onAreas, stored, encode, holds}
+use Rattle.card.specs.Answers.{Answers}
+
+-- the text, the day and the area
+module _ (text : List ℕ) (day : ℕ) (area : List ℕ) where
+  refusal : (k : ℕ) → firstOf (openStops (length area) text day) ≡ k → eqb k 0 ≡ false → Answers (cardOpen text day area) k 0 (pos 0) area []
+  unfolding cardOpen openCall onAreas
+  refusal k e n = record { number = rw (e, n, n) refl; written = rw (e, n, n) refl; difference = rw (e, n, n) refl; area = rw (e, n, n) refl; output = rw (e, n, n) refl }
+
+  pub open-short : length area < 6144 → Answers (cardOpen text day area) 10 0 (pos 0) area []
+  unfolding firstOf openStops
+  open-short h = refusal 10 (rw (lt-leb _ _ h) refl) refl
+
+  pub open-day : 6144 ≤ length area → exists day ≡ false → Answers (cardOpen text day area) 3 0 (pos 0) area []
+  unfolding firstOf openStops
+  open-day h d = refusal 3 (rw (le-leb _ _ h, d) refl) refl
+
+  pub open-register : 6144 ≤ length area → exists day ≡ true → isSome (register text) ≡ false → Answers (cardOpen text day area) 9 0 (pos 0) area []
+  unfolding firstOf openStops
+  open-register h d r = refusal 9 (rw (le-leb _ _ h, d, r) refl) refl
+
+  pub open-accepted : {area' : List ℕ} → 6144 ≤ length area → exists day ≡ true → isSome (register text) ≡ true → area' ≡ encode (opened text day) ++ drop 6144 area
+      → Answers (cardOpen text day area) 0 0 (pos 0) area' []
+  unfolding firstOf openStops cardOpen openCall onAreas stored over
+  open-accepted {area'} h d r a = record {
+    number = rw (le-leb _ _ h, d, r) refl;
+    written = rw (le-leb _ _ h, d, r) refl;
+    difference = rw (le-leb _ _ h, d, r) refl;
+    area = rw (le-leb _ _ h, d, r) a;
+    output = rw (le-leb _ _ h, d, r) refl;
+  }

@@ -1,0 +1,62 @@
+#include "commands.h"
+
+#include <string.h>
+
+#define LONGEST 8192
+
+/* Six digits as a number. */
+static int six_digits(const uint8_t *s, uint32_t *day) {
+  *day = 0;
+  for (int i = 0; i < 6; i++) {
+    if (s[i] < '0' || s[i] > '9') return 0;
+    *day = *day * 10 + (uint32_t)(s[i] - '0');
+  }
+  return 1;
+}
+
+/* One or more digits that are a length. */
+static int length_of(const uint8_t *s, size_t n, size_t *length) {
+  if (n == 0) return 0;
+  *length = 0;
+  for (size_t i = 0; i < n; i++) {
+    if (s[i] < '0' || s[i] > '9') return 0;
+    *length = *length * 10 + (size_t)(s[i] - '0');
+    if (*length > LONGEST) return 0;
+  }
+  return 1;
+}
+
+/* The length of the command line at `s`, without its CR LF. */
+static int line_length(const uint8_t *s, size_t size, size_t *n) {
+  for (size_t i = 0; i + 1 < size; i++) {
+    if (s[i] == '\n') return 0;
+    if (s[i] == '\r') {
+      *n = i;
+      return s[i + 1] == '\n';
+    }
+  }
+  return 0;
+}
+
+int next_command(const uint8_t *input, size_t size, size_t *at, struct command *command) {
+  const uint8_t *s = input + *at;
+  size_t left = size - *at, n, length = 0;
+  if (!line_length(s, left, &n)) return 0;
+  if (n >= 2 && memcmp(s, "T,", 2) == 0) {
+    if (n != 8 || !six_digits(s + 2, &command->day)) return 0;
+    command->kind = COMMAND_TURN;
+  } else if (n >= 2 && memcmp(s, "M,", 2) == 0) {
+    if (!length_of(s + 2, n - 2, &length)) return 0;
+    command->kind = COMMAND_MESSAGE;
+  } else if (n >= 9 && memcmp(s, "O,", 2) == 0 && s[8] == ',') {
+    if (!six_digits(s + 2, &command->day) || !length_of(s + 9, n - 9, &length)) return 0;
+    command->kind = COMMAND_OPEN;
+  } else {
+    return 0;
+  }
+  if (length > left - n - 2) return 0;
+  command->text = s + n + 2;
+  command->length = length;
+  *at += n + 2 + length;
+  return 1;
+}

@@ -1,0 +1,20 @@
+/* The input of the replay program: commands one behind the other. */
+#ifndef COMMANDS_H
+#define COMMANDS_H
+
+#include <stddef.h>
+#include <stdint.h>
+
+enum kind { COMMAND_OPEN, COMMAND_MESSAGE, COMMAND_TURN };
+
+struct command {
+  enum kind kind;
+  uint32_t day;        /* of an opening or a turn */
+  const uint8_t *text; /* the register or the message */
+  size_t length;
+};
+
+/* The command at `*at`, behind which `*at` then stands; 0 where the input is outside the form. */
+int next_command(const uint8_t *input, size_t size, size_t *at, struct command *command);
+
+#endif
