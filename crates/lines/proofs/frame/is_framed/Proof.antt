@@ -1,0 +1,34 @@
+-- `lines::frame::is_framed` meets its contract: the tests are those of the definition, in its order. Assumes nothing.
+use Rattle.lines.specs.Laws.{framing}
+use borrow.Author.Needs.{needs}
+use Rattle.lines.proofs.frame.is_framed.Statement.{statement}
+use Rattle.lines.proofs.frame.is_framed.Tie as tie
+
+returns : tie.Need-returns
+returns c = search (framing, needs)
+
+in-lines-requires : tie.Need-in-lines-requires
+in-lines-requires c κs = search (framing, needs)
+
+slice-aggregate-fits-pattern : tie.Need-slice-aggregate-fits-pattern
+slice-aggregate-fits-pattern c = search (framing, needs)
+
+fits-pattern-requires : tie.Need-fits-pattern-requires
+fits-pattern-requires c κs = search (framing, needs)
+
+returns-2 : tie.Need-returns-2
+returns-2 c = search (framing, needs)
+
+returns-3 : tie.Need-returns-3
+returns-3 c = search (framing, needs)
+
+pub is-framed-spec : {M : Type 1} → statement M
+is-framed-spec =
+    tie.close
+    (tie.spec
+    returns
+    in-lines-requires
+    slice-aggregate-fits-pattern
+    fits-pattern-requires
+    returns-2
+    returns-3)

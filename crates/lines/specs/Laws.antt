@@ -1,0 +1,224 @@
+-- Lines taken off a text one by one: a law for each way out of the loop to a line's end, and how the lines of a text and its closing line follow from its
+-- first line and what stands behind it.
+use mathlib.Core.Path.{_≡_, refl, sym, ap, _∙_}
+use mathlib.Core.Bool.{Bool, true, false, cond}
+use mathlib.Core.List.{List, [], _∷_, _++_, append-assoc, append-nil}
+use mathlib.Core.Option.{Option, none, some, Option·map}
+use Prim.Native.Nat.{ℕ, _+_, _≤_, _<_}
+use native.Mathlib.Omega.{arith}
+use lib.ListN.{length, getD}
+use lib.Dec.{eqb}
+use borrow.Author.Tests.{le-leb, lt-leb, eq-eqb, ne-eqb, eqb-true}
+use Rattle.rules.specs.Text.{ascii, equal, fits, then}
+use Rattle.rules.specs.Lines.{Line, Taken, lead, line, lines, begun, before, closes, inLines, closing, opening, framed}
+use Rattle.laws.specs.Parts.{cut, from, cut-done, cut-snoc, cut-all, from-step, from-done, from-length, from-cut}
+use Rattle.laws.specs.Tests.{not-held}
+use Rattle.lines.specs.Answers.{taken, LineEnd, NoLine, line-told, no-line-told}
+
+-- ---- bytes before a line
+
+lead-none : (p : List ℕ) → lead p none ≡ none
+unfolding lead
+lead-none p = refl
+
+lead-nil : (o : Option Taken) → lead [] o ≡ o
+unfolding lead
+lead-nil none = refl
+lead-nil (some t) = refl
+
+lead-more : (p : List ℕ) (c : ℕ) (o : Option Taken) → lead (p ++ (c ∷ [])) o ≡ lead p (lead (c ∷ []) o)
+unfolding lead
+lead-more p c none = refl
+lead-more p c (some t) = ap {B = Option Taken} (λ (l : List ℕ). some record { line = l; others = t .others }) (append-assoc p (c ∷ []) (t .line))
+
+lead-ended : (p cs : List ℕ) → lead p (some record { line = []; others = cs }) ≡ some record { line = p; others = cs }
+unfolding lead
+lead-ended p cs = ap {B = Option Taken} (λ (l : List ℕ). some record { line = l; others = cs }) (append-nil p)
+
+-- ---- the first two bytes of a text
+
+module _ (c d : ℕ) (cs : List ℕ) where
+  byte-on : (c ≡ 13 → ⊥) → (c ≡ 10 → ⊥) → line (c ∷ d ∷ cs) ≡ lead (c ∷ []) (line (d ∷ cs))
+  unfolding line
+  byte-on h k = rw (ne-eqb _ _ h, ne-eqb _ _ k)
+
+  byte-ends : c ≡ 13 → d ≡ 10 → line (c ∷ d ∷ cs) ≡ some record { line = []; others = cs }
+  unfolding line
+  byte-ends h k = rw (eq-eqb _ _ h, eq-eqb _ _ k)
+
+  byte-cr : c ≡ 13 → (d ≡ 10 → ⊥) → line (c ∷ d ∷ cs) ≡ none
+  unfolding line
+  byte-cr h k = rw (eq-eqb _ _ h, ne-eqb _ _ k)
+
+  byte-lf : (c ≡ 13 → ⊥) → c ≡ 10 → line (c ∷ d ∷ cs) ≡ none
+  unfolding line
+  byte-lf h k = rw (ne-eqb _ _ h, eq-eqb _ _ k)
+
+-- fewer than two bytes hold no line
+few : (s : List ℕ) (i : ℕ) → length s ≤ i + 1 → line (from s i) ≡ none
+unfolding line
+few s i h = go (from s i) (from-length s i)
+  where
+    go : (cs : List ℕ) → length cs ≡ length s - i → line cs ≡ none
+    go [] e = refl
+    go (c ∷ []) e = refl
+    go (c ∷ d ∷ cs) e = absurd (omega arith)
+
+-- ---- the loop to the line's end: the bytes from `at` to `i` stand before what is left
+
+pub line-starts : (s : List ℕ) (at : ℕ) → lead (cut s at at) (line (from s at)) ≡ line (from s at)
+line-starts s at = rw (cut-done s at at (omega arith) (omega arith)) (lead-nil _)
+
+module _ (s : List ℕ) (at i : ℕ) (x : Option Taken) (inv : lead (cut s at i) (line (from s i)) ≡ x) where
+  pub line-out : length s ≤ i + 1 → x ≡ none
+  line-out h = sym (rw (few s i h, lead-none) at inv)
+
+  module _ (h : i + 1 < length s) where
+    two : lead (cut s at i) (line (getD s i 0 ∷ getD s (i + 1) 0 ∷ from s (i + 1 + 1))) ≡ x
+    two = rw (← from-step s (i + 1) h, ← from-step s i (omega arith)) inv
+
+    pub line-ends : getD s i 0 ≡ 13 → getD s (i + 1) 0 ≡ 10 → x ≡ some (taken s at i)
+    line-ends c d = let e : i + 2 ≡ i + 1 + 1 = omega arith in rw e (sym (rw (byte-ends _ _ _ c d, lead-ended) at two))
+
+    pub line-cr : getD s i 0 ≡ 13 → (getD s (i + 1) 0 ≡ 10 → ⊥) → x ≡ none
+    line-cr c d = sym (rw (byte-cr _ _ _ c d, lead-none) at two)
+
+    module _ (c : getD s i 0 ≡ 13 → ⊥) where
+      pub line-lf : getD s i 0 ≡ 10 → x ≡ none
+      line-lf d = sym (rw (byte-lf _ _ _ c d, lead-none) at two)
+
+      pub line-on : (getD s i 0 ≡ 10 → ⊥) → at ≤ i → lead (cut s at (i + 1)) (line (from s (i + 1))) ≡ x
+      line-on d k = rw (cut-snoc s at i k (omega arith), lead-more, from-step s (i + 1) h, ← byte-on _ _ (from s (i + 1 + 1)) c d) two
+
+-- ---- all lines of a text
+
+abbrev linesOf : Option Taken → Option (List Line)
+linesOf o = then o (λ t. Option·map (before (t .line)) (lines (t .others)))
+
+begun-before : (c : ℕ) (l : Line) (o : Option (List Line)) → Option·map (begun c) (Option·map (before l) o) ≡ Option·map (before (c ∷ l)) o
+begun-before c l none = refl
+begun-before c l (some ls) = refl
+
+lines-lead : (c : ℕ) (o : Option Taken) → Option·map (begun c) (linesOf o) ≡ linesOf (lead (c ∷ []) o)
+unfolding lead
+lines-lead c none = refl
+lines-lead c (some t) = begun-before c (t .line) (lines (t .others))
+
+-- the lines of a text are its first line and the lines of what stands behind it
+pub lines-line : (c : ℕ) (cs : List ℕ) → lines (c ∷ cs) ≡ then (line (c ∷ cs)) (λ t. Option·map (before (t .line)) (lines (t .others)))
+unfolding lines line
+lines-line c [] = refl
+lines-line c (d ∷ cs) = go (eqb c 13) (eqb d 10) (eqb c 10) (lines-line d cs)
+  where
+    go : (p q r : Bool) → lines (d ∷ cs) ≡ linesOf (line (d ∷ cs))
+        → cond p (cond q (Option·map (before []) (lines cs)) none) (cond r none (Option·map (begun c) (lines (d ∷ cs))))
+        ≡ linesOf (cond p (cond q (some record { line = []; others = cs }) none) (cond r none (lead (c ∷ []) (line (d ∷ cs)))))
+    go true true r h = refl
+    go true false r h = refl
+    go false q true h = refl
+    go false q false h = rw h (lines-lead c (line (d ∷ cs)))
+
+-- a text is its first line, CR LF, and what stands behind
+pub line-splits : (cs : List ℕ) (t : Taken) → line cs ≡ some t → cs ≡ t .line ++ (13 ∷ 10 ∷ t .others)
+unfolding line lead
+line-splits [] t e = absurd (let z : _≡_ {A = ℕ} 0 1 = cc in omega arith)
+line-splits (c ∷ []) t e = absurd (let z : _≡_ {A = ℕ} 0 1 = cc in omega arith)
+line-splits (c ∷ d ∷ cs) t e = go (eqb c 13) (eqb d 10) (eqb c 10) refl refl (line (d ∷ cs)) (line-splits (d ∷ cs)) e
+  where
+    go : (p q r : Bool) → eqb c 13 ≡ p → eqb d 10 ≡ q → (o : Option Taken) → ((u : Taken) → o ≡ some u → d ∷ cs ≡ u .line ++ (13 ∷ 10 ∷ u .others))
+        → cond p (cond q (some record { line = []; others = cs }) none) (cond r none (lead (c ∷ []) o)) ≡ some t → c ∷ d ∷ cs ≡ t .line ++ (13 ∷ 10 ∷ t .others)
+    go true true r h k o f g = let a : c ≡ 13 = eqb-true c 13 h in let b : d ≡ 10 = eqb-true d 10 k in let u : record { line = []; others = cs } ≡ t = cc in rw (← u, a, b)
+    go true false r h k o f g = absurd (let z : _≡_ {A = ℕ} 0 1 = cc in omega arith)
+    go false q true h k o f g = absurd (let z : _≡_ {A = ℕ} 0 1 = cc in omega arith)
+    go false q false h k none f g = absurd (let z : _≡_ {A = ℕ} 0 1 = cc in omega arith)
+    go false q false h k (some v) f g = let u : record { line = c ∷ v .line; others = v .others } ≡ t = cc in rw (← u) (ap (λ (l : List ℕ). c ∷ l) (f v refl))
+
+-- ---- the closing line
+
+-- texts that are told equal are the same
+pub equal-same : (cs ds : List ℕ) → equal cs ds ≡ true → cs ≡ ds
+unfolding equal
+equal-same [] [] h = refl
+equal-same [] (d ∷ ds) h = absurd (let z : _≡_ {A = ℕ} 0 1 = cc in omega arith)
+equal-same (c ∷ cs) [] h = absurd (let z : _≡_ {A = ℕ} 0 1 = cc in omega arith)
+equal-same (c ∷ cs) (d ∷ ds) h = go (eqb c d) refl (equal-same cs ds) h
+  where
+    go : (b : Bool) → eqb c d ≡ b → (equal cs ds ≡ true → cs ≡ ds) → cond b (equal cs ds) false ≡ true → c ∷ cs ≡ d ∷ ds
+    go true e f k = let a : c ≡ d = eqb-true c d e in rw (a, f k)
+    go false e f k = absurd (let z : _≡_ {A = ℕ} 0 1 = cc in omega arith)
+
+closed : inLines (lines (ascii "-\r\n")) ≡ true
+unfolding lines closes equal
+closed = refl
+
+-- two lines or more close as those behind the first do
+two-close : (l : Line) (o : Option Taken) → inLines (linesOf o) ≡ inLines (Option·map (before l) (linesOf o))
+unfolding closes
+two-close l none = refl
+two-close l (some t) = go (lines (t .others))
+  where
+    go : (o : Option (List Line)) → inLines (Option·map (before (t .line)) o) ≡ inLines (Option·map (before l) (Option·map (before (t .line)) o))
+    go none = refl
+    go (some ls) = refl
+
+-- a text that is more than its closing line closes as what stands behind its first line does
+closes-behind : (l cs : List ℕ) → closing (l ++ (13 ∷ 10 ∷ cs)) ≡ false → inLines (lines cs) ≡ inLines (Option·map (before l) (lines cs))
+unfolding closing equal closes lines
+closes-behind l [] h = not-held _ (λ e. let z : _≡_ {A = ℕ} 1 0 = (rw (equal-same l (ascii "-") e) at (ap (λ (b : Bool). cond {A = ℕ} b 1 0) h)) in omega arith)
+closes-behind l (c ∷ cs) h = rw (lines-line c cs) (two-close l (line (c ∷ cs)))
+
+-- a text with a first line, and one without
+lines-taken : (cs : List ℕ) (t : Taken) → line cs ≡ some t → lines cs ≡ Option·map (before (t .line)) (lines (t .others))
+unfolding line
+lines-taken [] t e = absurd (let z : _≡_ {A = ℕ} 0 1 = cc in omega arith)
+lines-taken (c ∷ cs) t e = rw (lines-line c cs, e)
+
+none-closes : (cs : List ℕ) → line cs ≡ none → inLines (lines cs) ≡ false
+unfolding lines closes
+none-closes [] e = refl
+none-closes (c ∷ cs) e = rw (lines-line c cs, e)
+
+-- the loop from line to line: what is left closes as the whole does
+module _ (s : List ℕ) (at : ℕ) (x : Bool) (inv : inLines (lines (from s at)) ≡ x) where
+  pub closes-never : length s ≤ at → false ≡ x
+  unfolding lines closes
+  closes-never h = rw (from-done s at h) at inv
+
+  module _ (b : Bool) (u : b ≡ closing (from s at)) where
+    pub closes-now : b ≡ true → true ≡ x
+    unfolding closing
+    closes-now h = sym closed ∙ (rw (equal-same (from s at) (ascii "-\r\n") (sym u ∙ h)) at inv)
+
+    pub closes-bad : NoLine s at → false ≡ x
+    closes-bad n = sym (none-closes (from s at) (n .same)) ∙ inv
+
+    pub closes-on : b ≡ false → (e : ℕ) → LineEnd s at e → inLines (lines (from s (e + 2))) ≡ x
+    closes-on h e l = closes-behind (cut s at e) (from s (e + 2)) (rw (← line-splits (from s at) _ (l .same)) (sym u ∙ h)) ∙ sym (rw (lines-taken (from s at) _ (l .same))) ∙ inv
+
+-- all that is left, as a part of three bytes
+module _ (s : List ℕ) (at : ℕ) where
+  pub closing-long : (length s - at ≡ 3 → ⊥) → false ≡ closing (from s at)
+  unfolding closing
+  closing-long h = not-held _ (λ e. h (sym (from-length s at) ∙ ap (λ (l : List ℕ). length l) (equal-same (from s at) (ascii "-\r\n") e)))
+
+  pub closing-part : at ≤ length s → length s - at ≡ 3 → (r : Bool) → r ≡ equal (cut s at (at + 3)) (cut (ascii "-\r\n") 0 3) → r ≡ closing (from s at)
+  unfolding closing
+  closing-part k h r e = e ∙ (rw (from-cut s at (at + 3) (omega arith), cut-all (ascii "-\r\n")))
+
+-- ---- the frame
+
+module _ (s : List ℕ) where
+  pub framed-long : 4096 < length s → false ≡ framed s
+  unfolding framed
+  framed-long h = rw (lt-leb _ _ h)
+
+  module _ (h : length s ≤ 4096) (b : Bool) (u : b ≡ inLines (lines s)) where
+    pub framed-not : b ≡ false → false ≡ framed s
+    unfolding framed
+    framed-not k = rw (le-leb _ _ h, ← u, k)
+
+    pub framed-opens : b ≡ true → (r : Bool) → r ≡ fits (ascii "nnn,aaaaaacc,aaaaaacc\r\n") (cut s 0 23) → r ≡ framed s
+    unfolding framed opening cut
+    framed-opens k r e = rw (le-leb _ _ h, ← u, k) e
+
+pub ruleset framing = (line-told, no-line-told, line-starts, line-out, line-ends, line-cr, line-lf, line-on, closes-never, closes-now, closes-bad, closes-on, closing-long, closing-part, framed-long, framed-not, framed-opens)
