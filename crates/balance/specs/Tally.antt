@@ -1,0 +1,106 @@
+-- Sums over positions, one for each measure of a position. Lists whose sums agree for every measure have the same entries, order aside, and
+-- that is how ledger and engine are compared: each sum of demand 3 is one of these. Assumes nothing.
+use mathlib.Core.Path.{_≡_, refl, sym, ap, _∙_, fun-ext}
+use mathlib.Core.Bool.{Bool, true, false, _&&_, not, cond}
+use mathlib.Core.List.{List, [], _∷_}
+use Prim.Native.Nat.{ℕ, _+_, _-_, _≤_, _<_}
+use native.Mathlib.Omega.{arith}
+use lib.Dec.{leb, eqb}
+use Rattle.rules.specs.Engine.{Position, alike, hasDetails, kept}
+use Rattle.rules.specs.Ledger.{transferredOf, detailedOf, times}
+
+-- a number taken from a position, and a test of one
+abbrev pub Measure : Type 0
+Measure = Position → ℕ
+
+abbrev pub Test : Type 0
+Test = Position → Bool
+
+-- the sum of a measure
+unfoldable pub tally : Measure → List Position → ℕ
+tally g [] = 0
+tally g (p ∷ ps) = g p + tally g ps
+
+-- the same entries, order aside
+pub record Same (ps qs : List Position) : Type 0 where
+  pub sums : (g : Measure) → tally g ps ≡ tally g qs
+
+-- ---- measures and tests
+
+abbrev pub one : Measure
+one p = 1
+
+abbrev pub transfers : Measure
+transfers p = p .transferred
+
+abbrev pub details : Measure
+details p = p .detailed
+
+-- of the positions that pass a test
+unfoldable pub only : Test → Measure → Measure
+only t g p = cond (t p) (g p) 0
+
+-- of one bank's
+unfoldable pub ofBank : ℕ → Test
+ofBank bank p = eqb (p .bank) bank
+
+-- of those of q's bank and date
+unfoldable pub like : Position → Test
+like q p = alike p q
+
+-- of those without details
+unfoldable pub bare : Test
+bare p = not (hasDetails p)
+
+-- of those with q's bank, date and totals
+unfoldable pub equalTo : Position → Test
+equalTo q p = alike p q && eqb (p .transferred) (q .transferred) && eqb (p .detailed) (q .detailed)
+
+-- ---- the ledger's sums as tallies
+
+-- a sum that adds v where a test holds
+step : (t : Bool) (v : ℕ) {a b : ℕ} → a ≡ b → cond t (v + a) a ≡ cond t v 0 + b
+step true v e = omega arith
+step false v e = omega arith
+
+pub transferred-tally : (bank : ℕ) (ps : List Position) → transferredOf bank ps ≡ tally (only (ofBank bank) transfers) ps
+unfolding transferredOf tally only ofBank
+transferred-tally bank [] = refl
+transferred-tally bank (p ∷ ps) = step (eqb (p .bank) bank) (p .transferred) (transferred-tally bank ps)
+
+pub detailed-tally : (bank : ℕ) (ps : List Position) → detailedOf bank ps ≡ tally (only (ofBank bank) details) ps
+unfolding detailedOf tally only ofBank
+detailed-tally bank [] = refl
+detailed-tally bank (p ∷ ps) = step (eqb (p .bank) bank) (p .detailed) (detailed-tally bank ps)
+
+pub times-tally : (q : Position) (ps : List Position) → times q ps ≡ tally (only (equalTo q) one) ps
+unfolding times tally only equalTo
+times-tally q [] = refl
+times-tally q (p ∷ ps) = step (alike p q && eqb (p .transferred) (q .transferred) && eqb (p .detailed) (q .detailed)) 1 (times-tally q ps)
+
+pub kept-tally : (g : Measure) (ps : List Position) → tally g (kept ps) ≡ tally (only bare g) ps
+unfolding kept tally only bare
+kept-tally g [] = refl
+kept-tally g (p ∷ ps) = go (hasDetails p) (kept-tally g ps)
+  where
+    go : (t : Bool) → tally g (kept ps) ≡ tally (only bare g) ps → tally g (cond t (kept ps) (p ∷ kept ps)) ≡ cond (not t) (g p) 0 + tally (only bare g) ps
+    go true e = omega arith
+    go false e = omega arith
+
+-- ---- the same entries
+
+pub same-refl : (ps : List Position) → Same ps ps
+same-refl ps = record { sums = λ g. refl }
+
+pub same-kept : (ps qs : List Position) → Same ps qs → Same (kept ps) (kept qs)
+same-kept ps qs s = record { sums = λ g. kept-tally g ps ∙ s .sums (only bare g) ∙ sym (kept-tally g qs) }
+
+-- "order aside": each entry stands in both as often
+pub same-times : (q : Position) (ps qs : List Position) → Same ps qs → times q ps ≡ times q qs
+same-times q ps qs s = times-tally q ps ∙ s .sums (only (equalTo q) one) ∙ sym (times-tally q qs)
+
+pub same-transferred : (bank : ℕ) (ps qs : List Position) → Same ps qs → transferredOf bank ps ≡ transferredOf bank qs
+same-transferred bank ps qs s = transferred-tally bank ps ∙ s .sums (only (ofBank bank) transfers) ∙ sym (transferred-tally bank qs)
+
+pub same-detailed : (bank : ℕ) (ps qs : List Position) → Same ps qs → detailedOf bank ps ≡ detailedOf bank qs
+same-detailed bank ps qs s = detailed-tally bank ps ∙ s .sums (only (ofBank bank) details) ∙ sym (detailed-tally bank qs)
