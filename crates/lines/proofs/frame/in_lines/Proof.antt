@@ -2,7 +2,7 @@
 use Rattle.laws.specs.Parts.{from-all}
 use Rattle.lines.specs.Answers.{line-told}
 use mathlib.Core.Path.{_≡_}
-use Prim.Native.Nat.{_≤_}
+use Prim.Native.Nat.{_≤_, _-_}
 use lib.ListN.{length}
 use Rattle.laws.specs.Parts.{from}
 use Rattle.rules.specs.Lines.{lines, inLines}

@@ -2,7 +2,7 @@
 use Rattle.rules.specs.Lines.{lead, line}
 use Rattle.laws.specs.Parts.{cut, from}
 use lib.ListN.{length}
-use Prim.Native.Nat.{_≤_}
+use Prim.Native.Nat.{_≤_, _-_}
 use mathlib.Core.Path.{_≡_}
 use borrow.Author.Needs.{needs}
 use Rattle.lines.specs.Laws.{framing}
