@@ -1,6 +1,6 @@
 -- Which dates exist, one law for each way that the code goes.
 use mathlib.Core.Path.{_≡_, refl, sym, ap, _∙_}
-use mathlib.Core.Bool.{Bool, true, false, _&&_, cond}
+use mathlib.Core.Bool.{Bool, true, false, cond}
 use mathlib.Core.List.{List, []}
 use mathlib.Core.Option.{Option, none, some}
 use Prim.Native.Nat.{ℕ, _+_, _-_, _/_, _%_, _≤_, _<_}
@@ -15,7 +15,7 @@ use mir.Val.{Fits}
 use borrow.Author.Needs.{fits-under}
 use Rattle.laws.specs.Parts.{cut, cut-length}
 use Rattle.laws.specs.Tests.{and-left}
-use Rattle.laws.specs.Reading.{digits-below}
+use Rattle.laws.specs.Numbers.{digits-small}
 use Rattle.text.specs.Answers.{numOf}
 use Rattle.text.specs.declared.numbers.Num.{Num}
 use Rattle.text.specs.declared.numbers.Num.the-variants.{Value, Bad}
@@ -71,7 +71,7 @@ module _ (s : List ℕ) (at : ℕ) (h : at + 6 ≤ length s) (q : Num) (e : numO
     some-digits = sym e ∙ ap numOf w
 
     pub date-fits : Fits w32 n
-    date-fits = let b : n < 1000000 = rw six at (digits-below _ n some-digits) in fits-under w32 n 1000000 b tt
+    date-fits = let b : n < 1000000 = rw six at (digits-small _ n some-digits) in fits-under w32 n 1000000 b tt
 
     module _ (t : Bool) (u : t ≡ exists n) where
       pub date-good : t ≡ true → some n ≡ date (cut s at (at + 6))

@@ -123,3 +123,11 @@ fixed-digits cs v h =
     let s : Within 10 48 cs = digits-within cs 0 v h in
     let e : some v ≡ some (valueFrom 10 48 0 cs) = sym h ∙ digits-value 0 s in
     let f : v ≡ valueFrom 10 48 0 cs = cc in rw f (places-value 0 s)
+
+pub digits-small : (cs : List ℕ) (n : ℕ) → digits cs ≡ some n → n < 10 ^ length cs
+digits-small cs n h =
+    let s : Within 10 48 cs = digits-within cs 0 n h in
+    let e : some n ≡ some (valueFrom 10 48 0 cs) = sym h ∙ digits-value 0 s in
+    let f : n ≡ valueFrom 10 48 0 cs = cc in
+    let l : valueFrom 10 48 0 cs < 1 * 10 ^ length cs = value-small 0 s in
+    rw f (omega arith)

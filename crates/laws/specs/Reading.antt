@@ -1,16 +1,16 @@
 -- Reading a part byte by byte. In each loop what is left of the part gives the answer; a law for each way on and out, with the loop's invariant first, the
 -- orders next and the test on the byte, as a call answered it, last.
 use mathlib.Core.Path.{_≡_, refl, sym, ap, _∙_}
-use mathlib.Core.Bool.{Bool, true, false, _&&_, cond}
+use mathlib.Core.Bool.{Bool, true, false, cond}
 use mathlib.Core.List.{List, [], _∷_}
 use mathlib.Core.Option.{Option, none, some}
-use Prim.Native.Nat.{ℕ, zero, suc, _+_, _-_, _*_, _^_, _≤_, _<_, min}
-use native.Mathlib.Nat.{zero-add, add-zero, suc-mul, one-mul, mul-comm, mul-assoc, pow-zero, pow-suc, pow-le-pow-right, mul-le-mul-right, lt-of-lt-of-le}
+use Prim.Native.Nat.{ℕ, suc, _+_, _-_, _*_, _^_, _≤_, _<_, min}
+use native.Mathlib.Nat.{zero-add, add-zero, suc-mul, pow-zero, pow-suc, pow-le-pow-right, mul-le-mul-right, lt-of-lt-of-le}
 use native.Mathlib.Omega.{arith}
 use lib.ListN.{length, getD}
-use lib.Dec.{leb, eqb, lit<}
+use lib.Dec.{eqb, lit<}
 use borrow.Author.Tests.{le-leb, lt-leb}
-use Rattle.rules.specs.Text.{isDigit, every, run, equal, fits, fitsSign, digits, digitsFrom, numberFrom}
+use Rattle.rules.specs.Text.{isDigit, every, run, equal, fits, fitsSign, digitsFrom, numberFrom}
 use Rattle.laws.specs.Parts.{cut, cut-step, cut-done, cut-length, cut-size, cut-all}
 use Rattle.laws.specs.Tests.{between-low, between-high, cond-right, not-held, held-told}
 
@@ -165,25 +165,5 @@ module _ (s : List ℕ) (i e v x : ℕ) (inv : numberFrom v (cut s i e) ≡ x) w
   pub number-end : i ≤ e → e ≤ i → v ≡ x
   unfolding numberFrom
   number-end h k = left-done (numberFrom v) s i e x inv h k
-
--- a bound on what is read with one place more is the bound of one power more
-pub place-more : (v d n k : ℕ) → d < 10 → n < suc (v * 10 + d) * 10 ^ k → n < suc v * 10 ^ suc k
-place-more v d n k l b =
-    let m : suc (v * 10 + d) * 10 ^ k ≤ suc v * 10 * 10 ^ k = mul-le-mul-right (10 ^ k) (omega arith) in
-    rw (pow-suc, mul-comm (10 ^ k) 10, ← mul-assoc (suc v) 10 (10 ^ k)) (lt-of-lt-of-le b m)
-
--- digits are worth less than the power of ten that has as many places
-digits-bound : (cs : List ℕ) (v n : ℕ) → digitsFrom v cs ≡ some n → n < suc v * 10 ^ length cs
-unfolding digitsFrom
-digits-bound [] v n h = let e : v ≡ n = cc in omega arith
-digits-bound (c ∷ cs) v n h = go (isDigit c) refl h (digits-bound cs (v * 10 + (c - 48)) n)
-  where
-    go : (t : Bool) → isDigit c ≡ t → cond t (digitsFrom (v * 10 + (c - 48)) cs) none ≡ some n
-        → (digitsFrom (v * 10 + (c - 48)) cs ≡ some n → n < suc (v * 10 + (c - 48)) * 10 ^ length cs) → n < suc v * 10 ^ suc (length cs)
-    go true d g f = place-more v (c - 48) n (length cs) (digit-small c d) (f g)
-    go false d g f = absurd (let z : _≡_ {A = ℕ} 0 1 = cc in omega arith)
-
-pub digits-below : (cs : List ℕ) (n : ℕ) → digits cs ≡ some n → n < 10 ^ length cs
-digits-below cs n h = let b : n < 1 * 10 ^ length cs = digits-bound cs 0 n h in rw one-mul at b
 
 pub ruleset reading = (held-told, every-more, every-bad, every-end, run-short, run-long, run-each, equal-pairs, fits-pairs, pairs-more, pairs-bad, pairs-end, fits-short, fits-whole, power-start, power-step, power-room, digit-small, digits-more, digits-bad, digits-end, number-more, number-end, add-zero)

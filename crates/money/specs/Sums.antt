@@ -4,7 +4,7 @@ use mathlib.Core.Bool.{Bool, true, false, _&&_, cond}
 use mathlib.Core.List.{List, [], _∷_}
 use mathlib.Core.Option.{Option, none, some}
 use Prim.Native.Nat.{ℕ, suc, _+_, _-_, _*_, _^_, _≤_, _<_}
-use native.Mathlib.Nat.{add-zero, one-mul, mul-le-mul-left, pow-le-pow-right, lt-of-lt-of-le}
+use native.Mathlib.Nat.{add-zero, one-mul, mul-comm, mul-assoc, mul-le-mul-left, mul-le-mul-right, pow-suc, pow-le-pow-right, lt-of-lt-of-le}
 use native.Mathlib.Omega.{arith}
 use lib.Dec.{leb, eqb}
 use lib.ListN.{length, getD}
@@ -13,7 +13,7 @@ use Rattle.rules.specs.Text.{isDigit}
 use Rattle.rules.specs.Amounts.{decimals, levs, amount}
 use Rattle.laws.specs.Parts.{cut, cut-step, cut-done, cut-get, cut-length}
 use Rattle.laws.specs.Tests.{held-told}
-use Rattle.laws.specs.Reading.{left-step, left-done, power, power-start, power-step, power-room, Placed, digit-small, place-more}
+use Rattle.laws.specs.Reading.{left-step, left-done, power, power-start, power-step, power-room, Placed, digit-small}
 
 -- ---- behind the comma
 
@@ -129,6 +129,12 @@ decimals-bound (c ∷ d ∷ []) v n h = two (isDigit c) (isDigit d) refl refl h
     two true false p q g = absurd (let z : _≡_ {A = ℕ} 0 1 = cc in omega arith)
     two false u p q g = absurd (let z : _≡_ {A = ℕ} 0 1 = cc in omega arith)
 decimals-bound (c ∷ d ∷ e ∷ es) v n h = absurd (let z : _≡_ {A = ℕ} 0 1 = cc in omega arith)
+
+-- a bound on what is read with one place more is the bound of one power more
+place-more : (v d n k : ℕ) → d < 10 → n < suc (v * 10 + d) * 10 ^ k → n < suc v * 10 ^ suc k
+place-more v d n k l b =
+    let m : suc (v * 10 + d) * 10 ^ k ≤ suc v * 10 * 10 ^ k = mul-le-mul-right (10 ^ k) (omega arith) in
+    rw (pow-suc, mul-comm (10 ^ k) 10, ← mul-assoc (suc v) 10 (10 ^ k)) (lt-of-lt-of-le b m)
 
 levs-bound : (cs : List ℕ) (v n : ℕ) → levs v cs ≡ some n → n < suc v * 10 ^ suc (length cs)
 unfolding levs
