@@ -3,3 +3,5 @@ pub mod Registers
 pub mod Limits
 pub mod Layout
 pub mod Held
+pub mod Positions
+pub mod References
