@@ -78,6 +78,9 @@ pub there : {A : Type 0} (x : Option A) → isSome x ≡ true → There x
 there none h = never (sym h)
 there (some a) h = record { value = a; is = refl }
 
+pub some-is : {A : Type 0} {a b : A} → some a ≡ some b → a ≡ b
+some-is h = cc
+
 -- what came of x by f came of a value that is there
 pub record Came {A B : Type 0} (x : Option A) (f : A → Option B) (b : B) : Type 0 where
   pub value : A

@@ -2,39 +2,21 @@
 use mathlib.Core.Path.{_≡_, refl, sym, ap, _∙_}
 use mathlib.Core.Bool.{Bool, true, false, _&&_, not, cond}
 use mathlib.Core.List.{List, [], _∷_, _++_, map, append-assoc, append-nil}
-use Prim.Native.Nat.{ℕ, zero, suc, _+_, _-_, _*_, _/_, _%_, _^_, _≤_, _<_}
-use native.Mathlib.Nat.{zero-add, pow-zero, pow-suc, div-one, div-add-mod', div-div-eq-div-mul, div-eq-of-lt, mul-suc}
+use Prim.Native.Nat.{ℕ, zero, suc, _+_, _-_, _*_, _^_, _≤_, _<_}
 use native.Mathlib.Omega.{arith}
 use lib.Dec.{leb, eqb}
 use lib.ListN.{length, take, drop, replicate, length-append, length-replicate, length-map}
 use lib.Seq.{take-at, drop-at, take-append-le, length-take-le}
 use borrow.Author.Tests.{leb-true, ne-eqb}
-use Rattle.rules.specs.Text.{isText, every, run, places, bytes, numberFrom, number}
+use Rattle.rules.specs.Text.{isText, every, run, bytes, number}
 use Rattle.rules.specs.Engine.{Position, Reference, Engine, limit, goodPosition, goodPositions, goodReference, goodReferences, within}
 use Rattle.rules.specs.Area.{zeros, padded, joined, referenceRecord, positionRecord, mark, header, encode, numberAt, untilZero, referenceIn, positionIn, records, decode, holds}
+use Rattle.laws.specs.Digits.{places-length}
+use Rattle.laws.specs.Numbers.{number-bytes}
 use Rattle.laws.specs.Tests.{and-left, and-right, cond-right, between-low, between-high}
 use Rattle.area.specs.Facts.{cond-left, never}
 use Rattle.area.specs.Registers.{register-length}
 use Rattle.area.specs.Limits.{Limits, limits, date-small, bank-small}
-
--- ---- numbers
-
-pub places-length : (base null k v : ℕ) → length (places base null k v) ≡ k
-unfolding places
-places-length base null zero v = refl
-places-length base null (suc k) v = ap suc (places-length base null k v)
-
-bytes-back : (k v : ℕ) → numberFrom (v / 256 ^ k) (bytes k v) ≡ v
-unfolding places numberFrom
-bytes-back zero v = rw (pow-zero, div-one)
-bytes-back (suc k) v =
-    let e : v / 256 ^ suc k * 256 + (0 + v / 256 ^ k % 256) ≡ v / 256 ^ k =
-    rw (pow-suc, ← div-div-eq-div-mul, zero-add) (div-add-mod' (v / 256 ^ k) 256) in
-    ap (λ (n : ℕ). numberFrom n (bytes k v)) e ∙ bytes-back k v
-
--- the number of its bytes is the number
-pub number-bytes : (k v : ℕ) → v < 256 ^ k → number (bytes k v) ≡ v
-number-bytes k v h = ap (λ (n : ℕ). numberFrom n (bytes k v)) (sym (div-eq-of-lt h)) ∙ bytes-back k v
 
 -- ---- parts
 

@@ -5,3 +5,5 @@ pub mod Layout
 pub mod Held
 pub mod Positions
 pub mod References
+pub mod Accepted
+pub mod Keeps

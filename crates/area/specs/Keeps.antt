@@ -1,0 +1,182 @@
+-- Accepted calls keep the engine within its limits: an opening, a message and a turn. Assumes nothing.
+use mathlib.Core.Path.{_≡_, refl, sym, ap, _∙_}
+use mathlib.Core.Bool.{Bool, true, false, _&&_, _||_, not, cond}
+use mathlib.Core.List.{List, [], _∷_, _++_}
+use mathlib.Core.Option.{Option, none, some}
+use Prim.Native.Nat.{ℕ, zero, suc, _+_, _-_, _*_, _/_, _≤_, _<_}
+use native.Mathlib.Omega.{arith}
+use lib.Dec.{leb, eqb}
+use lib.ListN.{length, length-append}
+use borrow.Author.Tests.{leb-true, leb-false, le-leb, eqb-true, not-false}
+use Rattle.rules.specs.Text.{isSome, any, twice}
+use Rattle.rules.specs.Dates.{exists}
+use Rattle.rules.specs.Lines.{framed}
+use Rattle.rules.specs.Messages.{Message, mt103, mt101, Detail, read, detailsOf, dateOf, senderOf, referenceOf}
+use Rattle.rules.specs.Register.{Register, register, registerOf}
+use Rattle.rules.specs.Verdict.{isReturned}
+use Rattle.rules.specs.Engine.{Position, Reference, Engine, limit, booked, kept, slashed, isBank, goodPositions, ordered, sameReference, goodReference, goodReferences, within}
+use Rattle.rules.specs.Written.{partsOf, correctedCount}
+use Rattle.rules.specs.Calls.{Stop, stop, firstOf, holdsOf, openStops, opened, addressed, badReference, badAmount, badAccount, manyDates, misdated, messageText, bankOf, ownReference, added, after, noRoom, overLimit, verdictOf, returnedOf, judged, writes, afterMessage, inputStops, stateStops, messageStops, turnStops, afterTurn}
+use Rattle.laws.specs.Tests.{and-left, and-right}
+use Rattle.area.specs.Facts.{or-left, or-right, Passed, passed}
+use Rattle.area.specs.Limits.{Limits, limits, limits-within}
+use Rattle.area.specs.Layout.{All}
+use Rattle.area.specs.Positions.{Sorted, ordered-sorted, sorted-ordered, booked-sorted, booked-few, Passes, booked-good, all-good, good-all, kept-sorted, kept-good, kept-length, corrected-length}
+use Rattle.area.specs.References.{good-append, same-sym, twice-append}
+use Rattle.area.specs.Accepted.{Has, read-has, sender-bank}
+
+-- ---- opening
+
+pub opened-within : (size : ℕ) (text : List ℕ) (day : ℕ) → firstOf (openStops size text day) ≡ 0 → within (opened text day) ≡ true
+unfolding openStops opened goodPositions ordered goodReferences twice
+opened-within size text day h =
+    let a : Passed _ _ = passed 9 _ _ h in
+    let b : Passed _ _ = passed 2 _ _ (a .others) in
+    let c : Passed _ _ = passed 8 _ _ (b .others) in
+    limits-within (opened text day) record {
+      register = not-false _ (c .first);
+      day = not-false _ (b .first);
+      few = omega arith;
+      good = refl;
+      order = refl;
+      today = omega arith;
+      forms = refl;
+      distinct = refl;
+      numbered = omega arith;
+    }
+
+-- ---- message
+
+-- none of 1 to 16 holds of a message, its bytes s and what it was read as
+pub record Clear (room : ℕ) (e : Engine) (s : List ℕ) (m : Message) : Type 0 where
+  pub frame : framed s ≡ true
+  pub address : addressed s ≡ true
+  pub details : length (detailsOf m) ≤ 16
+  pub references : badReference m ≡ false
+  pub amounts : badAmount m ≡ false
+  pub accounts : badAccount (registerOf (e .register) .temporary) m ≡ false
+  pub dates : manyDates m ≡ false
+  pub today : misdated (e .day) m ≡ false
+  pub new : any (sameReference (ownReference m)) (e .references) ≡ false
+  pub counted : length (e .references) < 64
+  pub opens : noRoom e m ≡ false
+  pub under : overLimit e m ≡ false
+  pub fits : length (messageText e m) ≤ room
+
+pub clear : (room : ℕ) (e : Engine) (s : List ℕ) (m : Message) → read s ≡ some m → firstOf (messageStops room (some e) s) ≡ 0 → Clear room e s m
+unfolding messageStops inputStops stateStops holdsOf
+clear room e s m r h =
+    let s1 : Passed _ _ = passed 0 _ _ (passed 9 _ _ h .others) in
+    let s2 : Passed _ _ = passed 1 _ _ (s1 .others) in
+    let s4 : Passed _ _ = passed 3 _ _ (passed 2 _ _ (s2 .others) .others) in
+    let s5 : Passed _ _ = passed 4 _ _ (s4 .others) in
+    let s6 : Passed _ _ = passed 5 _ _ (s5 .others) in
+    let s7 : Passed _ _ = passed 6 _ _ (s6 .others) in
+    let s8 : Passed _ _ = passed 7 _ _ (s7 .others) in
+    let s11 : Passed _ _ = passed 10 _ _ (s8 .others) in
+    let s12 : Passed _ _ = passed 11 _ _ (s11 .others) in
+    let s13 : Passed _ _ = passed 12 _ _ (s12 .others) in
+    let s14 : Passed _ _ = passed 13 _ _ (s13 .others) in
+    let s15 : Passed _ _ = passed 14 _ _ (s14 .others) in
+    let s16 : Passed _ _ = passed 15 _ _ (s15 .others) in
+    record {
+      frame = not-false _ (s1 .first);
+      address = not-false _ (s2 .first);
+      details = leb-true _ _ (not-false _ (rw r at (s4 .first)));
+      references = rw r at (s5 .first);
+      amounts = rw r at (s6 .first);
+      accounts = rw r at (s7 .first);
+      dates = rw r at (s8 .first);
+      today = rw r at (s11 .first);
+      new = rw r at (s12 .first);
+      counted = leb-false _ _ (s13 .first);
+      opens = rw r at (s14 .first);
+      under = rw r at (s15 .first);
+      fits = leb-true _ _ (not-false _ (rw r at (s16 .first)));
+    }
+
+returned-few : (r : Register) (ds : List Detail) → length (returnedOf r ds) ≤ length ds
+unfolding returnedOf
+returned-few r [] = omega arith
+returned-few r (d ∷ ds) = go (isReturned (verdictOf r d)) (returned-few r ds)
+  where
+    go : (t : Bool) → length (returnedOf r ds) ≤ length ds → length (cond t (d ∷ returnedOf r ds) (returnedOf r ds)) ≤ suc (length ds)
+    go true i = omega arith
+    go false i = omega arith
+
+parts-few : (n : ℕ) → n ≤ 16 → partsOf n ≤ 2
+unfolding partsOf
+parts-few n h = go (eqb n 0)
+  where
+    go : (t : Bool) → cond t 1 ((n + 13) / 14) ≤ 2
+    go true = omega arith
+    go false = omega arith
+
+-- a message writes at most two parts of an MT199
+pub writes-few : (e : Engine) (m : Message) → length (detailsOf m) ≤ 16 → writes e m ≤ 2
+unfolding writes
+writes-few e m h = go (judged m (after e m))
+  where
+    n : ℕ
+    n = length (returnedOf (registerOf (e .register)) (detailsOf m))
+
+    go : (t : Bool) → cond t (partsOf n) 0 ≤ 2
+    go true = parts-few n (omega (arith, returned-few (registerOf (e .register)) (detailsOf m)))
+    go false = omega arith
+
+dated : (day : ℕ) (m : Message) → misdated day m ≡ false → dateOf m ≤ day
+unfolding misdated dateOf
+dated day (mt103 t) h = let e : t .date ≡ day = eqb-true _ _ (not-false _ h) in omega arith
+dated day (mt101 o) h = leb-true _ _ (not-false _ h)
+
+own-good : (s : List ℕ) (m : Message) → Has s m → framed s ≡ true → badReference m ≡ false → goodReference (ownReference m) ≡ true
+unfolding goodReference badReference
+own-good s m a f b =
+    let k : isBank (bankOf m) ≡ true = rw (a .sent) (sender-bank s f) in
+    let n : slashed (referenceOf m) ≡ false = or-left _ _ (or-left _ _ b) in
+    rw (k, a .reference, n)
+
+pub message-within : (room : ℕ) (e : Engine) (s : List ℕ) (m : Message) → within e ≡ true → read s ≡ some m → firstOf (messageStops room (some e) s) ≡ 0 → within (afterMessage e m) ≡ true
+unfolding afterMessage noRoom overLimit after
+message-within room e s m w r h =
+    let l : Limits e = limits e w in
+    let c : Clear room e s m = clear room e s m r h in
+    let a : Has s m = read-has s m r in
+    let q : Position = added m in
+    let sorted : Sorted (e .positions) = ordered-sorted (e .positions) (l .order) in
+    let passes : Passes q (e .positions) = record {
+      transferred = leb-true _ _ (not-false _ (or-left _ _ (c .under)));
+      detailed = leb-true _ _ (not-false _ (or-right (not (leb (after e m .transferred) limit)) _ (c .under)));
+    } in
+    limits-within (afterMessage e m) record {
+      register = l .register;
+      day = l .day;
+      few = booked-few q sorted (l .few) (c .opens);
+      good = good-all (booked-good q (rw (a .sent) (sender-bank s (c .frame))) (a .date) (dated (e .day) m (c .today)) passes (all-good (e .day) (e .positions) (l .good)));
+      order = sorted-ordered (booked-sorted q sorted);
+      today = rw length-append (omega (arith, c .counted));
+      forms = good-append (e .references) (ownReference m) (l .forms) (own-good s m a (c .frame) (c .references));
+      distinct = twice-append sameReference same-sym (e .references) (ownReference m) (l .distinct) (c .new);
+      numbered = rw length-append (omega (arith, l .numbered, writes-few e m (c .details)));
+    }
+
+-- ---- turn
+
+pub turn-within : (room : ℕ) (e : Engine) (day : ℕ) → within e ≡ true → firstOf (turnStops room (some e) day) ≡ 0 → within (afterTurn e day) ≡ true
+unfolding turnStops afterTurn goodReferences twice
+turn-within room e day w h =
+    let l : Limits e = limits e w in
+    let s3 : Passed _ _ = passed 2 _ _ (passed 9 _ _ h .others) in
+    let s11 : Passed _ _ = passed 10 _ _ (s3 .others) in
+    let later : e .day < day = leb-false day (e .day) (s11 .first) in
+    limits-within (afterTurn e day) record {
+      register = l .register;
+      day = not-false _ (s3 .first);
+      few = omega (arith, kept-length (e .positions), l .few);
+      good = good-all (kept-good {day = e .day} (omega arith) (all-good (e .day) (e .positions) (l .good)));
+      order = sorted-ordered (kept-sorted (ordered-sorted (e .positions) (l .order)));
+      today = omega arith;
+      forms = refl;
+      distinct = refl;
+      numbered = omega (arith, corrected-length (e .positions), l .few);
+    }
