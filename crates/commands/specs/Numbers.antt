@@ -1,0 +1,101 @@
+-- Laws of days and lengths in command lines.
+use mathlib.Core.Path.{_≡_, refl, sym, ap, _∙_}
+use mathlib.Core.Bool.{Bool, true, false, cond}
+use mathlib.Core.List.{List, [], _∷_}
+use mathlib.Core.Option.{Option, none, some}
+use Prim.Native.Nat.{ℕ, zero, suc, _+_, _-_, _*_, _≤_, _<_}
+use native.Mathlib.Omega.{arith}
+use native.Mathlib.Nat.{lt-of-le-of-lt}
+use lib.Dec.{leb, eqb, lit<}
+use lib.ListN.{length, getD, replicate}
+use borrow.Author.Tests.{le-leb, lt-leb, eq-eqb}
+use Rattle.rules.specs.Text.{ascii, isDigit, digitsFrom, digits, fits, fitsSign, then, given}
+use Rattle.rules.specs.Replay.{lengthOf, sixDigits}
+use Rattle.laws.specs.Parts.{cut, cut-step, cut-done, cut-length}
+use Rattle.laws.specs.Reading.{Placed, power, fits-length}
+use Rattle.laws.specs.Tests.{held-told}
+
+-- the number v and the digits behind it, where it is at most 8192
+unfoldable pub limited : ℕ → List ℕ → Option ℕ
+limited v cs = then (digitsFrom v cs) (λ n. given (leb n 8192) n)
+
+-- a larger number stays too large
+limited-large : (v : ℕ) (cs : List ℕ) → 8192 < v → none ≡ limited v cs
+unfolding limited digitsFrom
+limited-large v [] h = rw (lt-leb _ _ h) refl
+limited-large v (c ∷ cs) h = go (isDigit c) (limited-large (v * 10 + (c - 48)) cs (omega arith))
+  where
+    go : (t : Bool) → none ≡ limited (v * 10 + (c - 48)) cs → none ≡ then (cond t (digitsFrom (v * 10 + (c - 48)) cs) none) (λ n. given (leb n 8192) n)
+    go true e = e
+    go false e = refl
+
+module _ (s : List ℕ) (a b : ℕ) where
+  pub length-empty : b ≤ length s → a ≡ b → none ≡ lengthOf (cut s a b)
+  unfolding lengthOf
+  length-empty l e = rw (cut-done s a b (omega arith) (omega arith)) refl
+
+  pub length-starts : a ≤ b → b ≤ length s → (a ≡ b → ⊥) → limited 0 (cut s a b) ≡ lengthOf (cut s a b)
+  unfolding limited lengthOf
+  length-starts h l n = let k : a < b = more h n in rw (cut-step s a b k l) refl
+    where
+      more : a ≤ b → (a ≡ b → ⊥) → a < b
+      more h n = omega arith
+
+-- v is read, the part from i is left, and x is what the whole is
+module _ (s : List ℕ) (i b v : ℕ) (x : Option ℕ) (inv : limited v (cut s i b) ≡ x) where
+  pub length-large : 8192 < v → none ≡ x
+  length-large h = limited-large v (cut s i b) h ∙ inv
+
+  module _ (h : i < b) (l : b ≤ length s) where
+    pub length-more : {t : Bool} → t ≡ isDigit (getD s i 0) → t ≡ true → (r : ℕ) → Placed 10 v (getD s i 0 - 48) r → limited r (cut s (i + 1) b) ≡ x
+    unfolding limited digitsFrom
+    length-more e d r p = rw (p .value) (rw (cut-step s i b h l, ← e, d) at inv)
+
+    pub length-bad : {t : Bool} → t ≡ isDigit (getD s i 0) → t ≡ false → none ≡ x
+    unfolding limited digitsFrom
+    length-bad e d = rw (cut-step s i b h l, ← e, d) at inv
+
+  pub length-end : i ≤ b → b ≤ i → v ≤ 8192 → some v ≡ x
+  unfolding limited digitsFrom
+  length-end h k l = rw (cut-done s i b h k, le-leb _ _ l) at inv
+
+-- six digits fit their pattern
+digits-fit : (cs : List ℕ) (k v n : ℕ) → length cs ≡ k → digitsFrom v cs ≡ some n → fits (replicate k 110) cs ≡ true
+unfolding fits digitsFrom fitsSign
+digits-fit [] zero v n l e = refl
+digits-fit [] (suc k) v n l e = absurd (omega arith)
+digits-fit (c ∷ cs) zero v n l e = absurd (omega arith)
+digits-fit (c ∷ cs) (suc k) v n l e = go (isDigit c) e (digits-fit cs k (v * 10 + (c - 48)) n (omega arith))
+  where
+    go : (t : Bool) → cond t (digitsFrom (v * 10 + (c - 48)) cs) none ≡ some n → (digitsFrom (v * 10 + (c - 48)) cs ≡ some n → fits (replicate k 110) cs ≡ true)
+        → cond t (fits (replicate k 110) cs) false ≡ true
+    go true z f = f z
+    go false z f = absurd (let w : _≡_ {A = ℕ} 0 1 = cc in omega arith)
+
+module _ (s : List ℕ) (a b : ℕ) where
+  pub six-other : b ≤ length s → (b - a ≡ 6 → ⊥) → none ≡ sixDigits (cut s a b)
+  unfolding sixDigits
+  six-other l n = go (fits (ascii "nnnnnn") (cut s a b)) refl
+    where
+      go : (t : Bool) → fits (ascii "nnnnnn") (cut s a b) ≡ t → none ≡ cond t (digits (cut s a b)) none
+      go true e = absurd (n (sym (cut-length s a b l) ∙ sym (fits-length (ascii "nnnnnn") (cut s a b) e)))
+      go false e = refl
+
+  pub six-read : b ≤ length s → b - a ≡ 6 → (o : Option ℕ) → o ≡ digits (cut s a b) → o ≡ sixDigits (cut s a b)
+  unfolding sixDigits
+  six-read l n o e = e ∙ go (digits (cut s a b)) refl
+    where
+      go : (d : Option ℕ) → digits (cut s a b) ≡ d → d ≡ cond (fits (ascii "nnnnnn") (cut s a b)) d none
+      go none z = pick (fits (ascii "nnnnnn") (cut s a b))
+        where
+          pick : (t : Bool) → none ≡ cond {A = Option ℕ} t none none
+          pick true = refl
+          pick false = refl
+      go (some v) z = rw (digits-fit (cut s a b) 6 0 v (cut-length s a b l ∙ n) z) refl
+
+-- a number that is no larger takes a further digit
+pub length-room : (v : ℕ) → v ≤ 8192 → v < power 10 17
+unfolding power
+length-room v h = lt-of-le-of-lt h (lit< tt)
+
+pub ruleset numbers = (held-told, length-room, length-empty, length-starts, length-large, length-more, length-bad, length-end, six-other, six-read)
