@@ -8,11 +8,17 @@ use native.Mathlib.Omega.{arith}
 use native.Mathlib.Nat.{lt-of-le-of-lt}
 use lib.Dec.{leb, eqb, lit<}
 use lib.ListN.{length, getD, replicate}
-use borrow.Author.Tests.{le-leb, lt-leb, eq-eqb}
+use borrow.Author.Tests.{le-leb, lt-leb, eq-eqb, leb-true}
+use borrow.Author.Needs.{fits-under}
+use mir.Val.{Fits}
+use mir.Syntax.{w32}
+use Rattle.text.specs.Answers.{numOf}
+use Rattle.text.specs.declared.numbers.Num.{Num}
+use Rattle.text.specs.declared.numbers.Num.the-variants.{Value, Bad}
 use Rattle.rules.specs.Text.{ascii, isDigit, digitsFrom, digits, fits, fitsSign, then, given}
 use Rattle.rules.specs.Replay.{lengthOf, sixDigits}
 use Rattle.laws.specs.Parts.{cut, cut-step, cut-done, cut-length}
-use Rattle.laws.specs.Reading.{Placed, power, fits-length}
+use Rattle.laws.specs.Reading.{Placed, power, fits-length, digits-below}
 use Rattle.laws.specs.Tests.{held-told}
 
 -- the number v and the digits behind it, where it is at most 8192
@@ -92,6 +98,32 @@ module _ (s : List ℕ) (a b : ℕ) where
           pick true = refl
           pick false = refl
       go (some v) z = rw (digits-fit (cut s a b) 6 0 v (cut-length s a b l ∙ n) z) refl
+
+-- as they were read, they fit their machine numbers
+module _ (s : List ℕ) (a b : ℕ) (q : Num) (n : ℕ) (w : q ≡ Value n) where
+  pub six-small : numOf q ≡ sixDigits (cut s a b) → Fits w32 n
+  unfolding sixDigits
+  six-small u = fits-under w32 n 1000000 (go (fits (ascii "nnnnnn") (cut s a b)) refl (sym u ∙ ap numOf w)) tt
+    where
+      go : (t : Bool) → fits (ascii "nnnnnn") (cut s a b) ≡ t → cond t (digits (cut s a b)) none ≡ some n → n < 1000000
+      go true z e = rw (← fits-length (ascii "nnnnnn") (cut s a b) z) at (digits-below (cut s a b) n e)
+      go false z e = absurd (let y : _≡_ {A = ℕ} 0 1 = cc in omega arith)
+
+  pub length-small : numOf q ≡ lengthOf (cut s a b) → n ≤ 8192
+  unfolding lengthOf
+  length-small u = go (cut s a b) (sym u ∙ ap numOf w)
+    where
+      under : (d : Option ℕ) → then d (λ m. given (leb m 8192) m) ≡ some n → n ≤ 8192
+      under none e = absurd (let y : _≡_ {A = ℕ} 0 1 = cc in omega arith)
+      under (some m) e = pick (leb m 8192) refl e
+        where
+          pick : (t : Bool) → leb m 8192 ≡ t → given t m ≡ some n → n ≤ 8192
+          pick true z k = let y : m ≡ n = cc in rw (← y) (leb-true m 8192 z)
+          pick false z k = absurd (let y : _≡_ {A = ℕ} 0 1 = cc in omega arith)
+
+      go : (cs : List ℕ) → lengthOf cs ≡ some n → n ≤ 8192
+      go [] e = absurd (let y : _≡_ {A = ℕ} 0 1 = cc in omega arith)
+      go (x ∷ cs) e = under (digits (x ∷ cs)) e
 
 -- a number that is no larger takes a further digit
 pub length-room : (v : ℕ) → v ≤ 8192 → v < power 10 17

@@ -1,5 +1,6 @@
 // The replay program's input and output: commands read, answers printed.
+mod command;
 mod number;
 
-pub use number::read_length;
-pub use number::six_digits;
+pub use command::Command;
+pub use command::read_command;

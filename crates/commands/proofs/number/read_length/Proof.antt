@@ -1,3 +1,4 @@
+-- A length is one or more digits and at most 8192: a number that is larger stays so, and the loop ends there. Assumes nothing.
 use mathlib.Core.Path.{_≡_}
 use Prim.Native.Nat.{_≤_, _-_}
 use Rattle.rules.specs.Replay.{lengthOf}
@@ -7,10 +8,6 @@ use borrow.Author.Needs.{needs}
 use Rattle.commands.specs.Numbers.{numbers}
 use Rattle.commands.proofs.number.read_length.Statement.{statement}
 use Rattle.commands.proofs.number.read_length.Tie as tie
-use Rattle.commands.proofs.number.read_length.Reads as reads
-use Rattle.commands.proofs.number.read_length.Lts as lts
-use Rattle.text.proofs.is_digit.Reads as is-digit-reads
-use Rattle.text.proofs.with_digit.Reads as with-digit-reads
 
 abbrev Inv-loop : tie.InvT-loop
 Inv-loop s a b v₀ i₀ v i = (i ≤ b) × (limited v (cut s i b) ≡ lengthOf (cut s a b))
@@ -18,51 +15,39 @@ Inv-loop s a b v₀ i₀ v i = (i ≤ b) × (limited v (cut s i b) ≡ lengthOf 
 abbrev μ-loop : tie.MeasureT-loop
 μ-loop s a b v₀ i₀ v i = b - i
 
--- src/number.rt:16:9
 returns : tie.Need-returns Inv-loop μ-loop
 returns c = search (numbers, needs)
 
--- src/number.rt:20:5
 loop-holds : tie.Need-loop-holds Inv-loop μ-loop
 loop-holds c = search (numbers, needs)
 
--- src/number.rt:22:13
 returns-2 : tie.Need-returns-2 Inv-loop μ-loop
 returns-2 c = search (numbers, needs)
 
--- src/number.rt:24:17
 shared-slice-read-c : tie.Need-shared-slice-read-c Inv-loop μ-loop
 shared-slice-read-c c = search (numbers, needs)
 
--- src/number.rt:25:12
 is-digit-requires : tie.Need-is-digit-requires Inv-loop μ-loop
 is-digit-requires c κs = search (numbers, needs)
 
--- src/number.rt:26:13
 with-digit-requires : tie.Need-with-digit-requires Inv-loop μ-loop
 with-digit-requires c κs = search (numbers, needs)
 
--- src/number.rt:27:13
 add-i : tie.Need-add-i Inv-loop μ-loop
 add-i c = search (numbers, needs)
 
--- src/number.rt:20:5
 loop-less : tie.Need-loop-less Inv-loop μ-loop
 loop-less c = search (numbers, needs)
 
--- src/number.rt:20:5
 loop-again : tie.Need-loop-again Inv-loop μ-loop
 loop-again c = search (numbers, needs)
 
--- src/number.rt:29:13
 returns-3 : tie.Need-returns-3 Inv-loop μ-loop
 returns-3 c = search (numbers, needs)
 
--- src/number.rt:33:9
 returns-4 : tie.Need-returns-4 Inv-loop μ-loop
 returns-4 c = search (numbers, needs)
 
--- src/number.rt:11:1
 returns-5 : tie.Need-returns-5 Inv-loop μ-loop
 returns-5 c = search (numbers, needs)
 

@@ -1,24 +1,18 @@
+-- Six digits are a day's, and other counts of bytes are none. Assumes nothing.
 use Rattle.commands.specs.Numbers.{numbers}
 use borrow.Author.Needs.{needs}
 use Rattle.commands.proofs.number.six_digits.Statement.{statement}
 use Rattle.commands.proofs.number.six_digits.Tie as tie
-use Rattle.commands.proofs.number.six_digits.Reads as reads
-use Rattle.commands.proofs.number.six_digits.Lts as lts
-use Rattle.text.proofs.read_digits.Reads as read-digits-reads
 
--- src/number.rt:43:8
 sub-if1 : tie.Need-sub-if1
 sub-if1 c = search (numbers, needs)
 
--- src/number.rt:44:9
 returns : tie.Need-returns
 returns c = search (numbers, needs)
 
--- src/number.rt:46:5
 read-digits-requires : tie.Need-read-digits-requires
 read-digits-requires c κs = search (numbers, needs)
 
--- src/number.rt:39:1
 returns-2 : tie.Need-returns-2
 returns-2 c = search (numbers, needs)
 

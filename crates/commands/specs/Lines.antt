@@ -1,0 +1,203 @@
+-- Command lines: one law for each way out of the functions that read them.
+use mathlib.Core.Path.{_≡_, refl, sym, ap, _∙_, subst}
+use mathlib.Core.Bool.{Bool, true, false, _&&_, cond}
+use mathlib.Core.List.{List, [], _∷_}
+use mathlib.Core.Option.{Option, none, some}
+use Prim.Native.Nat.{ℕ, _+_, _-_, _≤_, _<_}
+use native.Mathlib.Omega.{arith}
+use lib.Dec.{leb, eqb}
+use lib.ListN.{length, getD, take, drop}
+use borrow.Author.Tests.{le-leb, lt-leb, eq-eqb, ne-eqb}
+use mir.Val.{Fits}
+use mir.Syntax.{w32}
+use Rattle.rules.specs.Text.{ascii, equal, then, given}
+use Rattle.rules.specs.Lines.{line}
+use Rattle.rules.specs.Replay.{opens, sends, turns, Commanded, lengthOf, sixDigits, withBytes, commandOf, command}
+use Rattle.laws.specs.Parts.{cut, from, cut-step, cut-done, cut-length, cut-take, cut-drop, from-take, from-drop, from-length}
+use Rattle.lines.specs.Answers.{LineAt, taken, line-told, no-line-told}
+use Rattle.lines.specs.declared.line.Next.{Next}
+use Rattle.lines.specs.declared.line.Next.the-variants.{Line, Bad as NoNext}
+use Rattle.text.specs.Answers.{numOf}
+use Rattle.text.specs.declared.numbers.Num.{Num}
+use Rattle.text.specs.declared.numbers.Num.the-variants.{Value, Bad}
+use Rattle.commands.specs.declared.command.Command.{Command}
+use Rattle.commands.specs.declared.command.Command.the-variants.{Opens, Sends, Turns, End}
+use Rattle.commands.specs.Answers.{commandedOf, Placed, Commanding, messageLine, turnLine, openLine}
+use Rattle.commands.specs.Numbers.{six-small, length-small}
+
+-- ---- a letter and a comma
+
+few : (l : List ℕ) (c : ℕ) → length l < 2 → false ≡ equal (take 2 l) (c ∷ 44 ∷ [])
+unfolding equal
+few [] c h = refl
+few (x ∷ []) c h = go (eqb x c)
+  where
+    go : (t : Bool) → false ≡ cond t false false
+    go true = refl
+    go false = refl
+few (x ∷ y ∷ l) c h = absurd (omega arith)
+
+module _ (s : List ℕ) (at e c : ℕ) where
+  pub begins-short : at ≤ e → e ≤ length s → e - at < 2 → false ≡ equal (take 2 (cut s at e)) (c ∷ 44 ∷ [])
+  begins-short h k l = few (cut s at e) c (rw (cut-length s at e k) l)
+
+  module _ (k : e ≤ length s) (l : 2 ≤ e - at) where
+    two : take 2 (cut s at e) ≡ getD s at 0 ∷ getD s (at + 1) 0 ∷ []
+    two = rw (cut-step s at e (omega arith) k, cut-step s (at + 1) e (omega arith) k) refl
+
+    pub begins-other : (getD s at 0 ≡ c → ⊥) → false ≡ equal (take 2 (cut s at e)) (c ∷ 44 ∷ [])
+    unfolding equal
+    begins-other n = rw (two, ne-eqb _ _ n) refl
+
+    pub begins-comma : getD s at 0 ≡ c → eqb (getD s (at + 1) 0) 44 ≡ equal (take 2 (cut s at e)) (c ∷ 44 ∷ [])
+    unfolding equal
+    begins-comma n = rw (two, eq-eqb _ _ n) (go (eqb (getD s (at + 1) 0) 44))
+      where
+        go : (t : Bool) → t ≡ cond t true false
+        go true = refl
+        go false = refl
+
+  pub begins-long : (t : Bool) → t ≡ equal (take 2 (cut s at e)) (c ∷ 44 ∷ []) → t ≡ true → at ≤ e → e + 2 ≤ length s → at + 2 ≤ e
+  begins-long t u d h k = go (leb 2 (e - at)) refl
+    where
+      go : (b : Bool) → leb 2 (e - at) ≡ b → at + 2 ≤ e
+      go true z = omega (arith, borrow.Author.Tests.leb-true 2 (e - at) z)
+      go false z =
+          absurd
+          (let y : false ≡ true = begins-short h (omega arith) (borrow.Author.Tests.leb-false 2 (e - at) z) ∙ sym u ∙ d in
+          let w : _≡_ {A = ℕ} 0 1 = cc in omega arith)
+
+-- ---- a part of the input behind a command line
+
+module _ (s : List ℕ) (at n : ℕ) (f : List ℕ → Rattle.rules.specs.Replay.Command) where
+  with-short : length s - at < n → withBytes f n (from s at) ≡ none
+  unfolding withBytes
+  with-short h = rw (from-length s at, lt-leb _ _ h) refl
+
+  with-whole : n ≤ length s - at → withBytes f n (from s at) ≡ some record { command = f (cut s at (at + n)); others = from s (at + n) }
+  unfolding withBytes
+  with-whole h = rw (from-length s at, le-leb _ _ h, from-take, from-drop) refl
+
+-- ---- `M,length`
+
+module _ (s : List ℕ) (at e : ℕ) (q : Num) (u : numOf q ≡ lengthOf (cut s (at + 2) e)) where
+  pub message-none : q ≡ Bad → Commanding s (messageLine s at e) End
+  unfolding messageLine commandedOf Placed
+  message-none w = record { same = let z : lengthOf (cut s (at + 2) e) ≡ none = sym u ∙ ap numOf w in rw z refl; places = tt }
+
+  module _ (n : ℕ) (w : q ≡ Value n) where
+    known : lengthOf (cut s (at + 2) e) ≡ some n
+    known = sym u ∙ ap numOf w
+
+    pub message-short : length s - (e + 2) < n → Commanding s (messageLine s at e) End
+    unfolding messageLine commandedOf Placed
+    message-short h = record { same = rw (known, with-short s (e + 2) n sends h) refl; places = tt }
+
+    pub message-whole : e + 2 ≤ length s → n ≤ length s - (e + 2) → Commanding s (messageLine s at e) (Sends (e + 2) (e + 2 + n))
+    unfolding messageLine commandedOf Placed
+    message-whole k h = record { same = rw (known, with-whole s (e + 2) n sends h) refl; places = (omega arith, omega arith) }
+
+-- ---- `T,day`
+
+module _ (s : List ℕ) (at e : ℕ) (q : Num) (u : numOf q ≡ sixDigits (cut s (at + 2) e)) where
+  pub turn-none : q ≡ Bad → Commanding s (turnLine s at e) End
+  unfolding turnLine commandedOf Placed
+  turn-none w = record { same = let z : sixDigits (cut s (at + 2) e) ≡ none = sym u ∙ ap numOf w in rw z refl; places = tt }
+
+  pub turn-day : (n : ℕ) → q ≡ Value n → e + 2 ≤ length s → Commanding s (turnLine s at e) (Turns n (e + 2))
+  unfolding turnLine commandedOf Placed
+  turn-day n w k = record { same = let z : sixDigits (cut s (at + 2) e) ≡ some n = sym u ∙ ap numOf w in rw z refl; places = k }
+
+-- ---- `O,day,length`
+
+no-comma : (l : List ℕ) → length l ≡ 0 → equal (take 1 l) (ascii ",") ≡ false
+unfolding equal
+no-comma [] h = refl
+no-comma (x ∷ l) h = absurd (omega arith)
+
+module _ (s : List ℕ) (at e : ℕ) where
+  pub open-short : e + 2 ≤ length s → e - at < 9 → Commanding s (openLine s at e) End
+  unfolding openLine commandedOf Placed
+  open-short k h = record { same = rw (no-comma (cut s (at + 8) e) (cut-length s (at + 8) e (omega arith) ∙ omega arith)) refl; places = tt }
+
+  module _ (k : e + 2 ≤ length s) (h : 9 ≤ e - at) where
+    comma : take 1 (cut s (at + 8) e) ≡ getD s (at + 8) 0 ∷ []
+    comma = rw (cut-step s (at + 8) e (omega arith) (omega arith)) refl
+
+    pub open-other : (getD s (at + 8) 0 ≡ 44 → ⊥) → Commanding s (openLine s at e) End
+    unfolding openLine commandedOf Placed equal
+    open-other n = record { same = rw (comma, ne-eqb _ _ n) refl; places = tt }
+
+    module _ (m : getD s (at + 8) 0 ≡ 44) (q : Num) (u : numOf q ≡ sixDigits (cut s (at + 2) (at + 8))) where
+      line-is : openLine s at e ≡ then (sixDigits (cut s (at + 2) (at + 8))) (λ d. then (lengthOf (cut s (at + 9) e)) (λ n. withBytes (opens d) n (from s (e + 2))))
+      unfolding openLine equal
+      line-is =
+          let z : take 6 (cut s (at + 2) e) ≡ cut s (at + 2) (at + 8) = cut-take s (at + 2) e 6 (omega arith) ∙ ap (cut s (at + 2)) (omega arith) in
+          rw (comma, eq-eqb _ _ m, z) refl
+
+      pub open-no-day : q ≡ Bad → Commanding s (openLine s at e) End
+      unfolding commandedOf Placed
+      open-no-day w = record { same = let z : sixDigits (cut s (at + 2) (at + 8)) ≡ none = sym u ∙ ap numOf w in rw (line-is, z) refl; places = tt }
+
+      module _ (d : ℕ) (w : q ≡ Value d) (p : Num) (v : numOf p ≡ lengthOf (cut s (at + 9) e)) where
+        day-is : sixDigits (cut s (at + 2) (at + 8)) ≡ some d
+        day-is = sym u ∙ ap numOf w
+
+        pub open-no-length : p ≡ Bad → Commanding s (openLine s at e) End
+        unfolding commandedOf Placed
+        open-no-length y = record { same = let z : lengthOf (cut s (at + 9) e) ≡ none = sym v ∙ ap numOf y in rw (line-is, day-is, z) refl; places = tt }
+
+        module _ (n : ℕ) (y : p ≡ Value n) where
+          length-is : lengthOf (cut s (at + 9) e) ≡ some n
+          length-is = sym v ∙ ap numOf y
+
+          pub open-cut : length s - (e + 2) < n → Commanding s (openLine s at e) End
+          unfolding commandedOf Placed
+          open-cut l = record { same = rw (line-is, day-is, length-is, with-short s (e + 2) n (opens d) l) refl; places = tt }
+
+          pub open-whole : n ≤ length s - (e + 2) → Commanding s (openLine s at e) (Opens d (e + 2) (e + 2 + n))
+          unfolding commandedOf Placed
+          open-whole l = record { same = rw (line-is, day-is, length-is, with-whole s (e + 2) n (opens d) l) refl; places = (omega arith, omega arith) }
+
+-- ---- by its letter
+
+module _ (s : List ℕ) (at e : ℕ) where
+  pub by-message : {r : Command} (t : Bool) → t ≡ equal (take 2 (cut s at e)) (77 ∷ 44 ∷ []) → t ≡ true → Commanding s (messageLine s at e) r
+      → Commanding s (commandOf (cut s at e) (from s (e + 2))) r
+  unfolding commandOf messageLine
+  by-message t u d c = record { same = rw (← u, d, cut-drop) (c .same); places = c .places }
+
+  module _ (t : Bool) (u : t ≡ equal (take 2 (cut s at e)) (77 ∷ 44 ∷ [])) (d : t ≡ false) where
+    pub by-turn : {r : Command} (t₂ : Bool) → t₂ ≡ equal (take 2 (cut s at e)) (84 ∷ 44 ∷ []) → t₂ ≡ true → Commanding s (turnLine s at e) r
+        → Commanding s (commandOf (cut s at e) (from s (e + 2))) r
+    unfolding commandOf turnLine
+    by-turn t₂ u₂ d₂ c = record { same = rw (← u, d, ← u₂, d₂, cut-drop) (c .same); places = c .places }
+
+    module _ (t₂ : Bool) (u₂ : t₂ ≡ equal (take 2 (cut s at e)) (84 ∷ 44 ∷ [])) (d₂ : t₂ ≡ false) where
+      pub by-open : {r : Command} (t₃ : Bool) → t₃ ≡ equal (take 2 (cut s at e)) (79 ∷ 44 ∷ []) → t₃ ≡ true → Commanding s (openLine s at e) r
+          → Commanding s (commandOf (cut s at e) (from s (e + 2))) r
+      unfolding commandOf openLine
+      by-open t₃ u₃ d₃ c = record { same = rw (← u, d, ← u₂, d₂, ← u₃, d₃, cut-drop, cut-drop, cut-drop) (c .same); places = c .places }
+
+      pub by-none : (t₃ : Bool) → t₃ ≡ equal (take 2 (cut s at e)) (79 ∷ 44 ∷ []) → t₃ ≡ false → Commanding s (commandOf (cut s at e) (from s (e + 2))) End
+      unfolding commandOf commandedOf Placed
+      by-none t₃ u₃ d₃ = record { same = rw (← u, d, ← u₂, d₂, ← u₃, d₃) refl; places = tt }
+
+-- ---- by its line
+
+module _ (s : List ℕ) (at : ℕ) (l : Next) (h : LineAt s at l) where
+  pub line-start : (e : ℕ) → l ≡ Line e → at ≤ e
+  line-start e k = line-told s at l h e k .start
+
+  pub line-room : (e : ℕ) → l ≡ Line e → e + 2 ≤ length s
+  line-room e k = line-told s at l h e k .room
+
+  pub command-line : (e : ℕ) → l ≡ Line e → {r : Command} → Commanding s (commandOf (cut s at e) (from s (e + 2))) r → Commanding s (command (from s at)) r
+  unfolding command
+  command-line e k c = record { same = rw (line-told s at l h e k .same) (c .same); places = c .places }
+
+  pub command-none : l ≡ NoNext → Commanding s (command (from s at)) End
+  unfolding command commandedOf Placed
+  command-none k = record { same = rw (no-line-told s at l h k .same) refl; places = tt }
+
+pub ruleset commanded = (begins-short, begins-other, begins-comma, begins-long, message-none, message-short, message-whole, turn-none, turn-day, open-short, open-other, open-no-day, open-no-length, open-cut, open-whole, by-message, by-turn, by-open, by-none, line-start, line-room, command-line, command-none, six-small, length-small)

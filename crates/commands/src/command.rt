@@ -1,0 +1,113 @@
+// Commands.
+use crate::number::read_length;
+use crate::number::six_digits;
+use lines::Next;
+use text::Num;
+ghost use mathlib.Core.Path.{_≡_};
+ghost use mathlib.Core.List.{[], _∷_};
+ghost use Prim.Native.Nat.{_+_, _≤_};
+ghost use lib.ListN.{length, take};
+ghost use Rattle.rules.specs.Text.{equal};
+ghost use Rattle.rules.specs.Replay.{commandOf, command};
+ghost use Rattle.laws.specs.Parts.{cut, from};
+ghost use Rattle.commands.specs.Answers.{Commanding, messageLine, turnLine, openLine};
+
+// A command by its places in the input: an opening's day and register, a message, a turn's day and the place behind it.
+pub enum Command {
+    Opens(u32, usize, usize),
+    Sends(usize, usize),
+    Turns(u32, usize),
+    End,
+}
+
+// Does the line begin with the letter and a comma?
+fn begins(s: &[u8], at: usize, e: usize, c: u8) -> bool
+    requires { ⌜ (at ≤ e) × (e ≤ length (now s)) ⌝ }
+    ensures { λ r. ⌜ r ≡ equal (take 2 (cut (now (s .entry)) at e)) (c ∷ 44 ∷ []) ⌝ }
+{
+    if e - at < 2 {
+        return false;
+    }
+    if s[at] != c {
+        return false;
+    }
+    s[at + 1] == 44
+}
+
+// `M,length` and a message.
+fn message_command(s: &[u8], at: usize, e: usize) -> Command
+    requires { ⌜ (at + 2 ≤ e) × (e + 2 ≤ length (now s)) ⌝ }
+    ensures { λ r. ⌜ Commanding (now (s .entry)) (messageLine (now (s .entry)) at e) r ⌝ }
+{
+    let Num::Value(n) = read_length(s, at + 2, e) else {
+        return Command::End;
+    };
+    let start = e + 2;
+    if s.len() - start < n as usize {
+        return Command::End;
+    }
+    Command::Sends(start, start + n as usize)
+}
+
+// `T,day`.
+fn turn_command(s: &[u8], at: usize, e: usize) -> Command
+    requires { ⌜ (at + 2 ≤ e) × (e + 2 ≤ length (now s)) ⌝ }
+    ensures { λ r. ⌜ Commanding (now (s .entry)) (turnLine (now (s .entry)) at e) r ⌝ }
+{
+    let Num::Value(day) = six_digits(s, at + 2, e) else {
+        return Command::End;
+    };
+    Command::Turns(day as u32, e + 2)
+}
+
+// `O,day,length` and a register.
+fn open_command(s: &[u8], at: usize, e: usize) -> Command
+    requires { ⌜ (at + 2 ≤ e) × (e + 2 ≤ length (now s)) ⌝ }
+    ensures { λ r. ⌜ Commanding (now (s .entry)) (openLine (now (s .entry)) at e) r ⌝ }
+{
+    if e - at < 9 {
+        return Command::End;
+    }
+    if s[at + 8] != 44 {
+        return Command::End;
+    }
+    let Num::Value(day) = six_digits(s, at + 2, at + 8) else {
+        return Command::End;
+    };
+    let Num::Value(n) = read_length(s, at + 9, e) else {
+        return Command::End;
+    };
+    let start = e + 2;
+    if s.len() - start < n as usize {
+        return Command::End;
+    }
+    Command::Opens(day as u32, start, start + n as usize)
+}
+
+// The command of the line from at to e.
+fn line_command(s: &[u8], at: usize, e: usize) -> Command
+    requires { ⌜ (at ≤ e) × (e + 2 ≤ length (now s)) ⌝ }
+    ensures { λ r. ⌜ Commanding (now (s .entry)) (commandOf (cut (now (s .entry)) at e) (from (now (s .entry)) (e + 2))) r ⌝ }
+{
+    if begins(s, at, e, b'M') {
+        return message_command(s, at, e);
+    }
+    if begins(s, at, e, b'T') {
+        return turn_command(s, at, e);
+    }
+    if begins(s, at, e, b'O') {
+        return open_command(s, at, e);
+    }
+    Command::End
+}
+
+// The command at a place of the input.
+pub fn read_command(s: &[u8], at: usize) -> Command
+    requires { ⌜ at ≤ length (now s) ⌝ }
+    ensures { λ r. ⌜ Commanding (now (s .entry)) (command (from (now (s .entry)) at)) r ⌝ }
+{
+    match lines::next_line(s, at) {
+        Next::Line(e) => line_command(s, at, e),
+        Next::Bad => Command::End,
+    }
+}
