@@ -7,3 +7,4 @@ pub mod Positions
 pub mod References
 pub mod Accepted
 pub mod Keeps
+pub mod Calls
