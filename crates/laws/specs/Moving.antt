@@ -4,7 +4,7 @@ use mathlib.Core.Path.{_≡_, refl, sym, ap, _∙_}
 use mathlib.Core.Bool.{Bool, true, false}
 use mathlib.Core.List.{List, [], _∷_, _++_, append-nil}
 use Prim.Native.Nat.{ℕ, suc, _+_, _-_, _*_, _≤_, _<_}
-use native.Mathlib.Nat.{add-zero, mul-suc, mul-sub, mul-le-mul-left}
+use native.Mathlib.Nat.{add-zero, mul-suc, mul-add, mul-sub, mul-le-mul-left}
 use native.Mathlib.Numerals.{add-one}
 use native.Mathlib.Omega.{arith}
 use lib.ListN.{length, getD, take, drop, set, length-set, length-append, length-drop}
@@ -70,20 +70,47 @@ module _ {a b : List ℕ} {here there : ℕ} where
       let f : m - 0 ≡ n = omega arith in
       rw (e, f, add-zero here, add-zero there) at (t .now)
 
+-- ---- a record's place, for an area of a size
+
+-- before record i of count there is room for one more: those from i on go up by a record
+pub record Opens (base w count i size : ℕ) : Type 0 where
+  pub low : i ≤ count
+  pub parts : w * i + w * (count - i) ≡ w * count
+  pub room : base + w * count + w ≤ size
+
+-- record i goes down to the place of record j
+pub record Lowers (base w i j size : ℕ) : Type 0 where
+  pub order : w * j ≤ w * i
+  pub room : base + w * i + w ≤ size
+
+pub opens : (base w count i size : ℕ) → i ≤ count → base + w * suc count ≤ size → Opens base w count i size
+opens base w count i size h l = record {
+  low = h;
+  parts = sym (mul-add w i (count - i)) ∙ ap (λ (k : ℕ). w * k) (omega arith);
+  room = omega (arith, mul-suc w count);
+}
+
+pub lowers : (base w count i j size : ℕ) → j ≤ i → i < count → base + w * count ≤ size → Lowers base w i j size
+lowers base w count i j size h l r = record {
+  order = mul-le-mul-left w h;
+  room = omega (arith, mul-le-mul-left w l, mul-suc w i);
+}
+
 -- ---- a loop over n records at base: of the first i those that pass a test are moved to the front, j of them; a is the area before
 
 pub record Keeping (p : List ℕ → Bool) (w n base : ℕ) (a : List ℕ) (i j : ℕ) (b : List ℕ) : Type 0 where
   pub done : i ≤ n
   pub few : j ≤ i
+  pub room : base + w * n ≤ length a
   pub size : length b ≡ length a
   pub count : j ≡ length (passing p (recordsOf w i (drop base a)))
   pub now : b ≡ laid (joined (passing p (recordsOf w i (drop base a)))) base a
 
-pub keeping-none : (p : List ℕ → Bool) (w n base : ℕ) (a : List ℕ) → Keeping p w n base a 0 0 a
+pub keeping-none : (p : List ℕ → Bool) (w n base : ℕ) (a : List ℕ) → base + w * n ≤ length a → Keeping p w n base a 0 0 a
 unfolding laid joined passing recordsOf
-keeping-none p w n base a = record { done = omega arith; few = omega arith; size = refl; count = refl; now = refl }
+keeping-none p w n base a r = record { done = omega arith; few = omega arith; room = r; size = refl; count = refl; now = refl }
 
-module _ {p : List ℕ → Bool} {w n base i j : ℕ} {a b : List ℕ} {t : Bool} (g : Keeping p w n base a i j b) (r : base + w * n ≤ length a) (h : i < n) (q : t ≡ p (take w (drop (base + w * i) b))) where
+module _ {p : List ℕ → Bool} {w n base i j : ℕ} {a b : List ℕ} {t : Bool} (g : Keeping p w n base a i j b) (h : i < n) (q : t ≡ p (take w (drop (base + w * i) b))) where
   K : List (List ℕ)
   K = passing p (recordsOf w i (drop base a))
 
@@ -93,7 +120,7 @@ module _ {p : List ℕ → Bool} {w n base i j : ℕ} {a b : List ℕ} {t : Bool
   K-length : length (joined K) ≡ w * j
   unfolding K
   K-length =
-      joined-length (each-passing p (records-each w i (drop base a) (rw length-drop (omega (arith, mul-le-mul-left w h, mul-suc w i)))))
+      joined-length (each-passing p (records-each w i (drop base a) (rw length-drop (omega (arith, g .room, mul-le-mul-left w h, mul-suc w i)))))
       ∙ ap (λ (k : ℕ). w * k) (sym (g .count))
 
   -- record i is as it was
@@ -114,6 +141,7 @@ module _ {p : List ℕ → Bool} {w n base i j : ℕ} {a b : List ℕ} {t : Bool
       let e : passing p (recordsOf w (i + 1) (drop base a)) ≡ K = next ∙ rw (z, append-nil) in record {
         done = omega arith;
         few = omega (arith, g .few);
+        room = g .room;
         size = g .size;
         count = rw e (g .count);
         now = rw e (g .now);
@@ -126,6 +154,7 @@ module _ {p : List ℕ → Bool} {w n base i j : ℕ} {a b : List ℕ} {t : Bool
       let e : passing p (recordsOf w (i + 1) (drop base a)) ≡ K ++ x ∷ [] = next ∙ rw z in record {
         done = omega arith;
         few = omega (arith, g .few);
+        room = g .room;
         size = ap length m ∙ laid-length (take w (drop (base + w * i) b)) (base + w * j) b ∙ g .size;
         count = rw (e, length-append) (omega (arith, g .count));
         now = rw (e, joined-append, append-nil, laid-append, K-length, ← g .now, ← same) m;
@@ -136,14 +165,14 @@ pub record Sifted (p : List ℕ → Bool) (w n base : ℕ) (a : List ℕ) (j : �
   pub count : j ≡ length (passing p (recordsOf w n (drop base a)))
   pub bytes : b ≡ laid (padded (w * n) (joined (passing p (recordsOf w n (drop base a))))) base a
 
-pub keeping-end : {p : List ℕ → Bool} {w n base i j m : ℕ} {a b b' : List ℕ} → Keeping p w n base a i j b → base + w * n ≤ length a → n ≤ i
+pub keeping-end : {p : List ℕ → Bool} {w n base i j m : ℕ} {a b b' : List ℕ} → Keeping p w n base a i j b → n ≤ i
     → Wrote (zeros (w * (n - j))) (base + w * j) b m b' → Sifted p w n base a j b'
 unfolding padded
-keeping-end {p} {w} {n} {base} {i} {j} {a = a} g r h v =
+keeping-end {p} {w} {n} {base} {i} {j} {a = a} g h v =
     let K : List (List ℕ) = passing p (recordsOf w n (drop base a)) in
     let e : i ≡ n = omega (arith, g .done) in
     let c : j ≡ length K = rw e at (g .count) in
-    let k : length (joined K) ≡ w * j = joined-length (each-passing p (records-each w n (drop base a) (rw length-drop (omega arith)))) ∙ ap (λ (x : ℕ). w * x) (sym c) in
+    let k : length (joined K) ≡ w * j = joined-length (each-passing p (records-each w n (drop base a) (rw length-drop (omega (arith, g .room))))) ∙ ap (λ (x : ℕ). w * x) (sym c) in
     let z : w * n - w * j ≡ w * (n - j) = sym (mul-sub w n j) in record {
       count = c;
       bytes = rw (laid-append, k, z) (v .output ∙ ap (laid (zeros (w * (n - j))) (base + w * j)) (rw e at (g .now)));

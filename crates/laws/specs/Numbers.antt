@@ -1,19 +1,22 @@
 -- What was written as a number is read as that number, and what was read is written as it stood: one law each over the base, and
 -- its two uses, digits and big-endian bytes. Assumes nothing.
 use mathlib.Core.Path.{_≡_, refl, sym, ap, _∙_}
-use mathlib.Core.Bool.{Bool, true, false}
+use mathlib.Core.Bool.{Bool, true, false, _||_, cond}
 use mathlib.Core.List.{List, [], _∷_}
 use mathlib.Core.Option.{Option, none, some}
 use Prim.Native.Nat.{ℕ, zero, suc, _+_, _-_, _*_, _/_, _%_, _^_, _≤_, _<_}
 use native.Mathlib.Nat.{pow-zero, pow-suc, pow-succ', mul-assoc, add-mul, mul-one, one-le-pow, mod-one, mod-lt, mod-eq-of-lt, add-assoc, suc-mul, mul-le-mul-right, lt-of-lt-of-le, div-one, div-div-eq-div-mul, add-sub-cancel-left}
 use native.Mathlib.Omega.{arith}
 use lib.Arith.{mod-mul, digits-div, digits-mod}
-use lib.Dec.{lit<}
-use lib.ListN.{length, getD}
-use borrow.Author.Tests.{le-leb}
-use Rattle.rules.specs.Text.{isDigit, places, width, fixed, bytes, decimal, digits, digitsFrom, number, numberFrom}
+use lib.Dec.{lit<, eqb}
+use lib.ListN.{length, getD, take, drop}
+use borrow.Author.Tests.{le-leb, eqb-true}
+use Rattle.rules.specs.Text.{ascii, isDigit, isLetter, isAlnum, fits, fitsSign, places, width, fixed, bytes, decimal, digits, digitsFrom, number, numberFrom}
+use Rattle.rules.specs.Accounts.{isBic}
+use Rattle.laws.specs.Parts.{cut, cut-length}
+use Rattle.laws.specs.Tests.{between-high, cond-right}
 use Rattle.laws.specs.Digits.{width-power}
-use Rattle.laws.specs.Reading.{digit-low, digit-high}
+use Rattle.laws.specs.Reading.{digit-low, digit-high, fits-length}
 
 -- the number v and then some places behind it, to a base
 unfoldable valueFrom : ℕ → ℕ → ℕ → List ℕ → ℕ
@@ -131,3 +134,63 @@ digits-small cs n h =
     let f : n ≡ valueFrom 10 48 0 cs = cc in
     let l : valueFrom 10 48 0 cs < 1 * 10 ^ length cs = value-small 0 s in
     rw f (omega arith)
+
+-- ---- parts, and banks
+
+within-take : {base null : ℕ} {cs : List ℕ} (k : ℕ) → Within base null cs → Within base null (take k cs)
+within-take zero s = no-place
+within-take (suc k) no-place = no-place
+within-take (suc k) (and-place h l s) = and-place h l (within-take k s)
+
+within-drop : {base null : ℕ} {cs : List ℕ} (k : ℕ) → Within base null cs → Within base null (drop k cs)
+within-drop zero s = s
+within-drop (suc k) no-place = no-place
+within-drop (suc k) (and-place h l s) = within-drop k s
+
+pub within-cut : {base null : ℕ} {cs : List ℕ} (a b : ℕ) → Within base null cs → Within base null (cut cs a b)
+unfolding cut
+within-cut a b s = within-drop a (within-take b s)
+
+-- a part of a slice is the bytes of its number
+pub bytes-cut : (s : List ℕ) (a b : ℕ) → ((i : ℕ) → getD s i 0 < 256) → b ≤ length s → bytes (b - a) (number (cut s a b)) ≡ cut s a b
+bytes-cut s a b h k = rw (← cut-length s a b k) (bytes-number (within-cut a b (bytes-within s h)))
+
+-- what fits a pattern of bytes is bytes
+sign-within : (p c : ℕ) → p < 256 → fitsSign p c ≡ true → c < 256
+unfolding fitsSign isDigit isLetter isAlnum
+sign-within p c l h = go (eqb p 110) (eqb p 97) (eqb p 99) h
+  where
+    go : (x y z : Bool) → cond x (isDigit c) (cond y (isLetter c) (cond z (isAlnum c) (eqb p c))) ≡ true → c < 256
+    go true y z e = omega (arith, between-high 48 57 c e)
+    go false true z e = omega (arith, between-high 65 90 c e)
+    go false false true e = alnum (isDigit c) refl e
+      where
+        alnum : (d : Bool) → isDigit c ≡ d → (d || isLetter c) ≡ true → c < 256
+        alnum true f e = omega (arith, between-high 48 57 c f)
+        alnum false f e = omega (arith, between-high 65 90 c e)
+    go false false false e = omega (arith, eqb-true p c e)
+
+cond-true : (a b : Bool) → cond a b false ≡ true → a ≡ true
+cond-true true b h = refl
+cond-true false b h = h
+
+pub fits-within : {ps : List ℕ} (cs : List ℕ) → Within 256 0 ps → fits ps cs ≡ true → Within 256 0 cs
+unfolding fits
+fits-within [] s h = no-place
+fits-within (c ∷ cs) no-place h = absurd (let z : _≡_ {A = ℕ} 0 1 = cc in omega arith)
+fits-within (c ∷ cs) (and-place {c = p} {cs = ps} k l s) h =
+    let f : fitsSign p c ≡ true = cond-true (fitsSign p c) (fits ps cs) h in
+    and-place {c = c} (omega arith) (omega (arith, sign-within p c (omega arith) f)) (fits-within cs s (cond-right (fitsSign p c) (fits ps cs) h))
+
+-- a BIC is the bytes of its number
+bic-within : (cs : List ℕ) → isBic cs ≡ true → Within 256 0 cs
+unfolding isBic places numberFrom
+bic-within cs h = fits-within cs (places-within 256 0 8 (number (ascii "aaaaaacc")) (lit< tt)) h
+
+pub bic-number : (cs : List ℕ) → isBic cs ≡ true → bytes 8 (number cs) ≡ cs
+unfolding isBic
+bic-number cs h = rw (← fits-length (ascii "aaaaaacc") cs h) at (bytes-number (bic-within cs h))
+
+pub bic-small : (cs : List ℕ) → isBic cs ≡ true → number cs < 256 ^ 8
+unfolding isBic
+bic-small cs h = rw (← fits-length (ascii "aaaaaacc") cs h) at (number-small (bic-within cs h))
