@@ -1,0 +1,4 @@
+pub mod Table
+pub mod Fits
+pub mod Spans
+pub mod Rows

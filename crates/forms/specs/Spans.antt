@@ -1,0 +1,66 @@
+-- Parts of a message, as the code holds them.
+use mathlib.Core.Path.{_≡_, refl}
+use mathlib.Core.List.{List, [], _∷_, _++_, map, map-append}
+use Prim.Native.Nat.{ℕ, zero, suc, _+_, _≤_, _<_}
+use native.Mathlib.Numerals.{add-one}
+use native.Mathlib.Omega.{arith}
+use lib.ListN.{length, getD, take, set, replicate}
+use lib.Seq.{take-suc-set}
+use Rattle.rules.specs.Lines.{Line}
+use Rattle.laws.specs.Parts.{cut}
+use Rattle.forms.specs.declared.rows.Span.{Span}
+
+-- the bytes of a part
+abbrev pub spanOf : List ℕ → Span → List ℕ
+spanOf s p = cut s (p .start) (p .end)
+
+-- the part of no bytes
+abbrev pub noSpan : Span
+noSpan = record { start = 0; end = 0 }
+
+-- p is the part from a up to e
+pub record SpanIs (a e : ℕ) (p : Span) : Type 0 where
+  pub start : p .start ≡ a
+  pub end : p .end ≡ e
+
+-- the part lies within the text
+pub record SpanIn (s : List ℕ) (p : Span) : Type 0 where
+  pub order : p .start ≤ p .end
+  pub room : p .end ≤ length s
+
+-- ---- a list of parts
+
+-- each lies within the text
+pub record Within (s : List ℕ) (l : List Span) : Type 0 where
+  pub span : (i : ℕ) → SpanIn s (getD l i noSpan)
+
+pub within-none : (s : List ℕ) (n : ℕ) → Within s (replicate n noSpan)
+within-none s n = record { span = go n }
+  where
+    go : (n i : ℕ) → SpanIn s (getD (replicate n noSpan) i noSpan)
+    go zero i = record { order = omega arith; room = omega arith }
+    go (suc n) zero = record { order = omega arith; room = omega arith }
+    go (suc n) (suc i) = go n i
+
+pub within-set : (s : List ℕ) (l : List Span) (k : ℕ) (p : Span) → Within s l → SpanIn s p → Within s (set l k p)
+within-set s l k p w h = record { span = go l k (w .span) }
+  where
+    go : (l : List Span) (k : ℕ) → ((i : ℕ) → SpanIn s (getD l i noSpan)) → (i : ℕ) → SpanIn s (getD (set l k p) i noSpan)
+    go [] k f i = f i
+    go (q ∷ l) zero f zero = h
+    go (q ∷ l) zero f (suc i) = f (suc i)
+    go (q ∷ l) (suc k) f zero = f zero
+    go (q ∷ l) (suc k) f (suc i) = go l k (λ j. f (suc j)) i
+
+-- the lines that the first k of them hold
+unfoldable pub held : List ℕ → List Span → ℕ → List Line
+held s l k = map (spanOf s) (take k l)
+
+pub held-none : (s : List ℕ) (l : List Span) → held s l 0 ≡ []
+unfolding held
+held-none s l = refl
+
+-- one more line
+pub held-more : (s : List ℕ) (l : List Span) (k : ℕ) (p : Span) → k < length l → held s (set l k p) (k + 1) ≡ held s l k ++ (spanOf s p ∷ [])
+unfolding held
+held-more s l k p h = rw (add-one k, take-suc-set l k p h) (map-append (spanOf s) (take k l) (p ∷ []))

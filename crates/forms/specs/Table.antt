@@ -1,0 +1,151 @@
+-- The table of rows as the code holds it, and that it is document 01's.
+use mathlib.Core.Path.{_≡_, refl}
+use mathlib.Core.Bool.{Bool, true, false, cond}
+use mathlib.Core.List.{List, [], _∷_, _++_, map}
+use Prim.Native.Nat.{ℕ, zero, suc, _+_, _-_, _≤_, _<_}
+use native.Mathlib.Omega.{arith}
+use native.Mathlib.Numerals.{add-one}
+use lib.Dec.{leb}
+use lib.ListN.{length, getD, take, drop}
+use lib.Seq.{drop-cons}
+use borrow.Author.Tests.{leb-true}
+use Rattle.rules.specs.Text.{ascii}
+use Rattle.rules.specs.Forms as F
+use Rattle.rules.specs.Forms.{nothing, text, reference, account, name, sum, transferRows, detailRows}
+use Rattle.laws.specs.Parts.{cut}
+use Rattle.laws.specs.Tests.{cond-right}
+use Rattle.forms.specs.declared.table.Rest.{Rest}
+use Rattle.forms.specs.declared.table.Rest.the-variants.{Nothing, Text, Reference, Account, Name, Sum}
+use Rattle.forms.specs.declared.table.Row.{Row}
+
+-- the patterns of all rows, one behind the other
+unfoldable pub heads : List ℕ
+heads = ascii ":20::23B:CRED:32A:nnnnnnaaa:50K:/:52D:aaaannnn:57D:aaaannnn:59:/:71A:aaa:72:/DTYPE/PORD/BAEREF/nnnnnn/CENTRB/:21::32B:aaa:50H:/ccccccccccccccccccccccPAYnnnnnn:70:CENTRBnnnnnnBAEREFnnnnnn"
+
+abbrev row : ℕ → ℕ → Rest → Bool → Row
+row b n r m = record { 0 = b; 1 = n; 2 = r; 3 = m }
+
+-- the row of no line
+abbrev pub noRow : Row
+noRow = row 0 0 Nothing false
+
+-- the rows of MT103, and of a detail of an MT101
+unfoldable pub codes : List Row
+codes =
+    row 0 4 Reference false
+    ∷ row 4 9 Nothing false
+    ∷ row 13 14 Sum false
+    ∷ row 27 6 Account false
+    ∷ row 0 0 Text false
+    ∷ row 0 0 Text true
+    ∷ row 0 0 Text true
+    ∷ row 33 13 Nothing false
+    ∷ row 0 0 Text false
+    ∷ row 46 13 Nothing false
+    ∷ row 0 0 Text false
+    ∷ row 59 5 Account false
+    ∷ row 0 0 Text false
+    ∷ row 0 0 Text true
+    ∷ row 0 0 Text true
+    ∷ row 158 4 Text false
+    ∷ row 0 0 Text true
+    ∷ row 0 0 Text true
+    ∷ row 0 0 Text true
+    ∷ row 64 8 Nothing false
+    ∷ row 72 15 Nothing false
+    ∷ row 87 14 Name false
+    ∷ row 101 8 Nothing false
+    ∷ row 109 4 Reference false
+    ∷ row 113 8 Sum false
+    ∷ row 121 37 Nothing false
+    ∷ row 0 0 Text false
+    ∷ row 0 0 Text true
+    ∷ row 0 0 Text true
+    ∷ row 0 0 Text true
+    ∷ row 33 13 Nothing false
+    ∷ row 0 0 Text false
+    ∷ row 59 5 Account false
+    ∷ row 0 0 Text false
+    ∷ row 0 0 Text true
+    ∷ row 0 0 Text true
+    ∷ row 158 16 Nothing false
+    ∷ row 174 12 Name false
+    ∷ row 0 0 Text false
+    ∷ row 0 0 Text true
+    ∷ []
+
+-- what a row says
+abbrev pub restOf : Rest → F.Rest
+restOf Nothing = nothing
+restOf Text = text
+restOf Reference = reference
+restOf Account = account
+restOf Name = name
+restOf Sum = sum
+
+unfoldable pub rowOf : Row → F.Row
+rowOf r = record { head = cut heads (r .0) (r .0 + r .1); rest = restOf (r .2); may = r .3 }
+
+-- the rows of both forms
+unfoldable pub table : List F.Row
+table = transferRows ++ detailRows
+
+-- the code's table says what the paper's does
+pub tied : map rowOf codes ≡ table
+unfolding codes heads cut rowOf table
+tied = refl
+
+-- row k of the table, whose pattern lies within the heads
+pub record RowAt (k : ℕ) (r : Row) : Type 0 where
+  pub same : r ≡ getD codes k noRow
+  pub room : r .0 + r .1 ≤ 186
+
+-- ---- each row's pattern lies within the heads
+
+abbrev roomy : List Row → Bool
+roomy [] = true
+roomy (r ∷ rs) = let q = roomy rs in cond (leb (r .0 + r .1) 186) q false
+
+roomy-at : (rs : List Row) → roomy rs ≡ true → (k : ℕ) → getD rs k noRow .0 + getD rs k noRow .1 ≤ 186
+roomy-at [] h k = omega arith
+roomy-at (r ∷ rs) h zero = go (leb (r .0 + r .1) 186) refl h
+  where
+    go : (b : Bool) → leb (r .0 + r .1) 186 ≡ b → cond b (roomy rs) false ≡ true → r .0 + r .1 ≤ 186
+    go true e g = leb-true _ _ e
+    go false e g = absurd (let z : _≡_ {A = ℕ} 0 1 = cc in omega arith)
+roomy-at (r ∷ rs) h (suc k) = roomy-at rs (cond-right (leb (r .0 + r .1) 186) (roomy rs) h) k
+
+pub codes-room : (k : ℕ) → getD codes k noRow .0 + getD codes k noRow .1 ≤ 186
+unfolding codes
+codes-room = roomy-at codes refl
+
+pub heads-length : length heads ≡ 186
+unfolding heads
+heads-length = refl
+
+-- ---- some of its rows
+
+-- count rows, from row first on
+unfoldable pub part : ℕ → ℕ → List F.Row
+part first count = take count (drop first table)
+
+getD-map : (rs : List Row) (k : ℕ) → getD (map rowOf rs) k (rowOf noRow) ≡ rowOf (getD rs k noRow)
+getD-map [] k = refl
+getD-map (r ∷ rs) zero = refl
+getD-map (r ∷ rs) (suc k) = getD-map rs k
+
+table-length : length table ≡ 40
+unfolding table
+table-length = refl
+
+pub part-none : (first : ℕ) → part first 0 ≡ []
+unfolding part
+part-none first = refl
+
+-- the first row of some, as the code holds it, and the others
+pub part-step : (first count : ℕ) (r : Row) → RowAt first r → 0 < count → first + count ≤ 40 → part first count ≡ rowOf r ∷ part (first + 1) (count - 1)
+unfolding part
+part-step first zero r w h b = absurd (omega arith)
+part-step first (suc count) r w h b =
+    let e : suc count - 1 ≡ count = omega arith in
+    rw (e, add-one first, drop-cons table first (rowOf noRow) (omega (arith, table-length)), ← tied, getD-map codes first, w .same)
