@@ -18,7 +18,8 @@ use Rattle.text.specs.declared.numbers.Num.the-variants.{Value, Bad}
 use Rattle.rules.specs.Text.{ascii, isDigit, digitsFrom, digits, fits, fitsSign, then, given}
 use Rattle.rules.specs.Replay.{lengthOf, sixDigits}
 use Rattle.laws.specs.Parts.{cut, cut-step, cut-done, cut-length}
-use Rattle.laws.specs.Reading.{Placed, power, fits-length, digits-below}
+use Rattle.laws.specs.Reading.{Placed, power, fits-length}
+use Rattle.laws.specs.Numbers.{digits-small}
 use Rattle.laws.specs.Tests.{held-told}
 
 -- the number v and the digits behind it, where it is at most 8192
@@ -106,7 +107,7 @@ module _ (s : List ℕ) (a b : ℕ) (q : Num) (n : ℕ) (w : q ≡ Value n) wher
   six-small u = fits-under w32 n 1000000 (go (fits (ascii "nnnnnn") (cut s a b)) refl (sym u ∙ ap numOf w)) tt
     where
       go : (t : Bool) → fits (ascii "nnnnnn") (cut s a b) ≡ t → cond t (digits (cut s a b)) none ≡ some n → n < 1000000
-      go true z e = rw (← fits-length (ascii "nnnnnn") (cut s a b) z) at (digits-below (cut s a b) n e)
+      go true z e = rw (← fits-length (ascii "nnnnnn") (cut s a b) z) at (digits-small (cut s a b) n e)
       go false z e = absurd (let y : _≡_ {A = ℕ} 0 1 = cc in omega arith)
 
   pub length-small : numOf q ≡ lengthOf (cut s a b) → n ≤ 8192
