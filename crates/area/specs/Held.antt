@@ -13,11 +13,12 @@ use Rattle.rules.specs.Text.{bytes, equal, given}
 use Rattle.rules.specs.Engine.{Position, Reference, Engine, goodPosition, goodPositions, goodReference, goodReferences, within}
 use Rattle.rules.specs.Area.{zeros, padded, joined, referenceRecord, positionRecord, mark, header, encode, numberAt, referenceIn, positionIn, records, decode, holds}
 use Rattle.laws.specs.Digits.{places-length}
+use Rattle.laws.specs.Sections.{zeros-length, padded-length}
 use Rattle.laws.specs.Tests.{and-left, and-right, cond-right}
 use Rattle.area.specs.Facts.{cond-left, equal-true, equal-same, Gave, gave}
 use Rattle.area.specs.Registers.{register-length}
 use Rattle.area.specs.Limits.{Limits, limits, date-small}
-use Rattle.area.specs.Layout.{Kept, All, All.none, All.more, zeros-length, padded-length, part-at, number-at, joined-length, records-back, position-kept, reference-kept}
+use Rattle.area.specs.Layout.{Kept, All, All.none, All.more, part-at, number-at, joined-length, records-back, position-kept, reference-kept}
 
 -- ---- the records of an engine within its limits
 

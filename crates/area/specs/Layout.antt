@@ -13,20 +13,13 @@ use Rattle.rules.specs.Engine.{Position, Reference, Engine, limit, goodPosition
 use Rattle.rules.specs.Area.{zeros, padded, joined, referenceRecord, positionRecord, mark, header, encode, numberAt, untilZero, referenceIn, positionIn, records, decode, holds}
 use Rattle.laws.specs.Digits.{places-length}
 use Rattle.laws.specs.Numbers.{number-bytes}
+use Rattle.laws.specs.Sections.{padded-length}
 use Rattle.laws.specs.Tests.{and-left, and-right, cond-right, between-low, between-high}
 use Rattle.area.specs.Facts.{cond-left, never}
 use Rattle.area.specs.Registers.{register-length}
 use Rattle.area.specs.Limits.{Limits, limits, date-small, bank-small}
 
 -- ---- parts
-
-pub zeros-length : (n : ℕ) → length (zeros n) ≡ n
-unfolding zeros
-zeros-length n = length-replicate n 0
-
-pub padded-length : (n : ℕ) (cs : List ℕ) → length cs ≤ n → length (padded n cs) ≡ n
-unfolding padded
-padded-length n cs h = rw (length-append, zeros-length) (omega arith)
 
 -- a part of w bytes behind i bytes
 pub part-at : (a p x q : List ℕ) (i w : ℕ) → length p ≡ i → length x ≡ w → a ≡ p ++ (x ++ q) → take w (drop i a) ≡ x
