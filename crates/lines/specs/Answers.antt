@@ -4,9 +4,11 @@ use mathlib.Core.List.{List}
 use mathlib.Core.Option.{none, some}
 use Prim.Native.Nat.{ℕ, _+_, _≤_}
 use lib.ListN.{length}
+use denote.Ref.{RefT}
 use Rattle.rules.specs.Lines.{Taken, line}
 use Rattle.laws.specs.Parts.{cut, from}
 use Rattle.lines.specs.declared.line.Next.{Next}
+use Rattle.lines.specs.declared.reader.Reader.{Reader}
 use Rattle.lines.specs.declared.line.Next.the-variants.{Line, Bad}
 
 -- the line from `at` to `e`, and what stands behind its CR LF
@@ -38,3 +40,7 @@ module _ (s : List ℕ) (at : ℕ) (r : Next) (h : LineAt s at r) where
 
   pub no-line-told : r ≡ Bad → NoLine s at
   no-line-told k = subst (Told s at) k (h .told)
+
+-- the line reader over a text, at a place
+abbrev pub over : RefT (List ℕ) → ℕ → Reader
+over text at = record { text = text; at = at }

@@ -1,6 +1,6 @@
 // The frame of a message: its length, its lines, the closing line and the first line's form.
 use crate::line::Next;
-use crate::line::next_line;
+use crate::reader::next_line;
 use text::equal_parts;
 use text::fits_pattern;
 ghost use mathlib.Core.Path.{_≡_};

@@ -9,8 +9,8 @@ pub enum Next {
     Bad,
 }
 
-// The line that begins at `at`.
-pub fn next_line(s: &[u8], at: usize) -> Next
+// Where the line that begins at `at` ends.
+pub fn line_end(s: &[u8], at: usize) -> Next
     requires { ⌜ at ≤ length (now s) ⌝ }
     ensures { λ r. ⌜ LineAt (now (s .entry)) at r ⌝ }
 {

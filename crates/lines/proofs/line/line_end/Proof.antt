@@ -1,4 +1,4 @@
--- `lines::line::next_line` meets its contract. The loop's invariant: the bytes passed, before the first line of what is left, are the line. Assumes nothing.
+-- `lines::line::line_end` meets its contract. The loop's invariant: the bytes passed, before the first line of what is left, are the line. Assumes nothing.
 use Rattle.rules.specs.Lines.{lead, line}
 use Rattle.laws.specs.Parts.{cut, from}
 use lib.ListN.{length}
@@ -6,8 +6,8 @@ use Prim.Native.Nat.{_≤_, _-_}
 use mathlib.Core.Path.{_≡_}
 use borrow.Author.Needs.{needs}
 use Rattle.lines.specs.Laws.{framing}
-use Rattle.lines.proofs.line.next_line.Statement.{statement}
-use Rattle.lines.proofs.line.next_line.Tie as tie
+use Rattle.lines.proofs.line.line_end.Statement.{statement}
+use Rattle.lines.proofs.line.line_end.Tie as tie
 
 abbrev Inv-loop : tie.InvT-loop
 Inv-loop s at i₀ i = (at ≤ i) × (i ≤ length s) × (lead (cut s at i) (line (from s i)) ≡ line (from s at))
@@ -51,8 +51,8 @@ loop-again c = search (framing, needs)
 returns-4 : tie.Need-returns-4 Inv-loop μ-loop
 returns-4 c = search (framing, needs)
 
-pub next-line-spec : {M : Type 1} → statement M
-next-line-spec =
+pub line-end-spec : {M : Type 1} → statement M
+line-end-spec =
     tie.close
     (tie.spec
     Inv-loop
