@@ -1,0 +1,46 @@
+-- `written::corrections::put_refunded205` meets its contract: tag, day, currency, amount and line end. Assumes nothing.
+use borrow.Author.Needs.{needs}
+use Rattle.laws.specs.Pieces.{wrote-5}
+use Rattle.written.proofs.corrections.put_refunded205.Statement.{statement}
+use Rattle.written.proofs.corrections.put_refunded205.Tie as tie
+
+slice-aggregate-put-bytes : tie.Need-slice-aggregate-put-bytes
+slice-aggregate-put-bytes c = search needs
+
+put-bytes-requires : tie.Need-put-bytes-requires
+put-bytes-requires c κs = search needs
+
+put-fixed-requires : tie.Need-put-fixed-requires
+put-fixed-requires c κs = search needs
+
+slice-aggregate-put-bytes-2 : tie.Need-slice-aggregate-put-bytes-2
+slice-aggregate-put-bytes-2 c = search needs
+
+put-bytes-requires-2 : tie.Need-put-bytes-requires-2
+put-bytes-requires-2 c κs = search needs
+
+put-amount-requires : tie.Need-put-amount-requires
+put-amount-requires c κs = search needs
+
+put-end-requires : tie.Need-put-end-requires
+put-end-requires c κs = search needs
+
+same-length : tie.Need-same-length
+same-length c = search needs
+
+returns : tie.Need-returns
+returns c = search wrote-5
+
+pub put-refunded205-spec : {M : Type 1} → statement M
+put-refunded205-spec =
+    tie.close
+    (tie.spec
+    slice-aggregate-put-bytes
+    put-bytes-requires
+    put-fixed-requires
+    slice-aggregate-put-bytes-2
+    put-bytes-requires-2
+    put-amount-requires
+    put-end-requires
+    same-length
+    returns)

@@ -1,0 +1,27 @@
+-- `written::fields::put_reference_field` meets its contract: tag, reference and line end. Assumes nothing.
+use borrow.Author.Needs.{needs}
+use Rattle.rules.specs.Written.{field}
+use Rattle.laws.specs.Pieces.{wrote-3}
+use Rattle.written.proofs.fields.put_reference_field.Statement.{statement}
+use Rattle.written.proofs.fields.put_reference_field.Tie as tie
+
+put-bytes-requires : tie.Need-put-bytes-requires
+put-bytes-requires c κs = search needs
+
+put-reference-requires : tie.Need-put-reference-requires
+put-reference-requires c κs = search needs
+
+put-end-requires : tie.Need-put-end-requires
+put-end-requires c κs = search needs
+
+same-length : tie.Need-same-length
+same-length c = search needs
+
+returns : tie.Need-returns
+unfolding field
+returns c = search wrote-3
+
+pub put-reference-field-spec : {M : Type 1} → statement M
+put-reference-field-spec =
+    tie.close
+    (tie.spec put-bytes-requires put-reference-requires put-end-requires same-length returns)

@@ -1,0 +1,37 @@
+-- `written::verdicts::put_linked` meets its contract: part 1 writes nothing, every other part its field 21. Assumes nothing.
+use borrow.Author.Needs.{needs}
+use Rattle.rules.specs.Written.{linked}
+use Rattle.laws.specs.Pieces.{wrote-within}
+use Rattle.written.specs.Texts.{linked-first}
+use Rattle.written.proofs.verdicts.put_linked.Statement.{statement}
+use Rattle.written.proofs.verdicts.put_linked.Tie as tie
+
+returns : tie.Need-returns
+returns c = linked-first _ _ _ (search needs) (search needs)
+
+slice-aggregate-put-reference-field : tie.Need-slice-aggregate-put-reference-field
+slice-aggregate-put-reference-field c = search needs
+
+add-put-reference-field : tie.Need-add-put-reference-field
+add-put-reference-field c = search needs
+
+put-reference-field-requires : tie.Need-put-reference-field-requires
+put-reference-field-requires c κs = search needs
+
+same-length : tie.Need-same-length
+same-length c = search needs
+
+returns-2 : tie.Need-returns-2
+unfolding linked
+returns-2 c = search (wrote-within, needs)
+
+pub put-linked-spec : {M : Type 1} → statement M
+put-linked-spec =
+    tie.close
+    (tie.spec
+    returns
+    slice-aggregate-put-reference-field
+    add-put-reference-field
+    put-reference-field-requires
+    same-length
+    returns-2)
