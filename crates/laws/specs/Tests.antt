@@ -17,7 +17,15 @@ pub and-right : (a b : Bool) → (a && b) ≡ true → b ≡ true
 and-right true b h = h
 and-right false b h = absurd (let z : _≡_ {A = ℕ} 0 1 = cc in omega arith)
 
+-- what follows from a test that both holds and fails
+pub never : {A : Type 0} → false ≡ true → A
+never h = absurd (let z : _≡_ {A = ℕ} 0 1 = cc in omega arith)
+
 -- as `every` and its like join tests
+pub cond-left : (a b : Bool) → cond a b false ≡ true → a ≡ true
+cond-left true b h = refl
+cond-left false b h = h
+
 pub cond-right : (a b : Bool) → cond a b false ≡ true → b ≡ true
 cond-right true b h = h
 cond-right false b h = absurd (let z : _≡_ {A = ℕ} 0 1 = cc in omega arith)
