@@ -1,12 +1,11 @@
--- An account line, by tests alone: where the line has its form, both bounds are numbers.
-use mathlib.Core.Path.{_≡_, refl, sym, ap, _∙_}
+-- An account line, by tests alone: where the line has its form, both bounds are numbers. Assumes nothing.
+use mathlib.Core.Path.{_≡_, refl}
 use mathlib.Core.Bool.{Bool, true, false, _&&_, cond}
 use mathlib.Core.List.{List, [], _∷_}
 use mathlib.Core.Option.{Option, none, some, Option·getD}
 use Prim.Native.Nat.{ℕ, zero, suc, _+_, _-_, _*_}
-use native.Mathlib.Omega.{arith}
 use lib.Dec.{leb, eqb}
-use lib.ListN.{length, take, drop}
+use lib.ListN.{take, drop}
 use borrow.Author.Tests.{eqb-true}
 use Rattle.rules.specs.Text.{ascii, isDigit, every, fits, fitsSign, digits, digitsFrom, then, given, isSome}
 use Rattle.rules.specs.Accounts.{passes}

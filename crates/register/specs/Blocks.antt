@@ -1,14 +1,14 @@
--- A line of fixed length stands at a place exactly where the bytes there fit its pattern and CR LF.
+-- A line of fixed length stands at a place exactly where the bytes there fit its pattern and CR LF. Assumes nothing.
 use mathlib.Core.Path.{_≡_, refl, sym, ap, subst, _∙_}
-use mathlib.Core.Bool.{Bool, true, false, _&&_, _||_, not, cond}
-use mathlib.Core.List.{List, [], _∷_, _++_}
+use mathlib.Core.Bool.{Bool, true, false, _||_, not, cond}
+use mathlib.Core.List.{List, [], _∷_}
 use mathlib.Core.Option.{Option, none, some, Option·map}
-use Prim.Native.Nat.{ℕ, zero, suc, _+_}
+use Prim.Native.Nat.{ℕ, _+_}
 use native.Mathlib.Omega.{arith}
 use lib.Dec.{eqb}
 use lib.ListN.{length, take, drop}
 use lib.Seq.{drop-nil}
-use borrow.Author.Tests.{eqb-true, eq-eqb, ne-eqb}
+use borrow.Author.Tests.{eqb-true, ne-eqb}
 use Rattle.rules.specs.Text.{ascii, every, fits, fitsSign}
 use Rattle.rules.specs.Lines.{Line, begun, before, lines}
 use Rattle.laws.specs.Parts.{cut, from, from-take, from-drop}

@@ -1,0 +1,57 @@
+-- `register::check::stands_in` meets its contract. The loop's invariant: the IBAN is one of those that are left where it is one of all. Assumes nothing.
+use mathlib.Core.Path.{_≡_}
+use Prim.Native.Nat.{_-_}
+use borrow.Author.Needs.{needs}
+use Rattle.register.specs.Places.{standsIn}
+use Rattle.register.specs.Sets.{registers}
+use Rattle.register.proofs.check.stands_in.Statement.{statement}
+use Rattle.register.proofs.check.stands_in.Tie as tie
+
+abbrev Inv-loop : tie.InvT-loop
+Inv-loop text a first n i₀ i = standsIn text a i n ≡ standsIn text a first n
+
+abbrev μ-loop : tie.MeasureT-loop
+μ-loop text a first n i₀ i = n - i
+
+loop-holds : tie.Need-loop-holds Inv-loop μ-loop
+loop-holds c = search (registers, needs)
+
+mul-equal-parts : tie.Need-mul-equal-parts Inv-loop μ-loop
+mul-equal-parts c = search (registers, needs)
+
+add-equal-parts : tie.Need-add-equal-parts Inv-loop μ-loop
+add-equal-parts c = search (registers, needs)
+
+equal-parts-requires : tie.Need-equal-parts-requires Inv-loop μ-loop
+equal-parts-requires c κs = search (registers, needs)
+
+returns : tie.Need-returns Inv-loop μ-loop
+returns c = search (registers, needs)
+
+add-i : tie.Need-add-i Inv-loop μ-loop
+add-i c = search (registers, needs)
+
+loop-less : tie.Need-loop-less Inv-loop μ-loop
+loop-less c = search (registers, needs)
+
+loop-again : tie.Need-loop-again Inv-loop μ-loop
+loop-again c = search (registers, needs)
+
+returns-2 : tie.Need-returns-2 Inv-loop μ-loop
+returns-2 c = search (registers, needs)
+
+pub stands-in-spec : {M : Type 1} → statement M
+stands-in-spec =
+    tie.close
+    (tie.spec
+    Inv-loop
+    μ-loop
+    loop-holds
+    mul-equal-parts
+    add-equal-parts
+    equal-parts-requires
+    returns
+    add-i
+    loop-less
+    loop-again
+    returns-2)

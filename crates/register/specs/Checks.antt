@@ -1,0 +1,124 @@
+-- The checks of a register's text: a law for each way out, the tests as calls answered them. Assumes nothing.
+use mathlib.Core.Path.{_≡_, refl, sym, _∙_}
+use mathlib.Core.Bool.{Bool, true, false, _&&_, not}
+use mathlib.Core.List.{List}
+use Prim.Native.Nat.{ℕ, _+_, _-_, _*_, _/_, _≤_, _<_}
+use native.Mathlib.Omega.{arith}
+use lib.Dec.{leb, eqb}
+use lib.ListN.{length}
+use borrow.Author.Tests.{le-leb, lt-leb, eqb-true, not-true, not-false}
+use Rattle.rules.specs.Text.{digits, isSome}
+use Rattle.rules.specs.Accounts.{passes}
+use Rattle.rules.specs.Register.{register}
+use Rattle.laws.specs.Parts.{cut}
+use Rattle.laws.specs.Tests.{and-left}
+use Rattle.text.specs.Answers.{numOf}
+use Rattle.text.specs.declared.numbers.Num.{Num}
+use Rattle.text.specs.declared.numbers.Num.the-variants.{Value, Bad}
+use Rattle.register.specs.AccountLine.{bound}
+use Rattle.register.specs.Places.{formAt, endsAt, boundAt, ibanIn, lineIn, count, linesIn, lengthIn, firstIn, againIn, passesIn}
+use Rattle.register.specs.Passed.{some-given}
+
+-- how many account lines there is room for
+pub count-none : (s : List ℕ) → length s < 24 → 0 ≡ count s
+unfolding count
+count-none s h = omega arith
+
+pub count-some : (s : List ℕ) → (length s - 24) / 38 ≡ count s
+unfolding count
+count-some s = refl
+
+-- a bound, as its digits were read
+module _ (s : List ℕ) (at : ℕ) (q : Num) (e : numOf q ≡ digits (cut s at (at + 6))) where
+  pub bound-read : (n : ℕ) → q ≡ Value n → n ≡ boundAt s at
+  unfolding boundAt bound
+  bound-read n w = rw (← e, w)
+
+  pub bound-none : q ≡ Bad → 0 ≡ boundAt s at
+  unfolding boundAt bound
+  bound-none w = rw (← e, w)
+
+-- the first line
+module _ (s : List ℕ) (t : Bool) (u : t ≡ passes (cut s 0 22)) where
+  pub first-passes : t ≡ true → (r : Bool) → r ≡ endsAt s 22 → r ≡ firstIn s
+  unfolding firstIn
+  first-passes d r e = rw (← u, d) e
+
+  pub first-fails : t ≡ false → false ≡ firstIn s
+  unfolding firstIn
+  first-fails d = rw (← u, d)
+
+-- an account line: form, end, IBAN, bounds
+module _ (s : List ℕ) (i : ℕ) (t : Bool) (u : t ≡ formAt s (24 + 38 * i)) where
+  pub line-unformed : not t ≡ true → false ≡ lineIn s i
+  unfolding lineIn
+  line-unformed d = rw (← u, not-true t d)
+
+  module _ (d : not t ≡ false) (t₂ : Bool) (u₂ : t₂ ≡ endsAt s (24 + 38 * i + 36)) where
+    pub line-unended : not t₂ ≡ true → false ≡ lineIn s i
+    unfolding lineIn
+    line-unended d₂ = rw (← u, not-false t d, ← u₂, not-true t₂ d₂)
+
+    module _ (d₂ : not t₂ ≡ false) (t₃ : Bool) (u₃ : t₃ ≡ passes (cut s (24 + 38 * i) (24 + 38 * i + 22))) where
+      pub line-unpassed : not t₃ ≡ true → false ≡ lineIn s i
+      unfolding lineIn ibanIn
+      line-unpassed d₃ = rw (← u, not-false t d, ← u₂, not-false t₂ d₂, ← u₃, not-true t₃ d₃)
+
+      pub line-bounded : not t₃ ≡ false → (low high : ℕ) → low ≡ boundAt s (24 + 38 * i + 23) → high ≡ boundAt s (24 + 38 * i + 30) → leb low high ≡ lineIn s i
+      unfolding lineIn ibanIn
+      line-bounded d₃ low high e f = rw (e, f, ← u, not-false t d, ← u₂, not-false t₂ d₂, ← u₃, not-false t₃ d₃)
+
+-- the length
+module _ (s : List ℕ) (n : ℕ) where
+  pub length-over : 40 < n → false ≡ lengthIn s n
+  unfolding lengthIn
+  length-over h = rw (lt-leb n 40 h) (go (eqb (length s) (24 + 38 * n)))
+    where
+      go : (a : Bool) → false ≡ (a && false)
+      go true = refl
+      go false = refl
+
+  pub length-few : n ≤ 40 → eqb (length s) (24 + 38 * n) ≡ lengthIn s n
+  unfolding lengthIn
+  length-few h = rw (le-leb n 40 h) (go (eqb (length s) (24 + 38 * n)))
+    where
+      go : (a : Bool) → a ≡ (a && true)
+      go true = refl
+      go false = refl
+
+  module _ (t : Bool) (u : t ≡ lengthIn s n) (d : not t ≡ false) where
+    exact : length s ≡ 24 + 38 * n
+    unfolding lengthIn
+    exact = eqb-true (length s) (24 + 38 * n) (and-left _ _ (sym u ∙ not-false t d))
+
+    pub room-lines : 24 + 38 * n ≤ length s
+    room-lines = let e : length s ≡ 24 + 38 * n = exact in omega arith
+
+    pub room-first : 24 ≤ length s
+    room-first = let e : length s ≡ 24 + 38 * n = exact in omega arith
+
+-- the whole text: length, first line, account lines, each IBAN a single time
+module _ (s : List ℕ) (n : ℕ) (e : n ≡ count s) where
+  by-count : passesIn s n ≡ isSome (register s)
+  by-count = rw e (sym (some-given s))
+
+  module _ (t : Bool) (u : t ≡ lengthIn s n) where
+    pub fails-length : not t ≡ true → false ≡ isSome (register s)
+    unfolding passesIn
+    fails-length d = (rw (← u, not-true t d)) ∙ by-count
+
+    module _ (d : not t ≡ false) (t₂ : Bool) (u₂ : t₂ ≡ firstIn s) where
+      pub fails-first : not t₂ ≡ true → false ≡ isSome (register s)
+      unfolding passesIn
+      fails-first d₂ = (rw (← u, not-false t d, ← u₂, not-true t₂ d₂)) ∙ by-count
+
+      module _ (d₂ : not t₂ ≡ false) (t₃ : Bool) (u₃ : t₃ ≡ linesIn s 0 n) where
+        pub fails-lines : not t₃ ≡ true → false ≡ isSome (register s)
+        unfolding passesIn
+        fails-lines d₃ = (rw (← u, not-false t d, ← u₂, not-false t₂ d₂, ← u₃, not-true t₃ d₃)) ∙ by-count
+
+        pub passes-single : not t₃ ≡ false → (t₄ : Bool) → t₄ ≡ againIn s n → not t₄ ≡ isSome (register s)
+        unfolding passesIn
+        passes-single d₃ t₄ u₄ = (rw (u₄, ← u, not-false t d, ← u₂, not-false t₂ d₂, ← u₃, not-false t₃ d₃)) ∙ by-count
+
+pub ruleset checks = (count-none, count-some, bound-read, bound-none, first-passes, first-fails, line-unformed, line-unended, line-unpassed, line-bounded, length-over, length-few, room-lines, room-first, fails-length, fails-first, fails-lines, passes-single)

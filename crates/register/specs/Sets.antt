@@ -1,0 +1,6 @@
+-- The laws that the search is handed at the needs of this crate. Assumes nothing.
+use Rattle.register.specs.Turns.{turns}
+use Rattle.register.specs.Checks.{checks}
+use Rattle.register.specs.Passed.{passed}
+
+pub ruleset registers = (turns, checks, passed)
