@@ -4,5 +4,9 @@ pub mod Signs
 pub mod Posting
 pub mod Messages
 pub mod Kinds
+pub mod Details
+pub mod Accounts
+pub mod Message
 pub mod Tally
+pub mod Turn
 pub mod Booking

@@ -13,6 +13,7 @@ use Rattle.rules.specs.Messages.{Detail, branch, account59, baerefDate, baerefN
 use Rattle.rules.specs.Engine.{Position, bic, limit}
 use Rattle.rules.specs.Written.{reference, opened, field, size, returnedRows, allReturned, linked, position79, closed79, mt199, partsOf, mt199s, verdicts, field72, mt204, mt205}
 use Rattle.laws.specs.Digits.{places-length, width-bound, width-most}
+use Rattle.area.specs.Layout.{All, All.none, All.more}
 use Rattle.balance.specs.Texts.{inLine}
 use Rattle.balance.specs.Told.{Short, short-join, short-text, Mute, mute-none, mute-line, mute-join}
 use Rattle.balance.specs.Signs.{short-fixed, short-decimal, short-written, short-bic, short-iban}
@@ -48,24 +49,20 @@ pub record Sent (d : Detail) : Type 0 where
   pub named : Short 12 (baerefName d)
   pub account : Short 34 (account59 d)
 
-pub data Each {A : Type 0} (P : A → Type 0) : List A → Type 0 where
-  no : Each P []
-  and : {x : A} {xs : List A} → P x → Each P xs → Each P (x ∷ xs)
+all-take : {A : Type 0} {P : A → Type 0} (n : ℕ) {xs : List A} → All P xs → All P (take n xs)
+all-take zero s = none
+all-take (suc n) none = none
+all-take (suc n) (more p s) = more p (all-take n s)
 
-each-take : {A : Type 0} {P : A → Type 0} (n : ℕ) {xs : List A} → Each P xs → Each P (take n xs)
-each-take zero s = no
-each-take (suc n) no = no
-each-take (suc n) (and p s) = and p (each-take n s)
+all-drop : {A : Type 0} {P : A → Type 0} (n : ℕ) {xs : List A} → All P xs → All P (drop n xs)
+all-drop zero s = s
+all-drop (suc n) none = none
+all-drop (suc n) (more p s) = all-drop n s
 
-each-drop : {A : Type 0} {P : A → Type 0} (n : ℕ) {xs : List A} → Each P xs → Each P (drop n xs)
-each-drop zero s = s
-each-drop (suc n) no = no
-each-drop (suc n) (and p s) = each-drop n s
-
-mute-returned : {ds : List Detail} → Each Sent ds → Mute (allReturned ds)
+mute-returned : {ds : List Detail} → All Sent ds → Mute (allReturned ds)
 unfolding allReturned returnedRows every inLine
-mute-returned no = mute-none
-mute-returned (and d s) =
+mute-returned none = mute-none
+mute-returned (more d s) =
     mute-line (d .code ⊕ short-text (ascii "/") refl ⊕ d .dated ⊕ short-text (ascii "/") refl ⊕ d .named) refl
     ▹ mute-line (d .account) refl
     ▹ mute-returned s
@@ -97,7 +94,7 @@ mute-closed part parts =
     subst Mute (append-assoc (decimal part ++ ascii "/" ++ decimal parts) (ascii "\r\n") (ascii "-\r\n"))
     (mute-line (short-decimal part ⊕ short-text (ascii "/") refl ⊕ short-decimal parts) refl ▹ mute-line (short-text (ascii "-") refl) refl)
 
-mute-199 : (day n : ℕ) (p : Position) (part parts : ℕ) {ds : List Detail} → isBic (bic (p .bank)) ≡ true → Each Sent ds → Mute (mt199 day n p part parts ds)
+mute-199 : (day n : ℕ) (p : Position) (part parts : ℕ) {ds : List Detail} → isBic (bic (p .bank)) ≡ true → All Sent ds → Mute (mt199 day n p part parts ds)
 unfolding mt199 every inLine
 mute-199 day n p part parts h s =
     (mute-opened (p .bank) (ascii "199") (short-text (ascii "199") refl) h ▹ mute-field (short-text (ascii ":20:") refl) (short-reference day (n + part)) refl ▹ mute-linked day n part)
@@ -105,12 +102,12 @@ mute-199 day n p part parts h s =
     ▹ mute-returned s
     ▹ mute-closed part parts
 
-mute-199s : (k day n : ℕ) (p : Position) (part parts : ℕ) {ds : List Detail} → isBic (bic (p .bank)) ≡ true → Each Sent ds → Mute (mt199s k day n p part parts ds)
+mute-199s : (k day n : ℕ) (p : Position) (part parts : ℕ) {ds : List Detail} → isBic (bic (p .bank)) ≡ true → All Sent ds → Mute (mt199s k day n p part parts ds)
 unfolding mt199s
 mute-199s zero day n p part parts h s = mute-none
-mute-199s (suc k) day n p part parts h s = mute-199 day n p part parts h (each-take 14 s) ▹ mute-199s k day n p (part + 1) parts h (each-drop 14 s)
+mute-199s (suc k) day n p part parts h s = mute-199 day n p part parts h (all-take 14 s) ▹ mute-199s k day n p (part + 1) parts h (all-drop 14 s)
 
-pub mute-verdicts : (day n : ℕ) (p : Position) {ds : List Detail} → isBic (bic (p .bank)) ≡ true → Each Sent ds → Mute (verdicts day n p ds)
+pub mute-verdicts : (day n : ℕ) (p : Position) {ds : List Detail} → isBic (bic (p .bank)) ≡ true → All Sent ds → Mute (verdicts day n p ds)
 unfolding verdicts
 mute-verdicts day n p {ds} h s = mute-199s (partsOf (length ds)) day n p 1 (partsOf (length ds)) h s
 

@@ -87,6 +87,13 @@ kept-tally g (p ∷ ps) = go (hasDetails p) (kept-tally g ps)
     go true e = omega arith
     go false e = omega arith
 
+-- three measures whose sum is that of three others, at each position
+pub tally-three : (f g h f' g' h' : Measure) → ((p : Position) → f p + g p + h p ≡ f' p + g' p + h' p) → (ps : List Position)
+    → tally f ps + tally g ps + tally h ps ≡ tally f' ps + tally g' ps + tally h' ps
+unfolding tally
+tally-three f g h f' g' h' e [] = refl
+tally-three f g h f' g' h' e (p ∷ ps) = omega (arith, e p, tally-three f g h f' g' h' e ps)
+
 -- ---- the same entries
 
 pub same-refl : (ps : List Position) → Same ps ps

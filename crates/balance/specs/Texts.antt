@@ -48,7 +48,8 @@ module _ (p : ℕ → Bool) where
 unfoldable pub inLine : ℕ → Bool
 inLine c = not (eqb c 13) && not (eqb c 10)
 
-no-some : {A B : Type 0} {a : A} → none ≡ some a → B
+-- none is not some
+pub no-some : {A B : Type 0} {a : A} → none ≡ some a → B
 no-some h = absurd (let z : _≡_ {A = ℕ} 0 1 = cc in omega arith)
 
 not-true : (t : Bool) → not t ≡ true → t ≡ false
