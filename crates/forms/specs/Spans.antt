@@ -1,5 +1,5 @@
 -- Parts of a message, as the code holds them.
-use mathlib.Core.Path.{_≡_, refl}
+use mathlib.Core.Path.{_≡_, refl, sym}
 use mathlib.Core.List.{List, [], _∷_, _++_, map, map-append}
 use Prim.Native.Nat.{ℕ, zero, suc, _+_, _≤_, _<_}
 use native.Mathlib.Numerals.{add-one}
@@ -7,7 +7,7 @@ use native.Mathlib.Omega.{arith}
 use lib.ListN.{length, getD, take, set, replicate}
 use lib.Seq.{take-suc-set}
 use Rattle.rules.specs.Lines.{Line}
-use Rattle.laws.specs.Parts.{cut}
+use Rattle.laws.specs.Parts.{cut, cut-done}
 use Rattle.forms.specs.declared.rows.Span.{Span}
 
 -- the bytes of a part
@@ -33,6 +33,9 @@ pub record SpanIn (s : List ℕ) (p : Span) : Type 0 where
 -- each lies within the text
 pub record Within (s : List ℕ) (l : List Span) : Type 0 where
   pub span : (i : ℕ) → SpanIn s (getD l i noSpan)
+
+pub within-at : (s : List ℕ) (l : List Span) (i : ℕ) → Within s l → SpanIn s (getD l i noSpan)
+within-at s l i w = w .span i
 
 pub within-none : (s : List ℕ) (n : ℕ) → Within s (replicate n noSpan)
 within-none s n = record { span = go n }
@@ -64,3 +67,11 @@ held-none s l = refl
 pub held-more : (s : List ℕ) (l : List Span) (k : ℕ) (p : Span) → k < length l → held s (set l k p) (k + 1) ≡ held s l k ++ (spanOf s p ∷ [])
 unfolding held
 held-more s l k p h = rw (add-one k, take-suc-set l k p h) (map-append (spanOf s) (take k l) (p ∷ []))
+
+-- one of them
+pub held-line : (s : List ℕ) (l : List Span) (n k : ℕ) → k < n → getD (held s l n) k [] ≡ spanOf s (getD l k noSpan)
+unfolding held
+held-line s l zero k h = absurd (omega arith)
+held-line s [] (suc n) k h = sym (cut-done s 0 0 (omega arith) (omega arith))
+held-line s (p ∷ l) (suc n) zero h = refl
+held-line s (p ∷ l) (suc n) (suc k) h = held-line s l n k (omega arith)

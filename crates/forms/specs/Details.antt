@@ -1,0 +1,57 @@
+-- A detail as the code reads it: its rows, then 32B's amount and the dates of 70.
+use mathlib.Core.Path.{_≡_, refl}
+use mathlib.Core.Bool.{true, false, cond}
+use mathlib.Core.List.{List}
+use mathlib.Core.Option.{Option, none, some}
+use Prim.Native.Nat.{ℕ, _≤_, _<_}
+use native.Mathlib.Omega.{arith}
+use lib.ListN.{length}
+use Rattle.rules.specs.Dates.{date}
+use Rattle.rules.specs.Amounts.{amount}
+use Rattle.rules.specs.Forms.{rowed, detailRows}
+use Rattle.rules.specs.Messages as M
+use Rattle.rules.specs.Messages.{Detailed, detailOf, detailed}
+use Rattle.laws.specs.Parts.{from}
+use Rattle.forms.specs.Table.{table, part}
+use Rattle.forms.specs.Spans.{Within, within-at, held, held-line}
+use Rattle.forms.specs.Rows.{RowsAt}
+use Rattle.forms.specs.Three.{sumIn, dateIn, sum-small, three, three-on, no-first, no-second, no-third, all-three}
+use Rattle.forms.specs.declared.rows.Rows.{Rows}
+use Rattle.forms.specs.declared.detail.Detail.{Detail}
+
+-- the detail that an answer holds
+abbrev pub detailHeld : List ℕ → Detail → M.Detail
+detailHeld s r = record { rows = held s (r .spans) 17; date = r .date; amount = r .amount }
+
+-- and what stands behind it
+abbrev pub detailedOf : List ℕ → Detail → Option Detailed
+detailedOf s r = cond (r .ok) (some record { detail = detailHeld s r; others = from s (r .next) }) none
+
+-- it is the detail that begins at `at`
+pub record DetailAt (s : List ℕ) (at : ℕ) (r : Detail) : Type 0 where
+  pub same : detailedOf s r ≡ detailed (from s at)
+  pub next : r .next ≤ length s
+  pub within : Within s (r .spans)
+  pub small : r .amount < 10000000000000000
+
+detail-rows : part 23 17 ≡ detailRows
+unfolding part table
+detail-rows = refl
+
+module _ (s : List ℕ) (at : ℕ) (r : Rows) (w : RowsAt s at 23 17 r) where
+  pub detail-none : r .ok ≡ false → none ≡ detailed (from s at)
+  unfolding detailed
+  detail-none h = let e : none ≡ rowed detailRows (from s at) = rw (h, detail-rows) at (w .same) in rw (← e)
+
+  pub detail-three : r .ok ≡ true → detailed (from s at) ≡ three
+      (λ a d b. record { detail = record { rows = held s (r .spans) 17; date = d; amount = a }; others = from s (r .next) })
+      (sumIn s (r .spans) 1 8)
+      (dateIn s (r .spans) 13 10)
+      (dateIn s (r .spans) 14 6)
+  unfolding detailed detailOf three
+  detail-three h =
+      let e : some record { rows = held s (r .spans) 17; others = from s (r .next) } ≡ rowed detailRows (from s at) = rw (h, detail-rows) at (w .same) in
+      rw (← e, held-line s (r .spans) 17 1 (omega arith), held-line s (r .spans) 17 13 (omega arith), held-line s (r .spans) 17 14 (omega arith))
+      (three-on (λ d. record { detail = d; others = from s (r .next) }) (λ a d b. record { rows = held s (r .spans) 17; date = d; amount = a }) (sumIn s (r .spans) 1 8) (dateIn s (r .spans) 13 10) (dateIn s (r .spans) 14 6))
+
+pub ruleset detailing = (no-first, no-second, no-third, all-three, within-at, detail-none, detail-three, sum-small)

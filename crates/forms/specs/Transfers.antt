@@ -1,0 +1,69 @@
+-- An MT103 as the code reads it: its rows, the closing line, then 32A's date and amount and BAEREF's date.
+use mathlib.Core.Path.{_≡_, refl}
+use mathlib.Core.Bool.{Bool, true, false, cond}
+use mathlib.Core.List.{List}
+use mathlib.Core.Option.{Option, none, some}
+use Prim.Native.Nat.{ℕ, _<_}
+use native.Mathlib.Omega.{arith}
+use Rattle.rules.specs.Text.{then, given}
+use Rattle.rules.specs.Lines.{closing, sender, body}
+use Rattle.rules.specs.Forms.{rowed, transferRows}
+use Rattle.rules.specs.Messages as M
+use Rattle.rules.specs.Messages.{Message, mt103, transferOf, readTransfer}
+use Rattle.laws.specs.Parts.{from}
+use Rattle.forms.specs.Table.{table, part}
+use Rattle.forms.specs.Spans.{Within, within-at, held, held-line}
+use Rattle.forms.specs.Rows.{RowsAt}
+use Rattle.forms.specs.Three.{sumIn, dateIn, sum-small, three, three-on, no-first, no-second, no-third, all-three}
+use Rattle.forms.specs.declared.rows.Rows.{Rows}
+use Rattle.forms.specs.declared.transfer.Transfer.{Transfer}
+
+-- the transfer that an answer holds
+abbrev pub transferHeld : List ℕ → Transfer → M.Transfer
+transferHeld s r = record { sender = sender s; rows = held s (r .spans) 23; date = r .date; amount = r .amount }
+
+abbrev pub messageHeld : List ℕ → Transfer → Option Message
+messageHeld s r = cond (r .ok) (some (mt103 (transferHeld s r))) none
+
+-- it is the message's
+pub record TransferIn (s : List ℕ) (r : Transfer) : Type 0 where
+  pub same : messageHeld s r ≡ readTransfer s
+  pub within : Within s (r .spans)
+  pub small : r .amount < 10000000000000000
+
+transfer-rows : part 0 23 ≡ transferRows
+unfolding part table
+transfer-rows = refl
+
+body-from : (s : List ℕ) → from s 23 ≡ body s
+unfolding from body
+body-from s = refl
+
+never : {A B : Type 0} (f : A → B) (o : Option A) → none ≡ then o (λ a. given false (f a))
+never f none = refl
+never f (some a) = refl
+
+module _ (s : List ℕ) (r : Rows) (w : RowsAt s 23 0 23 r) where
+  pub transfer-none : r .ok ≡ false → none ≡ readTransfer s
+  unfolding readTransfer
+  transfer-none h = let e : none ≡ rowed transferRows (body s) = rw (h, transfer-rows, body-from) at (w .same) in rw (← e)
+
+  module _ (h : r .ok ≡ true) (t : Bool) (u : t ≡ closing (from s (r .next))) where
+    rows-known : some record { rows = held s (r .spans) 23; others = from s (r .next) } ≡ rowed transferRows (body s)
+    rows-known = rw (h, transfer-rows, body-from) at (w .same)
+
+    pub transfer-open : t ≡ false → none ≡ readTransfer s
+    unfolding readTransfer
+    transfer-open d = rw (← rows-known, ← u, d) (never mt103 (transferOf (sender s) (held s (r .spans) 23)))
+
+    pub transfer-three : t ≡ true → readTransfer s ≡ three
+        (λ d a b. mt103 record { sender = sender s; rows = held s (r .spans) 23; date = d; amount = a })
+        (dateIn s (r .spans) 2 5)
+        (sumIn s (r .spans) 2 14)
+        (dateIn s (r .spans) 21 8)
+    unfolding readTransfer transferOf three
+    transfer-three d =
+        rw (← rows-known, ← u, d, held-line s (r .spans) 23 2 (omega arith), held-line s (r .spans) 23 21 (omega arith))
+        (three-on mt103 (λ d a b. record { sender = sender s; rows = held s (r .spans) 23; date = d; amount = a }) (dateIn s (r .spans) 2 5) (sumIn s (r .spans) 2 14) (dateIn s (r .spans) 21 8))
+
+pub ruleset transferring = (no-first, no-second, no-third, all-three, within-at, transfer-none, transfer-open, sum-small)

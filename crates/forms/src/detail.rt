@@ -1,0 +1,50 @@
+// A detail of an MT101.
+use crate::fields::amount_in;
+use crate::fields::date_in;
+use crate::rows::Span;
+use crate::rows::read_rows;
+use text::Num;
+ghost use Prim.Native.Nat.{_≤_};
+ghost use lib.ListN.{length};
+ghost use Rattle.forms.specs.Details.{DetailAt};
+
+// A detail: where the text goes on behind it, 70's CENTRB date, 32B's amount, and its lines by rows.
+pub struct Detail {
+    pub ok: bool,
+    pub next: usize,
+    pub date: u64,
+    pub amount: u64,
+    pub spans: [Span; 23],
+}
+
+// The detail that begins at `at`.
+pub fn read_detail(s: &[u8], at: usize) -> Detail
+    requires { ⌜ at ≤ length (now s) ⌝ }
+    requires { ⌜ length (now s) ≤ 4096 ⌝ }
+    ensures { λ r. ⌜ DetailAt (now (s .entry)) at r ⌝ }
+{
+    let rows = read_rows(s, at, 23, 17);
+    let spans = rows.spans;
+    if rows.ok {
+        if let Num::Value(amount) = amount_in(s, spans[1], 8) {
+            if let Num::Value(date) = date_in(s, spans[13], 10) {
+                if let Num::Value(_) = date_in(s, spans[14], 6) {
+                    return Detail {
+                        ok: true,
+                        next: rows.next,
+                        date,
+                        amount,
+                        spans,
+                    };
+                }
+            }
+        }
+    }
+    Detail {
+        ok: false,
+        next: at,
+        date: 0,
+        amount: 0,
+        spans,
+    }
+}

@@ -1,0 +1,50 @@
+// An MT103.
+use crate::fields::amount_in;
+use crate::fields::date_in;
+use crate::rows::Span;
+use crate::rows::read_rows;
+use lines::closes_at;
+use text::Num;
+ghost use Prim.Native.Nat.{_≤_};
+ghost use lib.ListN.{length};
+ghost use Rattle.forms.specs.Transfers.{TransferIn};
+
+// A transfer: 32A's date and amount, and its lines by rows.
+pub struct Transfer {
+    pub ok: bool,
+    pub date: u64,
+    pub amount: u64,
+    pub spans: [Span; 23],
+}
+
+// The transfer that stands behind the first line.
+pub fn read_transfer(s: &[u8]) -> Transfer
+    requires { ⌜ 23 ≤ length (now s) ⌝ }
+    requires { ⌜ length (now s) ≤ 4096 ⌝ }
+    ensures { λ r. ⌜ TransferIn (now (s .entry)) r ⌝ }
+{
+    let rows = read_rows(s, 23, 0, 23);
+    let spans = rows.spans;
+    if rows.ok {
+        if closes_at(s, rows.next) {
+            if let Num::Value(date) = date_in(s, spans[2], 5) {
+                if let Num::Value(amount) = amount_in(s, spans[2], 14) {
+                    if let Num::Value(_) = date_in(s, spans[21], 8) {
+                        return Transfer {
+                            ok: true,
+                            date,
+                            amount,
+                            spans,
+                        };
+                    }
+                }
+            }
+        }
+    }
+    Transfer {
+        ok: false,
+        date: 0,
+        amount: 0,
+        spans,
+    }
+}
