@@ -12,6 +12,7 @@ use borrow.Author.Tests.{le-leb, lt-leb, eq-eqb, ne-eqb, eqb-true}
 use Rattle.rules.specs.Text.{ascii, equal, fits, then}
 use Rattle.rules.specs.Lines.{Line, Taken, lead, line, lines, begun, before, closes, inLines, closing, opening, framed}
 use Rattle.laws.specs.Parts.{cut, from, cut-done, cut-snoc, cut-all, from-step, from-done, from-length, from-cut}
+use Rattle.laws.specs.Equal.{equal-true}
 use Rattle.laws.specs.Tests.{not-held}
 use Rattle.lines.specs.Answers.{taken, LineEnd, NoLine, line-told, no-line-told}
 
@@ -135,18 +136,6 @@ line-splits (c ∷ d ∷ cs) t e = go (eqb c 13) (eqb d 10) (eqb c 10) refl refl
 
 -- ---- the closing line
 
--- texts that are told equal are the same
-pub equal-same : (cs ds : List ℕ) → equal cs ds ≡ true → cs ≡ ds
-unfolding equal
-equal-same [] [] h = refl
-equal-same [] (d ∷ ds) h = absurd (let z : _≡_ {A = ℕ} 0 1 = cc in omega arith)
-equal-same (c ∷ cs) [] h = absurd (let z : _≡_ {A = ℕ} 0 1 = cc in omega arith)
-equal-same (c ∷ cs) (d ∷ ds) h = go (eqb c d) refl (equal-same cs ds) h
-  where
-    go : (b : Bool) → eqb c d ≡ b → (equal cs ds ≡ true → cs ≡ ds) → cond b (equal cs ds) false ≡ true → c ∷ cs ≡ d ∷ ds
-    go true e f k = let a : c ≡ d = eqb-true c d e in rw (a, f k)
-    go false e f k = absurd (let z : _≡_ {A = ℕ} 0 1 = cc in omega arith)
-
 closed : inLines (lines (ascii "-\r\n")) ≡ true
 unfolding lines closes equal
 closed = refl
@@ -164,7 +153,7 @@ two-close l (some t) = go (lines (t .others))
 -- a text that is more than its closing line closes as what stands behind its first line does
 closes-behind : (l cs : List ℕ) → closing (l ++ (13 ∷ 10 ∷ cs)) ≡ false → inLines (lines cs) ≡ inLines (Option·map (before l) (lines cs))
 unfolding closing equal closes lines
-closes-behind l [] h = not-held _ (λ e. let z : _≡_ {A = ℕ} 1 0 = (rw (equal-same l (ascii "-") e) at (ap (λ (b : Bool). cond {A = ℕ} b 1 0) h)) in omega arith)
+closes-behind l [] h = not-held _ (λ e. let z : _≡_ {A = ℕ} 1 0 = (rw (equal-true l (ascii "-") e) at (ap (λ (b : Bool). cond {A = ℕ} b 1 0) h)) in omega arith)
 closes-behind l (c ∷ cs) h = rw (lines-line c cs) (two-close l (line (c ∷ cs)))
 
 -- a text with a first line, and one without
@@ -187,7 +176,7 @@ module _ (s : List ℕ) (at : ℕ) (x : Bool) (inv : inLines (lines (from s at))
   module _ (b : Bool) (u : b ≡ closing (from s at)) where
     pub closes-now : b ≡ true → true ≡ x
     unfolding closing
-    closes-now h = sym closed ∙ (rw (equal-same (from s at) (ascii "-\r\n") (sym u ∙ h)) at inv)
+    closes-now h = sym closed ∙ (rw (equal-true (from s at) (ascii "-\r\n") (sym u ∙ h)) at inv)
 
     pub closes-bad : NoLine s at → false ≡ x
     closes-bad n = sym (none-closes (from s at) (n .same)) ∙ inv
@@ -199,7 +188,7 @@ module _ (s : List ℕ) (at : ℕ) (x : Bool) (inv : inLines (lines (from s at))
 module _ (s : List ℕ) (at : ℕ) where
   pub closing-long : (length s - at ≡ 3 → ⊥) → false ≡ closing (from s at)
   unfolding closing
-  closing-long h = not-held _ (λ e. h (sym (from-length s at) ∙ ap (λ (l : List ℕ). length l) (equal-same (from s at) (ascii "-\r\n") e)))
+  closing-long h = not-held _ (λ e. h (sym (from-length s at) ∙ ap (λ (l : List ℕ). length l) (equal-true (from s at) (ascii "-\r\n") e)))
 
   pub closing-part : at ≤ length s → length s - at ≡ 3 → (r : Bool) → r ≡ equal (cut s at (at + 3)) (cut (ascii "-\r\n") 0 3) → r ≡ closing (from s at)
   unfolding closing

@@ -1,0 +1,32 @@
+-- Texts told equal, and texts that are.
+use mathlib.Core.Path.{_≡_, refl, sym, ap, _∙_}
+use mathlib.Core.Bool.{Bool, true, false, cond}
+use mathlib.Core.List.{List, [], _∷_}
+use Prim.Native.Nat.{ℕ, _+_, _-_, _≤_}
+use native.Mathlib.Omega.{arith}
+use lib.ListN.{length}
+use lib.Dec.{eqb}
+use borrow.Author.Tests.{eqb-true}
+use Rattle.rules.specs.Text.{equal}
+use Rattle.laws.specs.Parts.{cut, cut-length}
+use Rattle.laws.specs.Tests.{not-held}
+
+-- texts that are told equal are the same
+pub equal-true : (cs ds : List ℕ) → equal cs ds ≡ true → cs ≡ ds
+unfolding equal
+equal-true [] [] h = refl
+equal-true [] (d ∷ ds) h = absurd (let z : _≡_ {A = ℕ} 0 1 = cc in omega arith)
+equal-true (c ∷ cs) [] h = absurd (let z : _≡_ {A = ℕ} 0 1 = cc in omega arith)
+equal-true (c ∷ cs) (d ∷ ds) h = go (eqb c d) refl (equal-true cs ds) h
+  where
+    go : (b : Bool) → eqb c d ≡ b → (equal cs ds ≡ true → cs ≡ ds) → cond b (equal cs ds) false ≡ true → c ∷ cs ≡ d ∷ ds
+    go true e f k = let a : c ≡ d = eqb-true c d e in rw (a, f k)
+    go false e f k = absurd (let z : _≡_ {A = ℕ} 0 1 = cc in omega arith)
+
+-- two parts: of different lengths, and of one length n
+module _ (s t : List ℕ) (a e b f : ℕ) where
+  pub parts-differ : (e - a ≡ f - b → ⊥) → e ≤ length s → f ≤ length t → false ≡ equal (cut s a e) (cut t b f)
+  parts-differ h k l = not-held _ (λ q. h (sym (cut-length s a e k) ∙ ap (λ (x : List ℕ). length x) (equal-true _ _ q) ∙ cut-length t b f l))
+
+  pub parts-alike : e - a ≡ f - b → a ≤ e → b ≤ f → (r : Bool) → r ≡ equal (cut s a (a + (e - a))) (cut t b (b + (e - a))) → r ≡ equal (cut s a e) (cut t b f)
+  parts-alike h k l r q = let m : a + (e - a) ≡ e = omega arith in let n : b + (e - a) ≡ f = omega arith in q ∙ (rw (m, n))

@@ -1,0 +1,27 @@
+-- `references::same_parts` meets its contract: parts of different lengths are not equal; else as their bytes are. Assumes nothing.
+use Rattle.references.specs.Slashes.{slashes}
+use borrow.Author.Needs.{needs}
+use Rattle.references.proofs.same_parts.Statement.{statement}
+use Rattle.references.proofs.same_parts.Tie as tie
+
+sub-if1 : tie.Need-sub-if1
+sub-if1 c = search (slashes, needs)
+
+sub-if1-2 : tie.Need-sub-if1-2
+sub-if1-2 c = search (slashes, needs)
+
+returns : tie.Need-returns
+returns c = search (slashes, needs)
+
+sub-equal-parts : tie.Need-sub-equal-parts
+sub-equal-parts c = search (slashes, needs)
+
+equal-parts-requires : tie.Need-equal-parts-requires
+equal-parts-requires c κs = search (slashes, needs)
+
+returns-2 : tie.Need-returns-2
+returns-2 c = search (slashes, needs)
+
+pub same-parts-spec : {M : Type 1} → statement M
+same-parts-spec =
+    tie.close (tie.spec sub-if1 sub-if1-2 returns sub-equal-parts equal-parts-requires returns-2)
