@@ -1,0 +1,112 @@
+#!/usr/bin/env python3
+"""Writes inputs of the replay program with the calls that cost the card most into a folder: heaviest.py FOLDER
+
+  opening.in    an opening with 40 account lines that differ in their last characters only
+  full.in       a full book: 32 positions, 63 messages; then a message of 4,096 bytes with 16 details, all returned, for the last position, one of
+                4,096 bytes whose closing line is wrong, and a turn with 32 corrections of the largest amounts
+  opened.in     the same with 31 positions, and the message opens the one that stands before all others
+  accepted.in   the same with all details credited to the register's last account
+  damaged.in    a full book and that message; to be made again with a byte of the area changed
+"""
+import os
+import sys
+
+DAYS = ["0602%02d" % d for d in range(1, 29)] + ["0603%02d" % d for d in range(1, 6)]
+TODAY, TOMORROW = "060305", "060306"
+SENDER = "AAAABGSF"
+
+
+def iban(account):
+    """The IBAN of a bank's account number (001, annex 2)."""
+    digits = "".join(str(int(c, 36)) for c in account + "BG00")
+    return "BG%02d%s" % (98 - int(digits) % 97, account)
+
+
+# Accounts that are 97 apart have equal control digits, so that two of them differ as late as can be.
+ACCOUNTS = [iban("BNBG966130%08d" % (10000000 + 97 * n)) for n in range(41)]
+PAYER = iban("AAAA123110%08d" % 12345678)
+
+
+def lines(rows):
+    return "".join(row + "\r\n" for row in rows)
+
+
+def register():
+    return lines(ACCOUNTS[:1] + [account + ",500000,500000" for account in ACCOUNTS[1:]])
+
+
+def detail(number, amount, date, account, texts):
+    """A detail; `texts` are the lines of text of 50H, 52D, 59 and 70."""
+    return ([":21:DETAIL/REF/%05d" % number, ":32B:BGN" + amount, ":50H:/" + PAYER + "PAY000001"] + texts[0]
+            + [":52D:AAAA1231"] + texts[1] + [":59:/" + account] + texts[2]
+            + [":70:CENTRB" + date, "BAEREF" + date + "N%011d" % number] + texts[3])
+
+
+def mt101(number, details):
+    return lines(["101," + SENDER + ",BNBGBGSD", ":20:MESSAGE/REF%05d" % number] + [row for d in details for row in d] + ["-"])
+
+
+def small(number, date, amount):
+    """A message with one detail."""
+    return mt101(number, [detail(1, amount, date, ACCOUNTS[-1], [["A"]] * 4)])
+
+
+def large(number, date, code):
+    """A message of 4,096 bytes: 16 details for the register's last account with a payment code, every line of text there."""
+    room = [[1] * 4, [1], [1] * 3, [1] * 2]
+
+    def whole():
+        texts = [["T" * n for n in part] for part in room]
+        return mt101(number, [detail(k + 1, "059999999999,99", date, ACCOUNTS[-1] + "PAY" + code, texts) for k in range(16)])
+
+    left = (4096 - len(whole())) // 16
+    for part in room:
+        for k in range(len(part)):
+            more = min(34, left)
+            part[k] += more
+            left -= more
+    message = whole()
+    last = message.rindex("T\r\n") + 1
+    return message[:last] + "T" * min(4096 - len(message), 15) + message[last:]
+
+
+def opening():
+    return "O,%s,%d\r\n%s" % (TODAY, len(register()), register())
+
+
+def command(message):
+    return "M,%d\r\n%s" % (len(message), message)
+
+
+def book(dates, last):
+    """63 messages that open a position for each date with the largest amounts; the last position is left room."""
+    firsts = [small(n, date, "0,01" if date == last else "999999999999,98") for n, date in enumerate(dates)]
+    more = [small(n, last, "0,01") for n in range(len(dates), 63)]
+    return opening() + "".join(map(command, firsts + more))
+
+
+def wrong_end(message):
+    return message[:-3] + "+\r\n"
+
+
+def main(folder):
+    os.makedirs(folder, exist_ok=True)
+    late, early = DAYS[-32:], DAYS[-31:]
+    message = large(99, late[-1], "999999")
+    turn = "T," + TOMORROW + "\r\n"
+    days = {
+        "opening": opening(),
+        "full": book(late, late[-1]) + command(message) + command(wrong_end(message)) + turn,
+        "opened": book(early, early[-1]) + command(large(99, DAYS[0], "999999")) + turn,
+        "accepted": book(late, late[-1]) + command(large(99, late[-1], "500000")) + turn,
+        "damaged": book(late, late[-1]) + command(message),
+    }
+    for name, day in days.items():
+        with open(os.path.join(folder, name + ".in"), "wb") as file:
+            file.write(day.encode("ascii"))
+
+
+if __name__ == "__main__":
+    if len(sys.argv) != 2:
+        sys.exit(__doc__)
+    main(sys.argv[1])
