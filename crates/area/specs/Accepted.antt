@@ -1,6 +1,6 @@
 -- What a message that 1 to 8 let pass has: the sender is a bank, field 20 a reference, and its date exists. Assumes nothing.
 use mathlib.Core.Path.{_≡_, refl, sym, ap, _∙_}
-use mathlib.Core.Bool.{Bool, true, false, _&&_, _||_, not, cond, or-true}
+use mathlib.Core.Bool.{Bool, true, false, _&&_, _||_, not, cond}
 use mathlib.Core.List.{List, [], _∷_, _++_}
 use mathlib.Core.Option.{Option, none, some, Option·map}
 use Prim.Native.Nat.{ℕ, zero, suc, _+_, _-_, _^_, _≤_, _<_}
@@ -8,8 +8,8 @@ use native.Mathlib.Omega.{arith}
 use lib.Dec.{leb, eqb, lit≤}
 use lib.ListN.{length, getD, take, drop}
 use lib.Seq.{take-take}
-use borrow.Author.Tests.{le-leb, leb-true, eqb-true}
-use Rattle.rules.specs.Text.{ascii, between, digits, isDigit, isLetter, isAlnum, isText, every, run, equal, fits, fitsSign, number, bytes, then, given}
+use borrow.Author.Tests.{le-leb}
+use Rattle.rules.specs.Text.{ascii, digits, isText, run, equal, fits, fitsSign, number, bytes, then, given}
 use Rattle.rules.specs.Dates.{exists, date}
 use Rattle.rules.specs.Amounts.{amount}
 use Rattle.rules.specs.Accounts.{isBic}
@@ -17,10 +17,9 @@ use Rattle.rules.specs.Lines.{Line, Taken, line, opening, closing, lines, inLin
 use Rattle.rules.specs.Forms.{Row, Rowed, Rest, reference, fitsRest, fitsRow, leadRows, rowed, transferRows, orderRows, detailRows}
 use Rattle.rules.specs.Messages.{Message, mt103, mt101, Transfer, Detail, Detailed, Order, lineOf, transferOf, detailOf, detailed, details, readTransfer, readOrder, read, senderOf, referenceOf, detailsOf, firstDate, dateOf}
 use Rattle.rules.specs.Engine.{isBank}
-use Rattle.laws.specs.Numbers.{Within, Within.no-place, Within.and-place, bytes-number, number-small}
+use Rattle.laws.specs.Numbers.{bic-number, bic-small}
 use Rattle.laws.specs.Parts.{cut, from, from-take}
-use Rattle.laws.specs.Reading.{fits-length}
-use Rattle.laws.specs.Tests.{and-left, and-right, cond-right, between-low, between-high}
+use Rattle.laws.specs.Tests.{and-left, and-right, cond-right}
 use Rattle.area.specs.Facts.{never, cond-left, cond-both, Came, came, Gave, gave, some-is}
 
 -- ---- a date that is read exists
@@ -158,46 +157,10 @@ front-part : (s : List ℕ) (a n k : ℕ) → a + n ≤ k → take n (drop a (ta
 unfolding cut from
 front-part s a n k h = from-take (take k s) a n ∙ ap (drop a) (take-take (a + n) k s h) ∙ sym (from-take s a n)
 
--- bytes that fit a pattern are bytes
-alnum-small : (c : ℕ) → isAlnum c ≡ true → c < 256
-unfolding isAlnum isDigit isLetter
-alnum-small c h = go (between 48 57 c) refl h
-  where
-    go : (t : Bool) → between 48 57 c ≡ t → (t || between 65 90 c) ≡ true → c < 256
-    go true e k = let l : c ≤ 57 = between-high 48 57 c e in omega arith
-    go false e k = let l : c ≤ 90 = between-high 65 90 c k in omega arith
-
-sign-small : (p c : ℕ) → leb p 255 ≡ true → fitsSign p c ≡ true → c < 256
-unfolding fitsSign isAlnum
-sign-small p c h k = go (eqb p 110) (eqb p 97) (eqb p 99) k
-  where
-    go : (t u v : Bool) → cond t (isDigit c) (cond u (isLetter c) (cond v (isAlnum c) (eqb p c))) ≡ true → c < 256
-    go true u v e = alnum-small c (rw e)
-    go false true v e = alnum-small c (rw (e, or-true))
-    go false false true e = alnum-small c e
-    go false false false e = let q : p ≡ c = eqb-true p c e in let l : p ≤ 255 = leb-true p 255 h in omega arith
-
-abbrev small : ℕ → Bool
-small p = leb p 255
-
-pub fits-bytes : (ps cs : List ℕ) → every small ps ≡ true → fits ps cs ≡ true → Within 256 0 cs
-unfolding fits every
-fits-bytes [] [] h k = no-place
-fits-bytes [] (c ∷ cs) h k = never (sym k)
-fits-bytes (p ∷ ps) [] h k = never (sym k)
-fits-bytes (p ∷ ps) (c ∷ cs) h k =
-    let l : c < 256 = sign-small p c (cond-left (small p) (every small ps) h) (cond-left (fitsSign p c) (fits ps cs) k) in
-    and-place {c = c} (omega arith) (omega arith) (fits-bytes ps cs (cond-right (small p) (every small ps) h) (cond-right (fitsSign p c) (fits ps cs) k))
-
 -- the number of a BIC is a bank
 pub bic-bank : (cs : List ℕ) → isBic cs ≡ true → isBank (number cs) ≡ true
-unfolding isBank isBic every
-bic-bank cs h =
-    let w : Within 256 0 cs = fits-bytes (ascii "aaaaaacc") cs refl h in
-    let l : 8 ≡ length cs = fits-length (ascii "aaaaaacc") cs h in
-    let b : bytes 8 (number cs) ≡ cs = rw l (bytes-number w) in
-    let n : number cs < 256 ^ 8 = rw (← l) at (number-small w) in
-    rw (le-leb (number cs) 18446744073709551615 (omega arith), b) h
+unfolding isBank
+bic-bank cs h = let n : number cs < 256 ^ 8 = bic-small cs h in rw (le-leb (number cs) 18446744073709551615 (omega arith), bic-number cs h) h
 
 pub sender-bank : (s : List ℕ) → framed s ≡ true → isBank (number (sender s)) ≡ true
 unfolding framed opening sender isBic

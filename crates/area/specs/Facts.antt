@@ -47,6 +47,12 @@ any-right false b h = h
 pub any-neither : (a b : Bool) → a ≡ false → b ≡ false → cond a true b ≡ false
 any-neither a b h k = rw (h, k)
 
+-- two tests that hold together
+pub either : (s t : Bool) → (s ≡ true → t ≡ true) → (t ≡ true → s ≡ true) → s ≡ t
+either true t f g = sym (f refl)
+either false true f g = g refl
+either false false f g = refl
+
 -- ---- equal bytes
 
 pub equal-true : (a b : List ℕ) → equal a b ≡ true → a ≡ b

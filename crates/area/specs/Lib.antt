@@ -8,3 +8,10 @@ pub mod References
 pub mod Accepted
 pub mod Keeps
 pub mod Calls
+pub mod Bytes
+pub mod Walk
+pub mod Tests
+pub mod Records
+pub mod Checked
+pub mod Sections
+pub mod Holding
