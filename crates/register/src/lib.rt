@@ -4,6 +4,7 @@ mod lines;
 mod search;
 
 pub use check::register_passes;
+pub use lines::bound_at;
 pub use search::Found;
 pub use search::account_high;
 pub use search::account_low;
