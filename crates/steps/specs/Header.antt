@@ -1,0 +1,33 @@
+-- The header of an area in its two halves: what changes from call to call, and what an opening leaves for good. Assumes nothing.
+use mathlib.Core.Path.{_≡_, refl}
+use mathlib.Core.List.{List, _++_}
+use Prim.Native.Nat.{ℕ}
+use lib.ListN.{length, length-append}
+use Rattle.rules.specs.Text.{bytes}
+use Rattle.rules.specs.Engine.{Engine}
+use Rattle.rules.specs.Area.{mark, header}
+use Rattle.laws.specs.Digits.{places-length}
+use Rattle.laws.specs.Writing.{Wrote, wrote-then}
+
+-- mark, day, outgoing count, how many positions, how many references
+unfoldable pub numbers : ℕ → ℕ → ℕ → ℕ → List ℕ
+numbers day count positions references = mark ++ bytes 3 day ++ bytes 2 count ++ bytes 1 positions ++ bytes 1 references
+
+-- currency, and the lengths of three texts, of which the register is the first
+unfoldable pub lengths : ℕ → List ℕ
+lengths register = bytes 1 0 ++ bytes 2 register ++ bytes 4 0
+
+pub header-halves : (e : Engine) → header e ≡ numbers (e .day) (e .count) (length (e .positions)) (length (e .references)) ++ lengths (length (e .register))
+unfolding header numbers lengths
+header-halves e = refl
+
+pub numbers-length : (day count positions references : ℕ) → length (numbers day count positions references) ≡ 9
+unfolding numbers
+numbers-length day count positions references = simp (length-append, places-length)
+
+-- written one behind the other
+pub numbers-wrote : (day count positions references : ℕ) {at m₁ m₂ m₃ m₄ r : ℕ} {out o₁ o₂ o₃ o₄ out' : List ℕ} → Wrote mark at out m₁ o₁ → Wrote (bytes 3 day) m₁ o₁ m₂ o₂ → Wrote (bytes 2 count) m₂ o₂ m₃ o₃
+    → Wrote (bytes 1 positions) m₃ o₃ m₄ o₄ → Wrote (bytes 1 references) m₄ o₄ r out' → Wrote (numbers day count positions references) at out r out'
+unfolding numbers
+numbers-wrote day count positions references u v w x y =
+    wrote-then {a = mark ++ bytes 3 day ++ bytes 2 count ++ bytes 1 positions} (wrote-then {a = mark ++ bytes 3 day ++ bytes 2 count} (wrote-then {a = mark ++ bytes 3 day} (wrote-then {a = mark} u v) w) x) y

@@ -1,0 +1,45 @@
+// An opening written into an area.
+use crate::parts::put_numbers;
+use crate::parts::put_padded;
+ghost use mathlib.Core.Path.{_≡_};
+ghost use mathlib.Core.Bool.{true};
+ghost use mathlib.Core.List.{_++_};
+ghost use Prim.Native.Nat.{_≤_};
+ghost use lib.ListN.{length, drop};
+ghost use Rattle.rules.specs.Text.{isSome};
+ghost use Rattle.rules.specs.Register.{register};
+ghost use Rattle.rules.specs.Calls.{opened};
+ghost use Rattle.rules.specs.Area.{encode};
+ghost use Rattle.laws.specs.Writing.{Wrote};
+ghost use Rattle.steps.specs.Header.{lengths};
+ghost use Rattle.steps.specs.Opening.{openedParts};
+
+// The header's lengths of texts.
+fn put_lengths(area: &mut [u8], at: usize, n: u64) -> usize
+    ensures { λ r. ⌜ Wrote (lengths n) at (now (area .entry)) r (now (area .exit)) ⌝ }
+{
+    let a = put::put_be(area, at, 1, 0);
+    let b = put::put_be(area, a, 2, n);
+    put::put_be(area, b, 4, 0)
+}
+
+// The parts of an opened engine's area.
+fn put_opened(area: &mut [u8], text: &[u8], day: u64) -> usize
+    requires { ⌜ length (now text) ≤ 3824 ⌝ }
+    ensures { λ r. ⌜ Wrote (openedParts (now (text .entry)) day) 0 (now (area .entry)) r (now (area .exit)) ⌝ }
+{
+    let a = put_numbers(area, day, 0, 0, 0);
+    let b = put_lengths(area, a, text.len() as u64);
+    let c = put::put_zeros(area, b, 1536);
+    let d = put::put_zeros(area, c, 768);
+    put_padded(area, d, 3824, text, 0, text.len())
+}
+
+// "Opening takes the register and a day and gives an engine with no positions, references or output."
+pub fn open_area(area: &mut [u8], text: &[u8], day: u32)
+    requires { ⌜ 6144 ≤ length (now area) ⌝ }
+    requires { ⌜ isSome (register (now text)) ≡ true ⌝ }
+    ensures { λ _. ⌜ now (area .exit) ≡ encode (opened (now (text .entry)) day) ++ drop 6144 (now (area .entry)) ⌝ }
+{
+    put_opened(area, text, day as u64);
+}

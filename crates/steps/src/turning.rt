@@ -1,0 +1,56 @@
+// A turn made in an area: positions with details are removed, references and outgoing number start anew.
+use crate::parts::number_at;
+use crate::parts::numbers_of;
+use crate::parts::put_numbers;
+ghost use mathlib.Core.Path.{_≡_};
+ghost use mathlib.Core.Bool.{true};
+ghost use mathlib.Core.List.{_++_};
+ghost use Prim.Native.Nat.{_+_, _*_, _≤_};
+ghost use lib.ListN.{length, take, drop};
+ghost use Rattle.rules.specs.Text.{isSome};
+ghost use Rattle.rules.specs.Area.{encode, decode, holds};
+ghost use Rattle.laws.specs.Moving.{Sifted};
+ghost use Rattle.steps.specs.Turning.{turned, stays};
+
+// "A position without details stays": that of the record at a place?
+fn stays_at(area: &[u8], at: usize) -> bool
+    requires { ⌜ at + 24 ≤ length (now area) ⌝ }
+    ensures { λ r. ⌜ r ≡ stays (take 24 (drop at (now (area .entry)))) ⌝ }
+{
+    let detailed = number_at(area, at + 17, 6);
+    if detailed > 0 {
+        return false;
+    }
+    true
+}
+
+// Of n positions those without details are kept, in their order; the room of the others is zero. Answers how many are kept.
+fn remove_detailed(area: &mut [u8], n: usize) -> usize
+    requires { ⌜ 1552 + 24 * n ≤ length (now area) ⌝ }
+    ensures { λ r. ⌜ Sifted stays 24 n 1552 (now (area .entry)) r (now (area .exit)) ⌝ }
+{
+    let mut i = 0;
+    let mut j = 0;
+    while i < n {
+        if stays_at(area, 1552 + 24 * i) {
+            records::keep_record(area, 1552, 24, i, j);
+            i += 1;
+            j += 1;
+        } else {
+            i += 1;
+        }
+    }
+    put::put_zeros(area, 1552 + 24 * j, 24 * (n - j));
+    j
+}
+
+// The turn of an engine to a day, with the count of the messages that it writes.
+pub fn turn_area(area: &mut [u8], day: u32, count: u32)
+    requires { ⌜ isSome (holds (now area)) ≡ true ⌝ }
+    ensures { λ _. ⌜ now (area .exit) ≡ encode (turned (decode (now (area .entry))) day count) ++ drop 6144 (now (area .entry)) ⌝ }
+{
+    let x = numbers_of(area);
+    let kept = remove_detailed(area, x.positions as usize);
+    put::put_zeros(area, 16, 1536);
+    put_numbers(area, day as u64, count as u64, kept as u64, 0);
+}
