@@ -11,9 +11,10 @@ use borrow.Author.Tests.{eqb-true, ne-eqb}
 use Rattle.rules.specs.Engine.{Position, alike, ordered, booked}
 use Rattle.rules.specs.Ledger.{entered}
 use Rattle.laws.specs.Tests.{and-left, and-right}
+use Rattle.area.specs.Facts.{never}
 use Rattle.area.specs.Layout.{All, All.none, All.more}
 use Rattle.area.specs.Positions.{Before, Before.bank, Before.date, before-trans, Place, Place.same, Place.ahead, Place.behind, place, Sorted, Sorted.empty, Sorted.next, ordered-sorted, raised, booked-same, booked-ahead, booked-behind}
-use Rattle.balance.specs.Tally.{Measure, tally, Same, one, transfers, details, only, like}
+use Rattle.balance.specs.Tally.{Measure, Test, tally, Same, one, transfers, details, only, like}
 
 -- how many entries are of q's bank and date
 unfoldable pub many : Position → List Position → ℕ
@@ -117,6 +118,23 @@ tally-entered g q adds (p ∷ ps) = go (alike p q) refl (tally-entered g q adds 
     go : (t : Bool) → alike p q ≡ t → tally g (entered q ps) ≡ tally g ps + g q → tally g (cond t (raised p q ∷ ps) (p ∷ entered q ps)) ≡ g p + tally g ps + g q
     go true e i = omega (arith, adds p e)
     go false e i = omega arith
+
+-- a total of the entries that pass a test of bank and date
+pub total-entered : (t : Test) (v : Measure) (q : Position) → ((p : Position) → alike p q ≡ true → t p ≡ t q) → ((p : Position) → t (raised p q) ≡ t p)
+    → ((p : Position) → v (raised p q) ≡ v p + v q) → (ps : List Position) → tally (only t v) (entered q ps) ≡ tally (only t v) ps + only t v q
+unfolding only
+total-entered t v q agrees stays adds ps =
+    tally-entered (only t v) q (λ p h. rw (stays p) (go p (t p) (t q) (agrees p h))) ps
+  where
+    go : (p : Position) (x y : Bool) → x ≡ y → cond x (v (raised p q)) 0 ≡ cond x (v p) 0 + cond y (v q) 0
+    go p true true e = adds p
+    go p false false e = refl
+    go p true false e = never e
+    go p false true e = never (sym e)
+
+pub like-agrees : (k p q : Position) → alike p q ≡ true → like k p ≡ like k q
+unfolding like alike
+like-agrees k p q h = rw (eqb-true (p .bank) (q .bank) (and-left _ _ h), eqb-true (p .date) (q .date) (and-right (eqb (p .bank) (q .bank)) _ h))
 
 raised-none : (p : Position) (b d : ℕ) → raised p (keyed b d) ≡ p
 unfolding keyed

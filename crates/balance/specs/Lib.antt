@@ -1,3 +1,4 @@
+pub mod Each
 pub mod Texts
 pub mod Told
 pub mod Signs
@@ -9,4 +10,6 @@ pub mod Accounts
 pub mod Message
 pub mod Tally
 pub mod Turn
+pub mod Settled
+pub mod Untouched
 pub mod Booking

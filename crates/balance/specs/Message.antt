@@ -16,6 +16,7 @@ use Rattle.rules.specs.Written.{Book, posting, fromBank, toAccount, toBank, ver
 use Rattle.rules.specs.Calls.{bankOf, verdictOf, returnedOf, detailPosting, detailPostings, postings, judged, after, messageText}
 use Rattle.rules.specs.Ledger.{Kind, Fed, isParty}
 use Rattle.area.specs.Layout.{All, All.none, All.more}
+use Rattle.balance.specs.Tally.{nought}
 use Rattle.balance.specs.Told.{Tells, tells-none, tells-join, tells-same, tells-mute, Mute, mute-none}
 use Rattle.balance.specs.Messages.{Sent, mute-verdicts}
 use Rattle.balance.specs.Details.{Listed, Details, Details.transfer, Details.order}
@@ -64,11 +65,7 @@ returned-sent r (more {x = d} {xs = ds} s t) = go (isReturned (verdictOf r d)) (
 
 pub mine-none : (bank x : ℕ) → mine bank x 0 ≡ 0
 unfolding mine
-mine-none bank x = go (eqb x bank)
-  where
-    go : (t : Bool) → cond {A = ℕ} t 0 0 ≡ 0
-    go true = refl
-    go false = refl
+mine-none bank x = nought (eqb x bank)
 
 pub mine-adds : (bank x v w : ℕ) → mine bank x (v + w) ≡ mine bank x v + mine bank x w
 unfolding mine

@@ -14,6 +14,7 @@ use Rattle.rules.specs.Engine.{Position, bic, limit}
 use Rattle.rules.specs.Written.{reference, opened, field, size, returnedRows, allReturned, linked, position79, closed79, mt199, partsOf, mt199s, verdicts, field72, mt204, mt205}
 use Rattle.laws.specs.Digits.{places-length, width-bound, width-most}
 use Rattle.area.specs.Layout.{All, All.none, All.more}
+use Rattle.balance.specs.Each.{all-take, all-drop}
 use Rattle.balance.specs.Texts.{inLine}
 use Rattle.balance.specs.Told.{Short, short-join, short-text, Mute, mute-none, mute-line, mute-join}
 use Rattle.balance.specs.Signs.{short-fixed, short-decimal, short-written, short-bic, short-iban}
@@ -48,16 +49,6 @@ pub record Sent (d : Detail) : Type 0 where
   pub dated : Short 6 (baerefDate d)
   pub named : Short 12 (baerefName d)
   pub account : Short 34 (account59 d)
-
-all-take : {A : Type 0} {P : A → Type 0} (n : ℕ) {xs : List A} → All P xs → All P (take n xs)
-all-take zero s = none
-all-take (suc n) none = none
-all-take (suc n) (more p s) = more p (all-take n s)
-
-all-drop : {A : Type 0} {P : A → Type 0} (n : ℕ) {xs : List A} → All P xs → All P (drop n xs)
-all-drop zero s = s
-all-drop (suc n) none = none
-all-drop (suc n) (more p s) = all-drop n s
 
 mute-returned : {ds : List Detail} → All Sent ds → Mute (allReturned ds)
 unfolding allReturned returnedRows every inLine

@@ -56,6 +56,11 @@ bare p = not (hasDetails p)
 unfoldable pub equalTo : Position → Test
 equalTo q p = alike p q && eqb (p .transferred) (q .transferred) && eqb (p .detailed) (q .detailed)
 
+-- nothing either way
+pub nought : (t : Bool) → cond {A = ℕ} t 0 0 ≡ 0
+nought true = refl
+nought false = refl
+
 -- ---- the ledger's sums as tallies
 
 -- a sum that adds v where a test holds
@@ -87,12 +92,16 @@ kept-tally g (p ∷ ps) = go (hasDetails p) (kept-tally g ps)
     go true e = omega arith
     go false e = omega arith
 
--- three measures whose sum is that of three others, at each position
-pub tally-three : (f g h f' g' h' : Measure) → ((p : Position) → f p + g p + h p ≡ f' p + g' p + h' p) → (ps : List Position)
-    → tally f ps + tally g ps + tally h ps ≡ tally f' ps + tally g' ps + tally h' ps
+-- measures that agree at each position, and the sum of two
+pub tally-each : (f g : Measure) → ((p : Position) → f p ≡ g p) → (ps : List Position) → tally f ps ≡ tally g ps
 unfolding tally
-tally-three f g h f' g' h' e [] = refl
-tally-three f g h f' g' h' e (p ∷ ps) = omega (arith, e p, tally-three f g h f' g' h' e ps)
+tally-each f g e [] = refl
+tally-each f g e (p ∷ ps) = omega (arith, e p, tally-each f g e ps)
+
+pub tally-add : (f g : Measure) (ps : List Position) → tally f ps + tally g ps ≡ tally (λ (p : Position). f p + g p) ps
+unfolding tally
+tally-add f g [] = refl
+tally-add f g (p ∷ ps) = omega (arith, tally-add f g ps)
 
 -- ---- the same entries
 

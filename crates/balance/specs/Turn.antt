@@ -21,7 +21,7 @@ use Rattle.balance.specs.Messages.{mute-204, mute-205}
 use Rattle.balance.specs.Accounts.{temporary-shape}
 use Rattle.balance.specs.Kinds.{comesIn, goesOut, Kept, mine, bank-party, in-from, out-from, in-paid, out-paid}
 use Rattle.balance.specs.Message.{mine-none}
-use Rattle.balance.specs.Tally.{Measure, tally, only, ofBank, bare, transfers, details, transferred-tally, detailed-tally, kept-tally, tally-three}
+use Rattle.balance.specs.Tally.{Measure, tally, only, ofBank, bare, transfers, details, transferred-tally, detailed-tally, kept-tally, tally-each, tally-add}
 
 -- what a turn counts for a position that it removes: up what it refunds and down what it collects, each by the bank
 unfoldable pub closed : (ℕ → ℕ → ℕ) → (ℕ → ℕ → ℕ) → Measure
@@ -126,6 +126,8 @@ unfolding closed mine only ofBank bare hasDetails
 turn-settles bank ps =
     let t : Measure = only (ofBank bank) transfers in
     let d : Measure = only (ofBank bank) details in
+    let c : Measure = closed nothing (mine bank) in
+    let r : Measure = closed (mine bank) nothing in
     omega (
       arith,
       transferred-tally bank ps,
@@ -134,7 +136,11 @@ turn-settles bank ps =
       detailed-tally bank (kept ps),
       kept-tally t ps,
       kept-tally d ps,
-      tally-three (closed nothing (mine bank)) t (only bare d) (closed (mine bank) nothing) d (only bare t) each ps,
+      tally-add c t ps,
+      tally-add (λ p. c p + t p) (only bare d) ps,
+      tally-add r d ps,
+      tally-add (λ p. r p + d p) (only bare t) ps,
+      tally-each (λ p. c p + t p + only bare d p) (λ p. r p + d p + only bare t p) each ps,
     )
   where
     go : (p : Position) (u v : Bool) → leb 1 (p .detailed) ≡ u
