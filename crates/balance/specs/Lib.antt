@@ -12,4 +12,7 @@ pub mod Tally
 pub mod Turn
 pub mod Settled
 pub mod Untouched
+pub mod Admission
+pub mod Running
+pub mod Demand
 pub mod Booking

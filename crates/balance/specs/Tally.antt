@@ -92,11 +92,16 @@ kept-tally g (p ∷ ps) = go (hasDetails p) (kept-tally g ps)
     go true e = omega arith
     go false e = omega arith
 
--- measures that agree at each position, and the sum of two
+-- measures that agree at each position, that are nothing at each, and the sum of two
 pub tally-each : (f g : Measure) → ((p : Position) → f p ≡ g p) → (ps : List Position) → tally f ps ≡ tally g ps
 unfolding tally
 tally-each f g e [] = refl
 tally-each f g e (p ∷ ps) = omega (arith, e p, tally-each f g e ps)
+
+pub tally-none : (g : Measure) → ((p : Position) → g p ≡ 0) → (ps : List Position) → tally g ps ≡ 0
+unfolding tally
+tally-none g e [] = refl
+tally-none g e (p ∷ ps) = omega (arith, e p, tally-none g e ps)
 
 pub tally-add : (f g : Measure) (ps : List Position) → tally f ps + tally g ps ≡ tally (λ (p : Position). f p + g p) ps
 unfolding tally
