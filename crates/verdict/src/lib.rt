@@ -1,4 +1,8 @@
 // The judgement of a detail: field 59 behind its slash, credited or returned.
+mod detail;
+
+pub use detail::Judged;
+pub use detail::judge_detail;
 use register::Found;
 ghost use mathlib.Core.Path.{_≡_};
 ghost use mathlib.Core.Bool.{true};

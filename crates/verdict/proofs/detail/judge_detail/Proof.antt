@@ -1,0 +1,30 @@
+-- `verdict::detail::judge_detail` meets its contract: what is judged is row 9 of the detail, behind `:59:/`. Assumes nothing.
+use borrow.Author.Needs.{needs}
+use Rattle.verdict.specs.Details.{detailing}
+use Rattle.verdict.proofs.detail.judge_detail.Statement.{statement}
+use Rattle.verdict.proofs.detail.judge_detail.Tie as tie
+
+read-detail-requires : tie.Need-read-detail-requires
+read-detail-requires c κs = search (detailing, needs)
+
+array-copy-out-behind : tie.Need-array-copy-out-behind
+array-copy-out-behind c = search (detailing, needs)
+
+behind-requires : tie.Need-behind-requires
+behind-requires c κs = search (detailing, needs)
+
+judge-part-requires : tie.Need-judge-part-requires
+judge-part-requires c κs = search (detailing, needs)
+
+returns : tie.Need-returns
+returns c = search (detailing, needs)
+
+pub judge-detail-spec : {M : Type 1} → statement M
+judge-detail-spec =
+    tie.close
+    (tie.spec
+    read-detail-requires
+    array-copy-out-behind
+    behind-requires
+    judge-part-requires
+    returns)
