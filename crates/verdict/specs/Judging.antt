@@ -16,6 +16,7 @@ use Rattle.rules.specs.Verdict.{found, accountAt, shaped, inBounds, judged, ver
 use Rattle.laws.specs.Parts.{cut, cut-take, cut-drop, cut-done, cut-length}
 use Rattle.laws.specs.Tests.{and-left, and-right, not-held, never}
 use Rattle.laws.specs.Reading.{fits-length}
+use Rattle.laws.specs.Equal.{equal-true}
 use Rattle.register.specs.Answers.{foundOf}
 use Rattle.register.specs.AccountLine.{bound}
 use Rattle.register.specs.Places.{boundAt}
@@ -25,13 +26,8 @@ use Rattle.register.specs.declared.search.Found.the-variants.{At, Nothing}
 -- ---- shape
 
 -- "an IBAN, alone or followed by `PAY` and six digits": 22 bytes or 31
-none-equal : (cs : List ℕ) → equal cs [] ≡ true → length cs ≡ 0
-unfolding equal
-none-equal [] h = refl
-none-equal (c ∷ cs) h = never h
-
 either : (cs : List ℕ) (a : Bool) → equal cs [] ≡ a → (a || fits (ascii "PAYnnnnnn") cs) ≡ true → (length cs ≡ 0) ⊎ (length cs ≡ 9)
-either cs true e h = inl (none-equal cs e)
+either cs true e h = inl (ap length (equal-true cs [] e))
 either cs false e h = inr (sym (fits-length (ascii "PAYnnnnnn") cs h))
 
 pub shaped-length : (cs : List ℕ) → shaped cs ≡ true → (length cs ≡ 22) ⊎ (length cs ≡ 31)
