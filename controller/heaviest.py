@@ -1,12 +1,15 @@
 #!/usr/bin/env python3
-"""Writes inputs of the replay program with the calls that cost the card most into a folder: heaviest.py FOLDER
+"""Writes days, inputs of the replay program, whose last call is one that costs the card most into a folder: heaviest.py FOLDER
 
-  opening.in    an opening with 40 account lines that differ in their last characters only
-  full.in       a full book: 32 positions, 63 messages; then a message of 4,096 bytes with 16 details, all returned, for the last position, one of
-                4,096 bytes whose closing line is wrong, and a turn with 32 corrections of the largest amounts
-  opened.in     the same with 31 positions, and the message opens the one that stands before all others
-  accepted.in   the same with all details credited to the register's last account
-  damaged.in    a full book and that message; to be made again with a byte of the area changed
+A full book has 32 positions, each with details of the largest amount, and 63 messages of one sender whose references differ in their last
+characters only; the register has 40 account lines that differ in their last characters only. A large message has 4,096 bytes and 16 details.
+
+  opening       an opening with this register
+  returned      a large message for the last position of a full book, all details returned
+  opened        the same with 31 positions; the message opens the one that stands before all others
+  credited      as `returned`, with all details credited to the register's last account
+  unframed      as `returned`, with a wrong closing line (1)
+  turn          a turn of the full book with 32 corrections, after the large message
 """
 import os
 import sys
@@ -92,14 +95,15 @@ def wrong_end(message):
 def main(folder):
     os.makedirs(folder, exist_ok=True)
     late, early = DAYS[-32:], DAYS[-31:]
-    message = large(99, late[-1], "999999")
-    turn = "T," + TOMORROW + "\r\n"
+    full = book(late, late[-1])
+    returned = large(99, late[-1], "999999")
     days = {
         "opening": opening(),
-        "full": book(late, late[-1]) + command(message) + command(wrong_end(message)) + turn,
-        "opened": book(early, early[-1]) + command(large(99, DAYS[0], "999999")) + turn,
-        "accepted": book(late, late[-1]) + command(large(99, late[-1], "500000")) + turn,
-        "damaged": book(late, late[-1]) + command(message),
+        "returned": full + command(returned),
+        "opened": book(early, early[-1]) + command(large(99, DAYS[0], "999999")),
+        "credited": full + command(large(99, late[-1], "500000")),
+        "unframed": full + command(wrong_end(returned)),
+        "turn": full + command(returned) + "T," + TOMORROW + "\r\n",
     }
     for name, day in days.items():
         with open(os.path.join(folder, name + ".in"), "wb") as file:

@@ -18,16 +18,25 @@ static uint32_t length_of(const char *text) {
   return n;
 }
 
-static int host_open(const char *name, uint32_t mode) {
+/* How a file is opened: 'rb' and 'wb' of the C library. */
+enum { TO_READ = 1, TO_WRITE = 5 };
+
+static int host_try(const char *name, uint32_t mode) {
   uint32_t block[3] = {(uint32_t)(uintptr_t)name, mode, length_of(name)};
-  int file = (int)host_call(SYS_OPEN, block);
+  return (int)host_call(SYS_OPEN, block);
+}
+
+static int host_open(const char *name, uint32_t mode) {
+  int file = host_try(name, mode);
   if (file < 0) host_end("a file cannot be opened\n", 2);
   return file;
 }
 
-int host_open_to_read(const char *name) { return host_open(name, 1); }
+int host_has(const char *name) { return host_try(name, TO_READ) >= 0; }
 
-int host_open_to_write(const char *name) { return host_open(name, 5); }
+int host_open_to_read(const char *name) { return host_open(name, TO_READ); }
+
+int host_open_to_write(const char *name) { return host_open(name, TO_WRITE); }
 
 size_t host_read(int file, uint8_t *bytes, size_t n) {
   size_t got = 0;

@@ -5,7 +5,10 @@
 #include <stddef.h>
 #include <stdint.h>
 
-/* Opens a file of the folder in which the emulator runs. */
+/* Is there such a file in the folder in which the emulator runs? */
+int host_has(const char *name);
+
+/* Opens a file of that folder. */
 int host_open_to_read(const char *name);
 int host_open_to_write(const char *name);
 

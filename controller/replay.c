@@ -1,9 +1,9 @@
 /* The line card on the emulated controller: replays a day as linecard/replay.c does, each call on the card's own stack.
  *
  * It reads the file `input` and writes `output`, the bytes that the replay program prints, and `figures`, a line for each call:
- * call, number answered, length of its text, bytes written, deepest stack, instructions. The first word it is given is the room of the output.
- * With a second word `damaged` the last call is made again and again, each time with another byte of the area changed, and only those that
- * answer 10 are told of; the output is then as before.
+ * call, number answered, length of its text, bytes written, deepest stack, instructions. The area begins as the file `area` where there is one,
+ * else as zeros, and is left in the file `left`. The first word the program is given is the room of the output. With a second word
+ * `damaged` the last call is made again and again, each time with another byte of the area changed, and those that answer 10 have a line too.
  */
 #include <string.h>
 
@@ -126,6 +126,7 @@ void line_card(void) {
   output_file = host_open_to_write("output");
   figures_file = host_open_to_write("figures");
   memset(card_area, 0, CARD_AREA);
+  if (host_has("area")) host_read(host_open_to_read("area"), card_area, CARD_AREA);
   measured(nothing);
   instructions_of_nothing = call.instructions;
   while (next_command(input, size, &at, &command)) {
@@ -135,6 +136,7 @@ void line_card(void) {
     print_answer();
     print_figures(names[command.kind]);
   }
+  host_write(host_open_to_write("left"), card_area, CARD_AREA);
   if (damaged) make_damaged_calls();
   host_end(0, 0);
 }
