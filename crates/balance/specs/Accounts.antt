@@ -1,17 +1,17 @@
 -- The accounts that posting lines name are IBANs: the temporary account of a register that passed 9, and the account of a detail that is credited. Assumes nothing.
-use mathlib.Core.Path.{_≡_, refl, sym, ap, _∙_}
-use mathlib.Core.Bool.{Bool, true, false, _&&_, _||_, not, cond}
+use mathlib.Core.Path.{_≡_, refl}
+use mathlib.Core.Bool.{Bool, true, false, not, cond}
 use mathlib.Core.List.{List, [], _∷_}
-use mathlib.Core.Option.{Option, none, some, Option·getD}
+use mathlib.Core.Option.{Option, none, some}
 use Prim.Native.Nat.{ℕ, suc, _+_}
 use native.Mathlib.Omega.{arith}
 use lib.ListN.{getD, take}
-use Rattle.rules.specs.Text.{equal, then, given, isSome}
+use Rattle.rules.specs.Text.{equal, isSome}
 use Rattle.rules.specs.Accounts.{ibanShape, control, passes}
 use Rattle.rules.specs.Lines.{Line, lines}
 use Rattle.rules.specs.Register.{Account, Register, accountLines, sound, ofLines, register, registerOf}
-use Rattle.rules.specs.Verdict.{Verdict, credited, returned, Cause, wrongShape, wrongControl, notInRegister, outOfBounds, found, noAccount, accountAt, shaped, inBounds, judged, verdict}
-use Rattle.laws.specs.Tests.{and-left, and-right}
+use Rattle.rules.specs.Verdict.{credited, returned, Cause, wrongShape, wrongControl, outOfBounds, found, noAccount, accountAt, shaped, inBounds, judged, verdict}
+use Rattle.laws.specs.Tests.{and-left}
 use Rattle.area.specs.Facts.{equal-true, There, there, Came, came, gave, some-is}
 use Rattle.balance.specs.Texts.{no-some}
 

@@ -1,8 +1,8 @@
 -- What is known of an accepted message: its posting lines can be read back, it is dated as 11 asks, and its details are worth something. Assumes nothing.
-use mathlib.Core.Path.{_≡_, refl, sym, ap, _∙_}
-use mathlib.Core.Bool.{Bool, true, false, _&&_, _||_, not, cond}
+use mathlib.Core.Path.{_≡_}
+use mathlib.Core.Bool.{true, false, not}
 use mathlib.Core.List.{List, [], _∷_}
-use mathlib.Core.Option.{Option, some}
+use mathlib.Core.Option.{some}
 use Prim.Native.Nat.{ℕ, _+_, _^_, _≤_, _<_}
 use native.Mathlib.Omega.{arith}
 use lib.Dec.{leb, eqb}
@@ -17,7 +17,7 @@ use Rattle.area.specs.Facts.{or-left, or-right, any-left}
 use Rattle.area.specs.Limits.{Limits, bank-small}
 use Rattle.area.specs.Accepted.{Has, read-has, sender-bank}
 use Rattle.area.specs.Keeps.{Clear}
-use Rattle.balance.specs.Details.{Listed, Details, Details.transfer, Details.order, read-details}
+use Rattle.balance.specs.Details.{Details, Details.transfer, Details.order, read-details}
 use Rattle.balance.specs.Accounts.{temporary-shape}
 use Rattle.balance.specs.Message.{bookOf, Postable}
 use Rattle.balance.specs.Untouched.{Admitted, Admitted.transfer, Admitted.order}
@@ -30,7 +30,7 @@ unfolding bookOf isBank overLimit after
 postable room e s m l r c =
     let a : Has s m = read-has s m r in
     let b : isBank (bankOf m) ≡ true = rw (a .sent) (sender-bank s (c .frame)) in record {
-      kept = record {
+      book = record {
         known = and-right (leb (bankOf m) 18446744073709551615) _ b;
         small = omega (arith, bank-small (bankOf m) b);
         account = temporary-shape (e .register) (l .register);

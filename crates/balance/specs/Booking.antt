@@ -1,9 +1,9 @@
 -- A message booked: `entered` in the ledger and `booked` among the engine's positions change every sum alike, so that entries and positions
 -- stay the same. Both take the one entry of q's bank and date out and put q's totals added to it in. Assumes nothing.
 use mathlib.Core.Path.{_≡_, refl, sym, ap, _∙_}
-use mathlib.Core.Bool.{Bool, true, false, _&&_, cond, and-false}
+use mathlib.Core.Bool.{Bool, true, false, cond, and-false}
 use mathlib.Core.List.{List, [], _∷_}
-use Prim.Native.Nat.{ℕ, _+_, _≤_, _<_}
+use Prim.Native.Nat.{ℕ, _+_, _≤_}
 use native.Mathlib.Nat.{zero-add, add-zero}
 use native.Mathlib.Omega.{arith}
 use lib.Dec.{eqb}

@@ -2,25 +2,25 @@
 use mathlib.Core.Path.{_≡_, refl, sym, ap, _∙_}
 use mathlib.Core.Bool.{Bool, true, false, _&&_, not, cond}
 use mathlib.Core.List.{List, [], _∷_, _++_, append-nil, append-assoc}
-use Prim.Native.Nat.{ℕ, zero, suc, _+_, _-_, _^_, _≤_, _<_}
+use Prim.Native.Nat.{ℕ, suc, _+_, _-_, _^_, _≤_, _<_}
 use native.Mathlib.Omega.{arith}
 use lib.Dec.{eqb, ltb, leb}
-use lib.IntN.{ℤ, pos, negsuc, subℕ, _+ℤ_}
+use lib.IntN.{pos, negsuc, subℕ, _+ℤ_}
 use borrow.Author.Tests.{ltb-true, ltb-false, le-ltb, leb-false}
 use Rattle.rules.specs.Messages.{Message}
 use Rattle.rules.specs.Register.{registerOf}
-use Rattle.rules.specs.Engine.{Position, Engine, hasDetails}
+use Rattle.rules.specs.Engine.{Position, hasDetails}
 use Rattle.rules.specs.Calls.{opened}
-use Rattle.rules.specs.Area.{Result, cardOpen, holds}
-use Rattle.rules.specs.Ledger.{Fed, Kind, Event, fedWith, isTurn, messageOf, ledgerFrom, ledgerOf, transferredOf, detailedOf, held, times, sumOf, afterTurn, accepted, untouched, isTransfer, isCollection, isCredit, isReturn, isRefund}
-use Rattle.rules.specs.Demand3.{Call, result, Ran, ran, Balanced, Demand3}
+use Rattle.rules.specs.Area.{Result, cardOpen}
+use Rattle.rules.specs.Ledger.{Kind, Event, fedWith, isTurn, messageOf, ledgerFrom, ledgerOf, transferredOf, detailedOf, held, sumOf, afterTurn, accepted, untouched}
+use Rattle.rules.specs.Demand3.{Call, result, Ran, ran, Demand3}
 use Rattle.area.specs.Facts.{never}
 use Rattle.area.specs.Calls.{Opens, open-accepted, done-holds}
 use Rattle.balance.specs.Kinds.{comesIn, goesOut, sum-in, sum-out}
-use Rattle.balance.specs.Tally.{Measure, tally, Same, only, ofBank, bare, transfers, details, transferred-tally, detailed-tally, tally-each, tally-none, nought, same-refl, same-times}
+use Rattle.balance.specs.Tally.{Measure, tally, only, ofBank, bare, transfers, details, transferred-tally, detailed-tally, tally-each, tally-none, nought, same-refl, same-times}
 use Rattle.balance.specs.Settled.{Settles, settles-none, settles-then}
-use Rattle.balance.specs.Untouched.{History, history-start, free, untouchedIn, untouched-all}
-use Rattle.balance.specs.Running.{Agrees, Running, event, Stepped, stepped}
+use Rattle.balance.specs.Untouched.{History, history-start, free, untouched-all}
+use Rattle.balance.specs.Running.{Running, event, Stepped, stepped}
 
 -- ---- the first event and the others
 

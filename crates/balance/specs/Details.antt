@@ -1,26 +1,26 @@
 -- The details of a message in form: what an MT199 repeats of them is short, and there is one at least. A row of a form is a line of the message, which holds no CR or LF, or is
 -- left out. Assumes nothing.
-use mathlib.Core.Path.{_≡_, refl, sym, ap, _∙_}
-use mathlib.Core.Bool.{Bool, true, false, _&&_, _||_, not, cond}
-use mathlib.Core.List.{List, [], _∷_, _++_}
+use mathlib.Core.Path.{_≡_, refl}
+use mathlib.Core.Bool.{Bool, true, false, cond}
+use mathlib.Core.List.{List, [], _∷_}
 use mathlib.Core.Option.{Option, none, some, Option·map}
-use Prim.Native.Nat.{ℕ, zero, suc, _+_, _-_, _≤_, _<_, min}
+use Prim.Native.Nat.{ℕ, zero, suc, _≤_, _<_}
 use native.Mathlib.Omega.{arith}
-use lib.Dec.{leb, eqb, lit<}
+use lib.Dec.{eqb, lit<}
 use lib.ListN.{length, getD, take, drop, length-take}
 use lib.Seq.{drop-nil}
-use Rattle.rules.specs.Text.{ascii, isText, isAlnum, every, run, equal, fits, then}
+use Rattle.rules.specs.Text.{ascii, every, run, equal, fits}
 use Rattle.rules.specs.Dates.{date}
 use Rattle.rules.specs.Amounts.{amount}
 use Rattle.rules.specs.Lines.{Line, Taken, line, lead, closing, type, sender, body}
-use Rattle.rules.specs.Forms.{Row, Rowed, Rest, nothing, account, name, fitsRest, fitsRow, leadRows, rowed, transferRows, orderRows, detailRows}
-use Rattle.rules.specs.Messages.{Message, mt103, mt101, Transfer, Order, Detail, Detailed, lineOf, branch, account59, baerefDate, baerefName, detailOf, detailed, details, readTransfer, readOrder, read, detailsOf, transferOf}
+use Rattle.rules.specs.Forms.{Row, Rowed, nothing, account, fitsRest, fitsRow, leadRows, rowed, transferRows, orderRows, detailRows}
+use Rattle.rules.specs.Messages.{Message, mt103, mt101, Transfer, Order, Detail, lineOf, detailOf, detailed, details, readTransfer, readOrder, read, transferOf}
 use Rattle.laws.specs.Tests.{and-left, and-right, between-high}
-use Rattle.area.specs.Facts.{cond-both, Came, came, gave, some-is, never}
+use Rattle.area.specs.Facts.{Came, came, gave, some-is}
 use Rattle.area.specs.Layout.{All, All.none, All.more}
 use Rattle.balance.specs.Texts.{no-some, inLine, every-take, every-drop}
 use Rattle.balance.specs.Told.{Short}
-use Rattle.balance.specs.Messages.{Sent}
+use Rattle.balance.specs.Mute.{Sent}
 
 -- ---- a line holds no CR or LF
 

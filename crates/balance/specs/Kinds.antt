@@ -1,12 +1,12 @@
 -- Demand 3's five sums are two: what comes in from a bank (transferred and collected) and what goes out for it (credited, returned and refunded). What a posting line of each
 -- sort counts in them. Assumes nothing.
 use mathlib.Core.Path.{_≡_, refl, sym, ap, _∙_}
-use mathlib.Core.Bool.{Bool, true, false, _&&_, _||_, not, cond}
-use mathlib.Core.List.{List, [], _∷_, _++_}
+use mathlib.Core.Bool.{Bool, true, false, _&&_, _||_, not, cond, and-false, or-true}
+use mathlib.Core.List.{List, [], _∷_}
 use mathlib.Core.Option.{Option, none, some, Option·getD}
-use Prim.Native.Nat.{ℕ, _+_, _^_, _≤_, _<_}
+use Prim.Native.Nat.{ℕ, _+_, _^_, _<_}
 use native.Mathlib.Omega.{arith}
-use lib.Dec.{leb, eqb}
+use lib.Dec.{eqb}
 use lib.ListN.{length}
 use borrow.Author.Tests.{eqb-true, eqb-false}
 use Rattle.rules.specs.Text.{equal, bytes, number}
@@ -17,9 +17,10 @@ use Rattle.rules.specs.Written.{Book, posting, fromBank}
 use Rattle.rules.specs.Ledger.{Posted, posted, Kind, Fed, Event, isMessage, isTransfer, isCollection, isReturn, isRefund, isCredit, isParty, amountIf, sumOfLines, sumOf}
 use Rattle.laws.specs.Digits.{places-length}
 use Rattle.laws.specs.Numbers.{number-bytes}
-use Rattle.area.specs.Facts.{equal-true, equal-same, never}
+use Rattle.area.specs.Facts.{equal-true, equal-same}
+use Rattle.balance.specs.Tally.{nought}
 use Rattle.balance.specs.Told.{Tells, tells-same}
-use Rattle.balance.specs.Signs.{bic-length, iban-length}
+use Rattle.balance.specs.Signs.{iban-length}
 use Rattle.balance.specs.Posting.{entry, tells-posting}
 
 -- a debit of the bank
@@ -107,7 +108,7 @@ equal-banks x y h k = go (eqb x y) refl (equal (bic x) (bic y)) refl
     go false e false d = refl
 
 -- what is needed of a book to read its lines back
-pub record Kept (b : Book) : Type 0 where
+pub record Readable (b : Book) : Type 0 where
   pub known : isBic (bic (b .bank)) ≡ true
   pub small : b .bank < 2 ^ 64
   pub account : ibanShape (b .temporary) ≡ true
@@ -116,23 +117,31 @@ pub record Kept (b : Book) : Type 0 where
 unfoldable pub mine : ℕ → ℕ → ℕ → ℕ
 mine bank x v = cond (eqb x bank) v 0
 
-pub bank-party : (b : Book) → Kept b → isParty (bic (b .bank)) ≡ true
+pub mine-none : (bank x : ℕ) → mine bank x 0 ≡ 0
+unfolding mine
+mine-none bank x = nought (eqb x bank)
+
+pub mine-adds : (bank x v w : ℕ) → mine bank x (v + w) ≡ mine bank x v + mine bank x w
+unfolding mine
+mine-adds bank x v w = go (eqb x bank)
+  where
+    go : (t : Bool) → cond t (v + w) 0 ≡ cond t v 0 + cond t w 0
+    go true = refl
+    go false = omega arith
+
+pub bank-party : (b : Book) → Readable b → isParty (bic (b .bank)) ≡ true
 unfolding isParty
 bank-party b k = rw (k .known)
 
 pub iban-party : (cs : List ℕ) → ibanShape cs ≡ true → isParty cs ≡ true
 unfolding isParty
-iban-party cs h = go (isBic cs)
-  where
-    go : (t : Bool) → (t || ibanShape cs) ≡ true
-    go true = refl
-    go false = h
+iban-party cs h = rw (h, or-true)
 
 -- a BIC is no account
-other-account : (b : Book) (x : ℕ) → Kept b → equal (b .temporary) (bic x) ≡ false
+other-account : (b : Book) (x : ℕ) → Readable b → equal (b .temporary) (bic x) ≡ false
 other-account b x k = equal-longer (b .temporary) (bic x) (λ e. omega (arith, iban-length (b .temporary) (k .account), places-length 256 0 8 x))
 
-module _ (b : Book) (bank v : ℕ) {f : Fed} (k : Kept b) (s : bank < 2 ^ 64) (l : v < 10 ^ 20) where
+module _ (b : Book) (bank v : ℕ) {f : Fed} (k : Readable b) (s : bank < 2 ^ 64) (l : v < 10 ^ 20) where
   -- from the bank to the temporary account
   pub in-from : Tells (comesIn bank) f (fromBank b v) (mine bank (b .bank) v)
   unfolding comesIn amountIf entry mine
@@ -148,11 +157,7 @@ module _ (b : Book) (bank v : ℕ) {f : Fed} (k : Kept b) (s : bank < 2 ^ 64) (l
   unfolding goesOut amountIf entry
   out-from =
       tells-same (tells-posting b (bic (b .bank)) (b .temporary) v (k .known) (bank-party b k) (iban-party (b .temporary) (k .account)) l)
-      (rw (other-account b bank k, equal-longer (bic (b .bank)) (b .temporary) (λ e. omega (arith, iban-length (b .temporary) (k .account), places-length 256 0 8 (b .bank)))) (neither (equal (bic (b .bank)) (bic bank))))
-    where
-      neither : (t : Bool) → cond (t && (false || (not t && false))) v 0 ≡ 0
-      neither true = refl
-      neither false = refl
+      (rw (other-account b bank k, equal-longer (bic (b .bank)) (b .temporary) (λ e. omega (arith, iban-length (b .temporary) (k .account), places-length 256 0 8 (b .bank)))) (simp and-false))
 
   -- from the temporary account to any party
   module _ (credit : List ℕ) (p : isParty credit ≡ true) where
@@ -160,11 +165,7 @@ module _ (b : Book) (bank v : ℕ) {f : Fed} (k : Kept b) (s : bank < 2 ^ 64) (l
     unfolding comesIn amountIf entry
     in-paid =
         tells-same (tells-posting b (b .temporary) credit v (k .known) (iban-party (b .temporary) (k .account)) p l)
-        (rw (other-account b bank k) (neither (equal (bic (b .bank)) (bic bank))))
-      where
-        neither : (t : Bool) → cond (t && false) v 0 ≡ 0
-        neither true = refl
-        neither false = refl
+        (rw (other-account b bank k, and-false))
 
     pub out-paid : Tells (goesOut (b .temporary) bank) f (posting b (b .temporary) credit v) (mine bank (b .bank) v)
     unfolding goesOut amountIf entry mine

@@ -1,27 +1,23 @@
 -- What the lines of an accepted message tell: in comes what it transfers, out goes what it details, credited and returned both. Assumes nothing.
-use mathlib.Core.Path.{_≡_, refl, sym, ap, _∙_}
-use mathlib.Core.Bool.{Bool, true, false, _&&_, _||_, not, cond}
-use mathlib.Core.List.{List, [], _∷_, _++_}
-use mathlib.Core.Option.{Option, none, some}
-use Prim.Native.Nat.{ℕ, _+_, _^_, _≤_, _<_}
+use mathlib.Core.Path.{_≡_, refl, sym}
+use mathlib.Core.Bool.{Bool, true, false, cond}
+use mathlib.Core.List.{List, [], _∷_}
+use mathlib.Core.Option.{none}
+use Prim.Native.Nat.{ℕ, _+_, _^_, _<_}
 use native.Mathlib.Omega.{arith}
-use lib.Dec.{leb, eqb}
-use Rattle.rules.specs.Text.{isSome}
-use Rattle.rules.specs.Accounts.{isBic, ibanShape}
-use Rattle.rules.specs.Messages.{Message, mt103, mt101, Transfer, Order, Detail, account59, detailsOf, dateOf, transferredBy, detailedBy, sumOf}
+use Rattle.rules.specs.Messages.{Message, mt103, mt101, Detail, account59, detailsOf, dateOf, transferredBy, detailedBy, sumOf}
 use Rattle.rules.specs.Register.{Register, register, registerOf}
 use Rattle.rules.specs.Verdict.{Verdict, credited, returned, isReturned, accountAt}
-use Rattle.rules.specs.Engine.{Position, Engine, bic, hasDetails}
-use Rattle.rules.specs.Written.{Book, posting, fromBank, toAccount, toBank, verdicts}
+use Rattle.rules.specs.Engine.{Engine, bic}
+use Rattle.rules.specs.Written.{Book, posting, verdicts}
 use Rattle.rules.specs.Calls.{bankOf, verdictOf, returnedOf, detailPosting, detailPostings, postings, judged, after, messageText}
 use Rattle.rules.specs.Ledger.{Kind, Fed, isParty}
 use Rattle.area.specs.Layout.{All, All.none, All.more}
-use Rattle.balance.specs.Tally.{nought}
 use Rattle.balance.specs.Told.{Tells, tells-none, tells-join, tells-same, tells-mute, Mute, mute-none}
-use Rattle.balance.specs.Messages.{Sent, mute-verdicts}
-use Rattle.balance.specs.Details.{Listed, Details, Details.transfer, Details.order}
+use Rattle.balance.specs.Mute.{Sent, mute-verdicts}
+use Rattle.balance.specs.Details.{Details, Details.transfer, Details.order}
 use Rattle.balance.specs.Accounts.{credited-shape}
-use Rattle.balance.specs.Kinds.{comesIn, goesOut, Kept, mine, bank-party, iban-party, in-from, out-from, in-paid, out-paid}
+use Rattle.balance.specs.Kinds.{comesIn, goesOut, Readable, mine, mine-none, mine-adds, bank-party, iban-party, in-from, out-from, in-paid, out-paid}
 
 -- ---- the posting lines of details
 
@@ -35,7 +31,7 @@ unfolding detailPosting payee
 paid r b d (credited i) = refl
 paid r b d (returned c) = refl
 
-payee-party : (r : Register) (b : Book) (d : Detail) → Kept b → isParty (payee r b (verdictOf r d)) ≡ true
+payee-party : (r : Register) (b : Book) (d : Detail) → Readable b → isParty (payee r b (verdictOf r d)) ≡ true
 unfolding payee
 payee-party r b d k = go (verdictOf r d) refl
   where
@@ -44,7 +40,7 @@ payee-party r b d k = go (verdictOf r d) refl
     go (returned c) e = bank-party b k
 
 -- a kind that counts each line from the temporary account by g counts all details by it
-module _ (kind : Kind) (f : Fed) (r : Register) (b : Book) (k : Kept b) (g : ℕ → ℕ) (none : g 0 ≡ 0) (adds : (v w : ℕ) → g (v + w) ≡ g v + g w)
+module _ (kind : Kind) (f : Fed) (r : Register) (b : Book) (k : Readable b) (g : ℕ → ℕ) (none : g 0 ≡ 0) (adds : (v w : ℕ) → g (v + w) ≡ g v + g w)
     (counts : (credit : List ℕ) (v : ℕ) → isParty credit ≡ true → v < 10 ^ 20 → Tells kind f (posting b (b .temporary) credit v) (g v)) where
   tells-details : (ds : List Detail) → sumOf ds < 10 ^ 20 → Tells kind f (detailPostings r b ds) (g (sumOf ds))
   unfolding detailPostings sumOf
@@ -63,21 +59,9 @@ returned-sent r (more {x = d} {xs = ds} s t) = go (isReturned (verdictOf r d)) (
     go true u = more s u
     go false u = u
 
-pub mine-none : (bank x : ℕ) → mine bank x 0 ≡ 0
-unfolding mine
-mine-none bank x = nought (eqb x bank)
-
-pub mine-adds : (bank x v w : ℕ) → mine bank x (v + w) ≡ mine bank x v + mine bank x w
-unfolding mine
-mine-adds bank x v w = go (eqb x bank)
-  where
-    go : (t : Bool) → cond t (v + w) 0 ≡ cond t v 0 + cond t w 0
-    go true = refl
-    go false = omega arith
-
 -- ---- the posting lines of a message
 
-module _ (bank : ℕ) (f : Fed) (s : bank < 2 ^ 64) (r : Register) (b : Book) (k : Kept b) where
+module _ (bank : ℕ) (f : Fed) (s : bank < 2 ^ 64) (r : Register) (b : Book) (k : Readable b) where
   postings-in : (m : Message) → transferredBy m < 10 ^ 20 → detailedBy m < 10 ^ 20 → Tells (comesIn bank) f (postings r b m) (mine bank (b .bank) (transferredBy m))
   unfolding postings transferredBy detailedBy detailsOf
   postings-in (mt103 t) h l = in-from b bank (t .amount) k s h
@@ -98,7 +82,7 @@ bookOf e m = record { day = e .day; temporary = registerOf (e .register) .tempor
 
 -- what the lines of an accepted message need
 pub record Postable (e : Engine) (m : Message) : Type 0 where
-  pub kept : Kept (bookOf e m)
+  pub book : Readable (bookOf e m)
   pub details : Details m
   pub transferred : transferredBy m < 10 ^ 20
   pub detailed : detailedBy m < 10 ^ 20
@@ -110,17 +94,17 @@ module _ (e : Engine) (m : Message) (w : Postable e m) where
   mute-judged = go (judged m (after e m)) (w .details)
     where
       go : (t : Bool) {n : Message} → Details n → Mute (cond t (verdicts (e .day) (e .count) (after e m) (returnedOf (registerOf (e .register)) (detailsOf n))) [])
-      go true transfer = mute-verdicts (e .day) (e .count) (after e m) (w .kept .known) (returned-sent (registerOf (e .register)) none)
-      go true (order l) = mute-verdicts (e .day) (e .count) (after e m) (w .kept .known) (returned-sent (registerOf (e .register)) (l .sent))
+      go true transfer = mute-verdicts (e .day) (e .count) (after e m) (w .book .known) (returned-sent (registerOf (e .register)) none)
+      go true (order l) = mute-verdicts (e .day) (e .count) (after e m) (w .book .known) (returned-sent (registerOf (e .register)) (l .sent))
       go false d = mute-none
 
   module _ (bank : ℕ) (f : Fed) (s : bank < 2 ^ 64) where
     pub message-in : Tells (comesIn bank) f (messageText e m) (mine bank (bankOf m) (transferredBy m))
     unfolding messageText bookOf
     message-in =
-        tells-same (tells-join (postings-in bank f s (registerOf (e .register)) (bookOf e m) (w .kept) m (w .transferred) (w .detailed)) (tells-mute mute-judged)) (omega arith)
+        tells-same (tells-join (postings-in bank f s (registerOf (e .register)) (bookOf e m) (w .book) m (w .transferred) (w .detailed)) (tells-mute mute-judged)) (omega arith)
 
     pub message-out : Tells (goesOut (registerOf (e .register) .temporary) bank) f (messageText e m) (mine bank (bankOf m) (detailedBy m))
     unfolding messageText bookOf
     message-out =
-        tells-same (tells-join (postings-out bank f s (registerOf (e .register)) (bookOf e m) (w .kept) m (w .transferred) (w .detailed)) (tells-mute mute-judged)) (omega arith)
+        tells-same (tells-join (postings-out bank f s (registerOf (e .register)) (bookOf e m) (w .book) m (w .transferred) (w .detailed)) (tells-mute mute-judged)) (omega arith)

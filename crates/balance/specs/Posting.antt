@@ -1,18 +1,17 @@
 -- A posting line that the card wrote, read back: its six parts are those that were written. Assumes nothing.
-use mathlib.Core.Path.{_≡_, refl, sym, ap, _∙_}
-use mathlib.Core.Bool.{Bool, true, false, _&&_, _||_, not, cond}
+use mathlib.Core.Path.{_≡_, refl, ap, _∙_}
+use mathlib.Core.Bool.{Bool, true, false, _||_}
 use mathlib.Core.List.{List, [], _∷_, _++_, append-assoc}
-use mathlib.Core.Option.{Option, none, some, Option·getD}
-use Prim.Native.Nat.{ℕ, _+_, _^_, _≤_, _<_}
-use native.Mathlib.Omega.{arith}
-use lib.Dec.{leb, eqb, lit<}
+use mathlib.Core.Option.{some}
+use Prim.Native.Nat.{ℕ, _^_, _≤_, _<_}
+use lib.Dec.{lit<}
 use lib.ListN.{length}
 use borrow.Author.Tests.{le-leb}
-use Rattle.rules.specs.Text.{ascii, isDigit, isLetter, isAlnum, every, fits, digits, fixed, decimal, width, isSome, given}
+use Rattle.rules.specs.Text.{ascii, isAlnum, every, fixed, decimal, width}
 use Rattle.rules.specs.Accounts.{isBic, ibanShape}
 use Rattle.rules.specs.Engine.{bic}
 use Rattle.rules.specs.Written.{Book, posting}
-use Rattle.rules.specs.Ledger.{Posted, begun, parted, isParty, isNumber, isPosting, postedParts, posted, Kind, Fed, amountIf}
+use Rattle.rules.specs.Ledger.{Posted, parted, isParty, isNumber, isPosting, postedParts, posted, Kind, Fed, amountIf}
 use Rattle.laws.specs.Digits.{places-length, width-some}
 use Rattle.laws.specs.Numbers.{digits-decimal}
 use Rattle.laws.specs.Tests.{cond-right}

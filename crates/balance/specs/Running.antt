@@ -1,29 +1,29 @@
 -- One call of the list: the card that runs stays as the ledger and the messages accepted so far say, and what the call wrote settles with what it changed of the ledger.
 -- Assumes nothing.
-use mathlib.Core.Path.{_≡_, refl, sym, ap, _∙_, subst}
-use mathlib.Core.Bool.{Bool, true, false, _&&_, _||_, not, cond, and-false}
+use mathlib.Core.Path.{_≡_, refl, sym, _∙_, subst}
+use mathlib.Core.Bool.{Bool, true, false, and-false}
 use mathlib.Core.List.{List, [], _∷_, _++_, append-nil}
-use mathlib.Core.Option.{Option, none, some}
-use Prim.Native.Nat.{ℕ, suc, _+_, _^_, _≤_, _<_}
+use mathlib.Core.Option.{none, some}
+use Prim.Native.Nat.{ℕ, _^_, _≤_, _<_}
 use native.Mathlib.Omega.{arith}
-use lib.Dec.{leb, eqb}
+use lib.Dec.{eqb}
 use lib.ListN.{length, take}
 use borrow.Author.Tests.{ne-eqb, eqb-true, eqb-false}
-use Rattle.rules.specs.Messages.{Message, read, dateOf, transferredBy, detailedBy}
+use Rattle.rules.specs.Messages.{Message, dateOf, transferredBy, detailedBy}
 use Rattle.rules.specs.Register.{registerOf}
-use Rattle.rules.specs.Engine.{Position, Engine, alike, ordered, kept}
-use Rattle.rules.specs.Calls.{bankOf, added, messageText, turnText, afterMessage, afterTurn as laterEngine}
+use Rattle.rules.specs.Engine.{Position, Engine, alike, ordered}
+use Rattle.rules.specs.Calls.{bankOf, added, afterMessage, afterTurn as laterEngine}
 use Rattle.rules.specs.Area.{Result, cardMessage, cardTurn, holds}
 use Rattle.rules.specs.Ledger.{Fed, message, turn, Event, fedWith, enteredBy, ledgerFrom, isTurn, afterTurn, listed, messageOf, accepted, sumOf}
-use Rattle.rules.specs.Demand3.{Call, result}
+use Rattle.rules.specs.Demand3.{result}
 use Rattle.area.specs.Facts.{never, some-is}
 use Rattle.area.specs.Layout.{All, All.none, All.more}
 use Rattle.area.specs.Limits.{Limits, limits}
-use Rattle.area.specs.Held.{Held, held}
+use Rattle.area.specs.Held.{held}
 use Rattle.area.specs.Positions.{Good, all-good, ordered-sorted}
-use Rattle.area.specs.Calls.{Done, Stays, done-holds, done-text, Takes, message-accepted, message-refused, Turns, turn-accepted, turn-refused}
+use Rattle.area.specs.Calls.{Stays, done-holds, done-text, Takes, message-accepted, message-refused, Turns, turn-accepted, turn-refused}
 use Rattle.balance.specs.Told.{Tells, tells-none, told}
-use Rattle.balance.specs.Tally.{Measure, tally, Same, only, like, bare, one, kept-tally, tally-each, same-kept}
+use Rattle.balance.specs.Tally.{Measure, tally, Same, only, like, bare, one, kept-bare, same-kept}
 use Rattle.balance.specs.Booking.{many, many-past, keyed, sorted-many, entered-same}
 use Rattle.balance.specs.Details.{read-details}
 use Rattle.balance.specs.Kinds.{comesIn, goesOut, mine}
@@ -31,7 +31,7 @@ use Rattle.balance.specs.Message.{Postable, message-in, message-out}
 use Rattle.balance.specs.Turn.{closed, nothing, turn-in, turn-out}
 use Rattle.balance.specs.Admission.{postable, admitted}
 use Rattle.balance.specs.Settled.{Settles, settles-none, message-settles, settles-turn}
-use Rattle.balance.specs.Untouched.{History, Admitted, history-message, history-turn}
+use Rattle.balance.specs.Untouched.{History, history-message, history-turn}
 
 -- ---- the card between calls
 
@@ -72,15 +72,6 @@ unmet {day} {ps} a s bank next l = rw (← s .sums (only (like (keyed bank next)
     go none = refl
     go (more {x = p} {xs = qs} g t) =
         many-past (keyed bank next) p qs (rw (ne-eqb (p .date) next (λ e. omega (arith, g .past)), and-false)) ∙ go t
-
--- what a turn keeps has no details
-kept-bare : (g : Measure) (ledger : List Position) → tally g (kept ledger) ≡ tally (only bare g) (kept ledger)
-unfolding only
-kept-bare g ledger = kept-tally g ledger ∙ tally-each (only bare g) (only bare (only bare g)) (λ p. again (bare p) (g p)) ledger ∙ sym (kept-tally (only bare g) ledger)
-  where
-    again : (t : Bool) (v : ℕ) → cond t v 0 ≡ cond t (cond t v 0) 0
-    again true v = refl
-    again false v = refl
 
 -- from what the bytes of an event tell
 told-settles : (bank : ℕ) (temporary : List ℕ) (e : Event) {v u : ℕ} {ledger next : List Position} → Tells (comesIn bank) (e .fed) (e .bytes) v → Tells (goesOut temporary bank) (e .fed) (e .bytes) u

@@ -1,8 +1,7 @@
 -- One accepted call on the ledger: what comes in with it and what goes out are what it changes of the bank's totals. Assumes nothing.
-use mathlib.Core.Path.{_≡_, refl, sym, ap, _∙_}
-use mathlib.Core.Bool.{Bool, true, false, _&&_, cond}
-use mathlib.Core.List.{List, [], _∷_}
-use Prim.Native.Nat.{ℕ, _+_, _≤_, _<_}
+use mathlib.Core.Path.{_≡_, refl, ap}
+use mathlib.Core.List.{List}
+use Prim.Native.Nat.{ℕ, _+_}
 use native.Mathlib.Omega.{arith}
 use lib.Dec.{eqb}
 use borrow.Author.Tests.{eqb-true}
@@ -13,7 +12,7 @@ use Rattle.rules.specs.Ledger.{entered, transferredOf, detailedOf}
 use Rattle.laws.specs.Tests.{and-left}
 use Rattle.area.specs.Positions.{raised}
 use Rattle.balance.specs.Kinds.{mine}
-use Rattle.balance.specs.Tally.{Measure, tally, Same, only, ofBank, transfers, details, transferred-tally, detailed-tally, same-transferred, same-detailed, same-kept}
+use Rattle.balance.specs.Tally.{Measure, tally, Same, only, ofBank, transfers, details, transferred-tally, detailed-tally}
 use Rattle.balance.specs.Booking.{total-entered}
 use Rattle.balance.specs.Turn.{closed, nothing, turn-settles}
 

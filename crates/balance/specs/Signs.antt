@@ -1,22 +1,22 @@
 -- Letters and digits: what dates, amounts, banks and accounts are made of, so that they stand in a line and hold no comma. Assumes nothing.
-use mathlib.Core.Path.{_≡_, refl, sym, ap, _∙_}
-use mathlib.Core.Bool.{Bool, true, false, _&&_, _||_, not, cond}
-use mathlib.Core.List.{List, [], _∷_, _++_}
-use Prim.Native.Nat.{ℕ, zero, suc, _+_, _-_, _/_, _%_, _^_, _≤_, _<_}
+use mathlib.Core.Path.{_≡_, refl, sym}
+use mathlib.Core.Bool.{Bool, true, false, _||_, cond}
+use mathlib.Core.List.{List, [], _∷_}
+use Prim.Native.Nat.{ℕ, zero, suc, _+_, _/_, _%_, _^_, _≤_, _<_}
 use native.Mathlib.Nat.{mod-lt}
 use native.Mathlib.Omega.{arith}
-use lib.Dec.{leb, eqb, lit<}
+use lib.Dec.{eqb, lit<}
 use lib.ListN.{length, replicate}
-use borrow.Author.Tests.{leb-true, eqb-true, le-leb, ne-eqb}
-use Rattle.rules.specs.Text.{ascii, isDigit, isLetter, isAlnum, isText, every, fits, fitsSign, places, width, fixed, decimal, bytes}
+use borrow.Author.Tests.{eqb-true, le-leb, ne-eqb}
+use Rattle.rules.specs.Text.{ascii, isDigit, isLetter, isAlnum, every, fits, fitsSign, places, width, fixed, decimal}
 use Rattle.rules.specs.Amounts.{written}
 use Rattle.rules.specs.Accounts.{isBic, ibanShape}
 use Rattle.laws.specs.Reading.{fits-length}
 use Rattle.laws.specs.Digits.{places-length, width-most}
-use Rattle.laws.specs.Tests.{and-left, and-right, cond-right, between-low}
+use Rattle.laws.specs.Tests.{cond-right, between-low}
 use Rattle.area.specs.Facts.{cond-left, cond-both, never}
 use Rattle.balance.specs.Texts.{inLine, every-wider}
-use Rattle.balance.specs.Told.{Short, short-join, short-text}
+use Rattle.balance.specs.Told.{Short, short-join}
 
 -- ---- a letter or digit
 
@@ -36,17 +36,8 @@ alnum-in-line : (c : ℕ) → isAlnum c ≡ true → inLine c ≡ true
 unfolding inLine
 alnum-in-line c h = rw (alnum-other 13 c (lit< tt) h, alnum-other 10 c (lit< tt) h)
 
-text-in-line : (c : ℕ) → isText c ≡ true → inLine c ≡ true
-unfolding inLine isText
-text-in-line c h =
-    let m : 32 ≤ c = between-low 32 255 c (and-left _ _ h) in
-    rw (ne-eqb c 13 (omega arith), ne-eqb c 10 (omega arith))
-
 pub plain-alnum : (cs : List ℕ) → every isAlnum cs ≡ true → every inLine cs ≡ true
 plain-alnum = every-wider isAlnum inLine alnum-in-line
-
-pub plain-text : (cs : List ℕ) → every isText cs ≡ true → every inLine cs ≡ true
-plain-text = every-wider isText inLine text-in-line
 
 -- ---- bytes that fit a pattern of letters and digits
 
@@ -112,9 +103,6 @@ fixed-alnum k v = fits-alnum (replicate k 110) (fixed k v) (signs k) (fixed-fits
     signs (suc k) = signs k
 
 -- ---- how long they are
-
-pub short-alnum : (cs : List ℕ) → every isAlnum cs ≡ true → Short (length cs) cs
-short-alnum cs h = short-text cs (plain-alnum cs h)
 
 pub short-fixed : (k v : ℕ) → Short k (fixed k v)
 short-fixed k v = record { plain = plain-alnum _ (fixed-alnum k v); size = rw places-length (omega arith) }

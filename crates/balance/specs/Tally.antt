@@ -1,11 +1,11 @@
 -- Sums over positions, one for each measure of a position. Lists whose sums agree for every measure have the same entries, order aside, and
 -- that is how ledger and engine are compared: each sum of demand 3 is one of these. Assumes nothing.
-use mathlib.Core.Path.{_≡_, refl, sym, ap, _∙_, fun-ext}
+use mathlib.Core.Path.{_≡_, refl, sym, _∙_}
 use mathlib.Core.Bool.{Bool, true, false, _&&_, not, cond}
 use mathlib.Core.List.{List, [], _∷_}
-use Prim.Native.Nat.{ℕ, _+_, _-_, _≤_, _<_}
+use Prim.Native.Nat.{ℕ, _+_}
 use native.Mathlib.Omega.{arith}
-use lib.Dec.{leb, eqb}
+use lib.Dec.{eqb}
 use Rattle.rules.specs.Engine.{Position, alike, hasDetails, kept}
 use Rattle.rules.specs.Ledger.{transferredOf, detailedOf, times}
 
@@ -108,6 +108,15 @@ unfolding tally
 tally-add f g [] = refl
 tally-add f g (p ∷ ps) = omega (arith, tally-add f g ps)
 
+-- what a turn keeps has no details
+pub kept-bare : (g : Measure) (ledger : List Position) → tally g (kept ledger) ≡ tally (only bare g) (kept ledger)
+unfolding only
+kept-bare g ledger = kept-tally g ledger ∙ tally-each (only bare g) (only bare (only bare g)) (λ p. again (bare p) (g p)) ledger ∙ sym (kept-tally (only bare g) ledger)
+  where
+    again : (t : Bool) (v : ℕ) → cond t v 0 ≡ cond t (cond t v 0) 0
+    again true v = refl
+    again false v = refl
+
 -- ---- the same entries
 
 pub same-refl : (ps : List Position) → Same ps ps
@@ -119,9 +128,3 @@ same-kept ps qs s = record { sums = λ g. kept-tally g ps ∙ s .sums (only bare
 -- "order aside": each entry stands in both as often
 pub same-times : (q : Position) (ps qs : List Position) → Same ps qs → times q ps ≡ times q qs
 same-times q ps qs s = times-tally q ps ∙ s .sums (only (equalTo q) one) ∙ sym (times-tally q qs)
-
-pub same-transferred : (bank : ℕ) (ps qs : List Position) → Same ps qs → transferredOf bank ps ≡ transferredOf bank qs
-same-transferred bank ps qs s = transferred-tally bank ps ∙ s .sums (only (ofBank bank) transfers) ∙ sym (transferred-tally bank qs)
-
-pub same-detailed : (bank : ℕ) (ps qs : List Position) → Same ps qs → detailedOf bank ps ≡ detailedOf bank qs
-same-detailed bank ps qs s = detailed-tally bank ps ∙ s .sums (only (ofBank bank) details) ∙ sym (detailed-tally bank qs)

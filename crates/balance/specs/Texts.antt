@@ -1,17 +1,18 @@
 -- Texts made of whole lines, as the card writes them, read back line by line: the lines of a text behind a text, of one line, and the parts that a line
 -- is made of. Assumes nothing.
-use mathlib.Core.Path.{_≡_, refl, sym, ap, _∙_}
-use mathlib.Core.Bool.{Bool, true, false, _&&_, _||_, not, cond}
+use mathlib.Core.Path.{_≡_, refl}
+use mathlib.Core.Bool.{Bool, true, false, _&&_, not, cond}
 use mathlib.Core.List.{List, [], _∷_, _++_}
 use mathlib.Core.Option.{Option, none, some, Option·map}
-use Prim.Native.Nat.{ℕ, zero, suc, _+_, _-_, _/_, _%_, _^_, _≤_, _<_}
+use Prim.Native.Nat.{ℕ, zero, suc}
 use native.Mathlib.Omega.{arith}
-use lib.Dec.{leb, eqb, lit<}
-use lib.ListN.{length, take, drop, length-append}
+use lib.Dec.{eqb}
+use lib.ListN.{take, drop}
+use borrow.Author.Tests.{not-true}
 use Rattle.rules.specs.Text.{every}
 use Rattle.rules.specs.Lines.{Line, lines, begun, before}
 use Rattle.laws.specs.Tests.{and-left, and-right, cond-right}
-use Rattle.area.specs.Facts.{cond-left, cond-both, never}
+use Rattle.area.specs.Facts.{cond-left, cond-both}
 
 -- ---- bytes that all pass a test
 
@@ -51,10 +52,6 @@ inLine c = not (eqb c 13) && not (eqb c 10)
 -- none is not some
 pub no-some : {A B : Type 0} {a : A} → none ≡ some a → B
 no-some h = absurd (let z : _≡_ {A = ℕ} 0 1 = cc in omega arith)
-
-not-true : (t : Bool) → not t ≡ true → t ≡ false
-not-true true h = sym h
-not-true false h = refl
 
 -- a byte before the first line of a text
 lines-byte : (c : ℕ) (cs : List ℕ) (l : Line) (ls : List Line) → inLine c ≡ true → lines cs ≡ some (l ∷ ls) → lines (c ∷ cs) ≡ some ((c ∷ l) ∷ ls)

@@ -1,10 +1,10 @@
 -- What a text tells a reader of posting lines: the sum of a kind over its lines. A text of short lines tells nothing, since a posting line has at least 42 bytes;
 -- texts one behind the other tell the sum of both. Assumes nothing.
-use mathlib.Core.Path.{_≡_, refl, sym, ap, _∙_}
-use mathlib.Core.Bool.{Bool, true, false, _&&_, _||_, not, cond}
+use mathlib.Core.Path.{_≡_, refl, _∙_}
+use mathlib.Core.Bool.{Bool, true, false, _||_, cond}
 use mathlib.Core.List.{List, [], _∷_, _++_}
-use mathlib.Core.Option.{Option, none, some, Option·getD}
-use Prim.Native.Nat.{ℕ, zero, suc, _+_, _≤_, _<_}
+use mathlib.Core.Option.{none, some, Option·getD}
+use Prim.Native.Nat.{ℕ, suc, _+_, _≤_, _<_}
 use native.Mathlib.Omega.{arith}
 use lib.Dec.{leb, eqb}
 use lib.ListN.{length, getD, drop, length-append}
@@ -13,10 +13,10 @@ use borrow.Author.Tests.{leb-true, eqb-true, le-leb}
 use Rattle.rules.specs.Text.{ascii, every, fits, given}
 use Rattle.rules.specs.Accounts.{isBic, ibanShape}
 use Rattle.rules.specs.Lines.{Line, lines}
-use Rattle.rules.specs.Ledger.{Posted, begun, parted, isParty, isNumber, isPosting, postedParts, posted, Kind, Fed, amountIf, sumOfLines}
+use Rattle.rules.specs.Ledger.{begun, parted, isParty, isNumber, isPosting, posted, Kind, Fed, amountIf, sumOfLines}
 use Rattle.laws.specs.Reading.{fits-length}
 use Rattle.laws.specs.Tests.{and-left, and-right, cond-right}
-use Rattle.area.specs.Facts.{cond-left, cond-both, never}
+use Rattle.area.specs.Facts.{cond-left, cond-both}
 use Rattle.balance.specs.Texts.{inLine, every-join, lines-line, lines-join}
 
 -- ---- a posting line is long
@@ -84,9 +84,6 @@ short-join {a = a} {b} s t = record { plain = every-join inLine a b (s .plain) (
 -- a part as it is printed
 pub short-text : (cs : List ℕ) → every inLine cs ≡ true → Short (length cs) cs
 short-text cs h = record { plain = h; size = omega arith }
-
-pub short-wider : {m : ℕ} (n : ℕ) {cs : List ℕ} → Short m cs → leb m n ≡ true → Short n cs
-short-wider {m} n s h = record { plain = s .plain; size = omega (arith, leb-true m n h) }
 
 -- ---- texts of short lines
 

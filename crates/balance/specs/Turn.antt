@@ -1,14 +1,14 @@
 -- What the lines of an accepted turn tell: in comes what is collected, out goes what is refunded, position by position. Assumes nothing.
-use mathlib.Core.Path.{_≡_, refl, sym, ap, _∙_}
-use mathlib.Core.Bool.{Bool, true, false, _&&_, _||_, not, cond}
-use mathlib.Core.List.{List, [], _∷_, _++_}
-use Prim.Native.Nat.{ℕ, zero, suc, _+_, _-_, _^_, _≤_, _<_}
+use mathlib.Core.Path.{_≡_, refl}
+use mathlib.Core.Bool.{Bool, true, false, _&&_, not, cond}
+use mathlib.Core.List.{List, _++_}
+use Prim.Native.Nat.{ℕ, _+_, _-_, _^_, _<_}
 use native.Mathlib.Omega.{arith}
 use lib.Dec.{leb, eqb}
 use borrow.Author.Tests.{leb-true, leb-false, eqb-true}
-use Rattle.rules.specs.Accounts.{isBic, ibanShape}
+use Rattle.rules.specs.Accounts.{ibanShape}
 use Rattle.rules.specs.Register.{registerOf}
-use Rattle.rules.specs.Engine.{Position, Engine, bic, limit, isBank, hasDetails, kept}
+use Rattle.rules.specs.Engine.{Position, Engine, bic, isBank, hasDetails, kept}
 use Rattle.rules.specs.Written.{Book, fromBank, toBank, corrected, isRefund, correctionPosting, correction, correctionPostings, corrections, mt204, mt205}
 use Rattle.rules.specs.Calls.{turnText}
 use Rattle.rules.specs.Ledger.{Kind, Fed, transferredOf, detailedOf}
@@ -17,10 +17,9 @@ use Rattle.area.specs.Layout.{All, All.none, All.more}
 use Rattle.area.specs.Limits.{Limits, bank-small}
 use Rattle.area.specs.Positions.{Good, all-good}
 use Rattle.balance.specs.Told.{Tells, tells-none, tells-join, tells-same, tells-mute, Mute, mute-none, mute-join}
-use Rattle.balance.specs.Messages.{mute-204, mute-205}
+use Rattle.balance.specs.Mute.{mute-204, mute-205}
 use Rattle.balance.specs.Accounts.{temporary-shape}
-use Rattle.balance.specs.Kinds.{comesIn, goesOut, Kept, mine, bank-party, in-from, out-from, in-paid, out-paid}
-use Rattle.balance.specs.Message.{mine-none}
+use Rattle.balance.specs.Kinds.{comesIn, goesOut, Readable, mine, mine-none, bank-party, in-from, out-from, in-paid, out-paid}
 use Rattle.balance.specs.Tally.{Measure, tally, only, ofBank, bare, transfers, details, transferred-tally, detailed-tally, kept-tally, tally-each, tally-add}
 
 -- what a turn counts for a position that it removes: up what it refunds and down what it collects, each by the bank
@@ -36,9 +35,9 @@ abbrev pub bookOf : ℕ → List ℕ → Position → Book
 bookOf day temporary p = record { day = day; temporary = temporary; bank = p .bank; date = p .date }
 
 module _ (day : ℕ) (temporary : List ℕ) (a : ibanShape temporary ≡ true) {old : ℕ} where
-  kept-book : {p : Position} → Good old p → Kept (bookOf day temporary p)
+  readable : {p : Position} → Good old p → Readable (bookOf day temporary p)
   unfolding isBank
-  kept-book {p} g = record { known = and-right (leb (p .bank) 18446744073709551615) _ (g .bank); small = omega (arith, bank-small (p .bank) (g .bank)); account = a }
+  readable {p} g = record { known = and-right (leb (p .bank) 18446744073709551615) _ (g .bank); small = omega (arith, bank-small (p .bank) (g .bank)); account = a }
 
   -- ---- messages
 
@@ -47,8 +46,8 @@ module _ (day : ℕ) (temporary : List ℕ) (a : ibanShape temporary ≡ true) {
   mute-correction {p} n g = go (isRefund p)
     where
       go : (t : Bool) → Mute (cond t (mt205 day n p (p .transferred - p .detailed)) (mt204 day temporary n p (p .detailed - p .transferred)))
-      go true = mute-205 day n p (p .transferred - p .detailed) (kept-book g .known) (g .detailed)
-      go false = mute-204 day temporary n p (p .detailed - p .transferred) (kept-book g .known) a (g .detailed)
+      go true = mute-205 day n p (p .transferred - p .detailed) (readable g .known) (g .detailed)
+      go false = mute-204 day temporary n p (p .detailed - p .transferred) (readable g .known) a (g .detailed)
 
   mute-corrections : {ps : List Position} (n : ℕ) → All (Good old) ps → Mute (corrections day temporary n ps)
   unfolding corrections
@@ -63,8 +62,8 @@ module _ (day : ℕ) (temporary : List ℕ) (a : ibanShape temporary ≡ true) {
   -- ---- posting lines, by a kind that counts refunds by up and collections by down
 
   module _ (kind : Kind) (f : Fed) (up down : ℕ → ℕ → ℕ) (no-up : (x : ℕ) → up x 0 ≡ 0) (no-down : (x : ℕ) → down x 0 ≡ 0)
-      (refunds : (p : Position) (v : ℕ) → Kept (bookOf day temporary p) → v < 10 ^ 20 → Tells kind f (toBank (bookOf day temporary p) v) (up (p .bank) v))
-      (collects : (p : Position) (v : ℕ) → Kept (bookOf day temporary p) → v < 10 ^ 20 → Tells kind f (fromBank (bookOf day temporary p) v) (down (p .bank) v)) where
+      (refunds : (p : Position) (v : ℕ) → Readable (bookOf day temporary p) → v < 10 ^ 20 → Tells kind f (toBank (bookOf day temporary p) v) (up (p .bank) v))
+      (collects : (p : Position) (v : ℕ) → Readable (bookOf day temporary p) → v < 10 ^ 20 → Tells kind f (fromBank (bookOf day temporary p) v) (down (p .bank) v)) where
     tells-correction : (p : Position) → Good old p
         → Tells kind f (correctionPosting day temporary p) (up (p .bank) (p .transferred - p .detailed) + down (p .bank) (p .detailed - p .transferred))
     unfolding correctionPosting isRefund
@@ -75,10 +74,10 @@ module _ (day : ℕ) (temporary : List ℕ) (a : ibanShape temporary ≡ true) {
             (up (p .bank) (p .transferred - p .detailed) + down (p .bank) (p .detailed - p .transferred))
         go true e =
             let z : p .detailed - p .transferred ≡ 0 = omega (arith, leb-true (p .detailed) (p .transferred) e) in
-            tells-same (refunds p (p .transferred - p .detailed) (kept-book g) (omega (arith, g .transferred))) (rw (z, no-down) (omega arith))
+            tells-same (refunds p (p .transferred - p .detailed) (readable g) (omega (arith, g .transferred))) (rw (z, no-down) (omega arith))
         go false e =
             let z : p .transferred - p .detailed ≡ 0 = omega (arith, leb-false (p .detailed) (p .transferred) e) in
-            tells-same (collects p (p .detailed - p .transferred) (kept-book g) (omega (arith, g .detailed))) (rw (z, no-up) (omega arith))
+            tells-same (collects p (p .detailed - p .transferred) (readable g) (omega (arith, g .detailed))) (rw (z, no-up) (omega arith))
 
     -- a position with equal totals writes nothing
     tells-postings : {ps : List Position} → All (Good old) ps → Tells kind f (correctionPostings day temporary ps) (tally (closed up down) ps)
@@ -96,28 +95,28 @@ module _ (day : ℕ) (temporary : List ℕ) (a : ibanShape temporary ≡ true) {
             tells-same r (rw (x, y, no-up, no-down) (omega arith))
         go false u e r = tells-same r (omega arith)
 
+    -- the corrections that follow tell nothing
+    tells-turn : {ps : List Position} → All (Good old) ps → Tells kind f (correctionPostings day temporary ps ++ corrections day temporary 0 ps) (tally (closed up down) ps)
+    tells-turn g = tells-same (tells-join (tells-postings g) (tells-mute (mute-corrections 0 g))) (omega arith)
+
 -- ---- the two sums
 
 module _ (e : Engine) (l : Limits e) (day bank : ℕ) (f : Fed) (s : bank < 2 ^ 64) where
   pub turn-in : Tells (comesIn bank) f (turnText e day) (tally (closed nothing (mine bank)) (e .positions))
   unfolding turnText
   turn-in =
-      let a : ibanShape (registerOf (e .register) .temporary) ≡ true = temporary-shape (e .register) (l .register) in
-      let g : All (Good (e .day)) (e .positions) = all-good (e .day) (e .positions) (l .good) in
-      tells-same (tells-join (tells-postings day _ a (comesIn bank) f nothing (mine bank) (λ x. refl) (mine-none bank)
-      (λ p v k h. in-paid (bookOf day (registerOf (e .register) .temporary) p) bank v k s h (bic (p .bank)) (bank-party _ k))
-      (λ p v k h. in-from (bookOf day (registerOf (e .register) .temporary) p) bank v k s h) g) (tells-mute (mute-corrections day _ a 0 g)))
-      (omega arith)
+      let t : List ℕ = registerOf (e .register) .temporary in
+      tells-turn day t (temporary-shape (e .register) (l .register)) (comesIn bank) f nothing (mine bank) (λ x. refl) (mine-none bank)
+      (λ p v k h. in-paid (bookOf day t p) bank v k s h (bic (p .bank)) (bank-party (bookOf day t p) k)) (λ p v k h. in-from (bookOf day t p) bank v k s h)
+      (all-good (e .day) (e .positions) (l .good))
 
   pub turn-out : Tells (goesOut (registerOf (e .register) .temporary) bank) f (turnText e day) (tally (closed (mine bank) nothing) (e .positions))
   unfolding turnText
   turn-out =
-      let a : ibanShape (registerOf (e .register) .temporary) ≡ true = temporary-shape (e .register) (l .register) in
-      let g : All (Good (e .day)) (e .positions) = all-good (e .day) (e .positions) (l .good) in
-      tells-same (tells-join (tells-postings day _ a (goesOut (registerOf (e .register) .temporary) bank) f (mine bank) nothing (mine-none bank) (λ x. refl)
-      (λ p v k h. out-paid (bookOf day (registerOf (e .register) .temporary) p) bank v k s h (bic (p .bank)) (bank-party _ k))
-      (λ p v k h. out-from (bookOf day (registerOf (e .register) .temporary) p) bank v k s h) g) (tells-mute (mute-corrections day _ a 0 g)))
-      (omega arith)
+      let t : List ℕ = registerOf (e .register) .temporary in
+      tells-turn day t (temporary-shape (e .register) (l .register)) (goesOut t bank) f (mine bank) nothing (mine-none bank) (λ x. refl)
+      (λ p v k h. out-paid (bookOf day t p) bank v k s h (bic (p .bank)) (bank-party (bookOf day t p) k)) (λ p v k h. out-from (bookOf day t p) bank v k s h)
+      (all-good (e .day) (e .positions) (l .good))
 
 -- a bank's collected and transferred against its refunded and detailed, over what is there and what a turn keeps
 pub turn-settles : (bank : ℕ) (ps : List Position)

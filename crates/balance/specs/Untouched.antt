@@ -1,22 +1,19 @@
 -- Transfers that no detail has met: what the ledger's entries without details hold of a bank is what its accepted messages have transferred for the dates for which none of its
 -- details has been accepted. Kept over the calls for any choice of dates, since accepted details take their date out of the choice. Assumes nothing.
-use mathlib.Core.Path.{_≡_, refl, sym, ap, ap₂, _∙_}
+use mathlib.Core.Path.{_≡_, refl, sym, ap₂, _∙_}
 use mathlib.Core.Bool.{Bool, true, false, _&&_, _||_, not, cond, and-false, or-true, or-false}
 use mathlib.Core.List.{List, [], _∷_, _++_}
 use Prim.Native.Nat.{ℕ, _+_, _≤_, _<_}
 use native.Mathlib.Nat.{add-zero}
 use native.Mathlib.Omega.{arith}
 use lib.Dec.{leb, eqb}
-use borrow.Author.Tests.{eqb-true, eqb-false, eq-eqb, ne-eqb, le-leb, lt-leb, leb-true, leb-false}
+use borrow.Author.Tests.{eqb-true, eqb-false, eq-eqb, ne-eqb, le-leb}
 use Rattle.rules.specs.Text.{any}
 use Rattle.rules.specs.Messages.{Message, mt103, mt101, Transfer, Order, dateOf, firstDate, transferredBy, detailedBy, detailsOf, sumOf}
 use Rattle.rules.specs.Engine.{Position, alike, hasDetails, kept}
 use Rattle.rules.specs.Calls.{bankOf, added}
 use Rattle.rules.specs.Ledger.{entered, isDetails, untouched}
-use Rattle.laws.specs.Tests.{and-left, and-right}
-use Rattle.area.specs.Facts.{never}
 use Rattle.area.specs.Layout.{All, All.none, All.more}
-use Rattle.area.specs.Positions.{raised}
 use Rattle.balance.specs.Each.{all-last, all-wider}
 use Rattle.balance.specs.Tally.{Measure, tally, only, like, bare, transfers, details, kept-tally, tally-each, tally-add, nought}
 use Rattle.balance.specs.Booking.{many, keyed, total, Booked, entered-booked, total-entered, like-agrees, single, many-none}

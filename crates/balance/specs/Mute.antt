@@ -1,12 +1,12 @@
 -- Written messages are mute: no line of an MT199, MT204 or MT205 is long enough for a posting line. Assumes nothing.
-use mathlib.Core.Path.{_≡_, refl, sym, ap, _∙_, subst}
-use mathlib.Core.Bool.{Bool, true, false, _&&_, _||_, not, cond}
-use mathlib.Core.List.{List, [], _∷_, _++_, append-assoc}
-use Prim.Native.Nat.{ℕ, zero, suc, _+_, _-_, _/_, _%_, _^_, _≤_, _<_}
+use mathlib.Core.Path.{_≡_, refl, subst}
+use mathlib.Core.Bool.{Bool, true, false, cond}
+use mathlib.Core.List.{List, [], _++_, append-assoc}
+use Prim.Native.Nat.{ℕ, zero, suc, _+_, _/_, _%_, _≤_}
 use native.Mathlib.Omega.{arith}
 use lib.Dec.{leb}
-use lib.ListN.{length, take, drop}
-use Rattle.rules.specs.Text.{ascii, every, fixed, decimal}
+use lib.ListN.{length}
+use Rattle.rules.specs.Text.{ascii, every, decimal}
 use Rattle.rules.specs.Amounts.{written, withComma, withPoint}
 use Rattle.rules.specs.Accounts.{isBic, ibanShape}
 use Rattle.rules.specs.Messages.{Detail, branch, account59, baerefDate, baerefName}
