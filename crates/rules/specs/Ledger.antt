@@ -100,17 +100,19 @@ isParty cs = isBic cs || ibanShape cs
 unfoldable pub isNumber : List ℕ → Bool
 isNumber cs = leb 1 (length cs) && isSome (digits cs)
 
--- "`day,debit,credit,stotinki,bank,centralisation date`"
+-- the parts of a posting line: "`day,debit,credit,stotinki,bank,centralisation date`"
 unfoldable pub isPosting : List (List ℕ) → Bool
 isPosting ps =
     let part : ℕ → List ℕ = λ i. getD ps i [] in
     eqb (length ps) 6 && fits (ascii "nnnnnn") (part 0) && isParty (part 1) && isParty (part 2) && isNumber (part 3) && isBic (part 4) && fits (ascii "nnnnnn") (part 5)
 
+-- what they say
 unfoldable pub postedParts : List (List ℕ) → Posted
 postedParts ps =
     let part : ℕ → List ℕ = λ i. getD ps i [] in
     record { day = part 0; debit = part 1; credit = part 2; amount = Option·getD (digits (part 3)) 0; bank = part 4; date = part 5 }
 
+-- a line read back, where it is a posting line
 unfoldable pub posted : Line → Option Posted
 posted l = let ps = parted l in given (isPosting ps) (postedParts ps)
 
