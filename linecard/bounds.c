@@ -79,16 +79,18 @@ static int number_is_of(enum kind kind, uint32_t number) {
 
 static void one_call(uint64_t call) {
   static const uint64_t area_lengths[] = {0, 1, 16, 6143, 6145, 7000};
-  const struct command *command = &commands[draw(command_count)];
+  static size_t place;
+  place = draw(32) == 0 ? draw(command_count) : (place + 1) % command_count;
+  const struct command *command = &commands[place];
   uint8_t *text = lend(&text_memory), *area = lend(&area_memory), *output = lend(&output_memory);
   size_t length = command->length;
   uint32_t day = command->day;
   memcpy(text, command->text, length);
-  if (draw(2) == 0) length = damage(text, length);
+  if (draw(4) == 0) length = damage(text, length);
   if (draw(40) == 0) day = (uint32_t)draw(1u << 31);
-  uint64_t area_length = draw(24) == 0 ? area_lengths[draw(6)] : CARD_AREA;
-  uint64_t room = draw(8) == 0 ? draw(1200) : CARD_OUTPUT;
-  if (draw(64) == 0) {
+  uint64_t area_length = draw(64) == 0 ? area_lengths[draw(6)] : CARD_AREA;
+  uint64_t room = draw(16) == 0 ? draw(1200) : CARD_OUTPUT;
+  if (draw(256) == 0) {
     for (uint64_t n = 1 + draw(4); n > 0; n--) area[draw(CARD_AREA)] = (uint8_t)draw(256);
   }
   if (draw(512) == 0) {
