@@ -1,6 +1,6 @@
 -- A text written in three to five pieces, one call behind the other. The first piece is asked for first; each call then tells where the next began. A search finds them at
 -- once, where it would try every way to part the text if it were handed `wrote-then` alone. Assumes nothing.
-use mathlib.Core.Path.{_≡_, sym, ap, _∙_}
+use mathlib.Core.Path.{_≡_, refl, sym, ap, _∙_}
 use mathlib.Core.Bool.{cond}
 use mathlib.Core.List.{List, [], _++_, append-nil}
 use Prim.Native.Nat.{ℕ, _≤_, _<_}
@@ -8,7 +8,7 @@ use lib.Dec.{leb}
 use lib.ListN.{length}
 use borrow.Author.Tests.{le-leb, lt-leb}
 use Rattle.laws.specs.Laid.{laid, laid-front}
-use Rattle.laws.specs.Writing.{Wrote, furthest, ahead-none, laid-none, wrote-then}
+use Rattle.laws.specs.Writing.{Wrote, Left, furthest, ahead-none, laid-none, wrote-then}
 
 module _ {a b c out₀ out₁ out₂ out₃ : List ℕ} {at m₁ m₂ m₃ : ℕ} (u : Wrote a at out₀ m₁ out₁) (v : Wrote b m₁ out₁ m₂ out₂) (w : Wrote c m₂ out₂ m₃ out₃) where
   pub wrote-3 : Wrote (a ++ b ++ c) at out₀ m₃ out₃
@@ -36,3 +36,7 @@ module _ (x y : List ℕ) (i k : ℕ) {out out' : List ℕ} {at r : ℕ} where
 -- a text as long as the output
 pub wrote-all : {bs out out' : List ℕ} {r : ℕ} → Wrote bs 0 out r out' → length bs ≡ length out → out' ≡ bs
 wrote-all {bs} {out} w e = w .output ∙ ap (laid bs 0) (sym (append-nil out)) ∙ laid-front bs out [] e ∙ append-nil bs
+
+-- all is left to write
+pub left-all : (bs : List ℕ) {at : ℕ} {out : List ℕ} → length out ≤ furthest → Left bs at out bs at out
+left-all bs h = record { cursor = refl; output = refl; short = h }

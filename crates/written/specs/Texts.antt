@@ -1,12 +1,12 @@
 -- The written texts, as the code's branches and tables lead to them. Assumes nothing.
-use mathlib.Core.Path.{_≡_, sym, ap, _∙_}
+use mathlib.Core.Path.{_≡_}
 use mathlib.Core.List.{List, []}
 use Prim.Native.Nat.{ℕ, _+_, _-_, _≤_, _<_}
 use lib.ListN.{length}
 use native.Mathlib.Omega.{arith}
 use Rattle.rules.specs.Amounts.{withComma}
 use Rattle.rules.specs.Text.{ascii}
-use Rattle.rules.specs.Written.{Book, posting, field, size, reference, linked}
+use Rattle.rules.specs.Written.{posting, field, size, reference, linked}
 use Rattle.laws.specs.Writing.{Wrote, furthest}
 use Rattle.laws.specs.Pieces.{wrote-nothing, wrote-beyond}
 

@@ -1,0 +1,82 @@
+-- An area that holds an engine, as a turn reads it: how many positions stand in it, the positions, and the temporary account. Assumes nothing.
+use mathlib.Core.Path.{_≡_, refl, subst, sym, ap, _∙_}
+use mathlib.Core.Bool.{true}
+use mathlib.Core.List.{List, _++_}
+use Prim.Native.Nat.{ℕ, zero, suc, _+_, _-_, _≤_, _<_}
+use native.Mathlib.Omega.{arith}
+use lib.ListN.{length, getD, take, drop, length-take}
+use lib.Seq.{drop-cons, take-take}
+use Rattle.rules.specs.Text.{isSome, numberFrom}
+use Rattle.rules.specs.Register.{register, registerOf}
+use Rattle.rules.specs.Engine.{Engine}
+use Rattle.rules.specs.Written.{correctionPostings, corrections}
+use Rattle.rules.specs.Calls.{turnText}
+use Rattle.rules.specs.Area.{numberAt, decode, holds}
+use Rattle.laws.specs.Parts.{cut}
+use Rattle.laws.specs.Writing.{Wrote, wrote-then}
+use Rattle.area.specs.Facts.{there, There}
+use Rattle.area.specs.Limits.{limits, Limits}
+use Rattle.area.specs.Held.{held}
+use Rattle.register.specs.Places.{place, count}
+use Rattle.register.specs.Passed.{temporary-at, text-size}
+use Rattle.outgoing.specs.Positions.{positionsAt, positions-are}
+
+-- a byte as a number
+pub byte-at : (area : List ℕ) (i : ℕ) → i < length area → numberAt area i 1 ≡ getD area i 0
+unfolding numberFrom
+byte-at area i h = rw (drop-cons area i 0 h) (omega arith)
+
+positions-length : (area : List ℕ) (p k : ℕ) → length (positionsAt area p k) ≡ k
+unfolding positionsAt
+positions-length area p zero = refl
+positions-length area p (suc k) = ap suc (positions-length area (p + 24) k)
+
+-- n positions stand in the area
+pub record Standing (area : List ℕ) (n : ℕ) : Type 0 where
+  pub long : 6144 ≤ length area
+  pub few : n ≤ 32
+  pub positions : decode area .positions ≡ positionsAt area 1552 n
+  pub temporary : registerOf (decode area .register) .temporary ≡ take 22 (drop 2320 area)
+
+module _ (area : List ℕ) (h : isSome (holds area) ≡ true) where
+  t : There (holds area)
+  t = there (holds area) h
+
+  pub standing-long : 6144 ≤ length area
+  standing-long = held area (t .value) (t .is) .long
+
+  within : Limits (decode area)
+  within = subst (λ (e : Engine). Limits e) (sym (held area (t .value) (t .is) .read)) (limits (t .value) (held area (t .value) (t .is) .good))
+
+  positions : decode area .positions ≡ positionsAt area 1552 (getD area 7 0)
+  unfolding decode
+  positions = rw (byte-at area 7 (omega (arith, standing-long)), positions-are)
+
+  -- the register's text starts with the temporary account
+  text-first : (n : ℕ) (cs : List ℕ) → isSome (register (take n cs)) ≡ true → registerOf (take n cs) .temporary ≡ take 22 cs
+  unfolding cut
+  text-first n cs p =
+      let size : length (take n cs) ≡ place (count (take n cs)) = text-size (take n cs) p in
+      temporary-at (take n cs) p ∙ take-take 22 n cs (omega (arith, length-take n cs))
+
+  temporary : registerOf (decode area .register) .temporary ≡ take 22 (drop 2320 area)
+  unfolding decode
+  temporary = text-first (numberAt area 10 2) (drop 2320 area) (within .register)
+
+  pub standing : (n : ℕ) → n ≡ getD area 7 0 → Standing area n
+  standing n e = record {
+    long = standing-long;
+    few = rw e (rw (positions, positions-length area 1552 (getD area 7 0)) at (within .few));
+    positions = rw e positions;
+    temporary = temporary;
+  }
+
+module _ (area : List ℕ) (day n : ℕ) (s : Standing area n) where
+  turn-text : correctionPostings day (take 22 (drop 2320 area)) (positionsAt area 1552 n) ++ corrections day (take 22 (drop 2320 area)) 0 (positionsAt area 1552 n) ≡ turnText (decode area) day
+  unfolding turnText
+  turn-text = rw (s .temporary, s .positions)
+
+  -- "Posting lines come first, .. then messages."
+  pub turn-wrote : {at m r : ℕ} {out out₁ out₂ : List ℕ} → Wrote (correctionPostings day (take 22 (drop 2320 area)) (positionsAt area 1552 n)) at out m out₁
+      → Wrote (corrections day (take 22 (drop 2320 area)) 0 (positionsAt area 1552 n)) m out₁ r out₂ → Wrote (turnText (decode area) day) at out r out₂
+  turn-wrote v w = rw (← turn-text) (wrote-then v w)

@@ -1,0 +1,4 @@
+pub mod Positions
+pub mod Turn
+pub mod Area
+pub mod Sums

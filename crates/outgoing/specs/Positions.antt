@@ -1,0 +1,74 @@
+-- The positions of an area, as a turn walks them: one behind the other, each read off its 24 bytes. Assumes nothing.
+use mathlib.Core.Path.{_≡_, refl, sym, ap, _∙_}
+use mathlib.Core.List.{List, [], _∷_, map}
+use Prim.Native.Nat.{ℕ, zero, suc, _+_, _-_, _^_, _≤_, _<_}
+use native.Mathlib.Nat.{add-zero}
+use native.Mathlib.Omega.{arith}
+use lib.Dec.{lit≤}
+use lib.ListN.{length, getD, take, drop}
+use Rattle.rules.specs.Text.{number}
+use Rattle.rules.specs.Engine.{Position}
+use Rattle.rules.specs.Area.{numberAt, positionIn, records}
+use Rattle.laws.specs.Parts.{cut, from, cut-drop, cut-take, cut-length, from-take, from-drop}
+use Rattle.laws.specs.Numbers.{bytes-within, within-cut, number-small}
+use Rattle.written.specs.Values.{positionOf}
+use Rattle.written.specs.declared.Position as W
+
+-- the position at a place
+unfoldable pub positionAt : List ℕ → ℕ → Position
+positionAt area p = positionIn (cut area p (p + 24))
+
+-- k positions from the place p on
+unfoldable pub positionsAt : List ℕ → ℕ → ℕ → List Position
+positionsAt area p zero = []
+positionsAt area p (suc k) = positionAt area p ∷ positionsAt area (p + 24) k
+
+pub positions-next : (area : List ℕ) (p k : ℕ) → 0 < k → positionsAt area p k ≡ positionAt area p ∷ positionsAt area (p + 24) (k - 1)
+unfolding positionsAt
+positions-next area p zero h = absurd (omega arith)
+positions-next area p (suc k) h = let e : suc k - 1 ≡ k = omega arith in rw e
+
+pub positions-none : (area : List ℕ) (p k : ℕ) → k ≤ 0 → positionsAt area p k ≡ []
+unfolding positionsAt
+positions-none area p zero h = refl
+positions-none area p (suc k) h = absurd (omega arith)
+
+-- as the layout says them
+pub positions-are : (area : List ℕ) (p k : ℕ) → map positionIn (records k (drop p area)) ≡ positionsAt area p k
+unfolding positionsAt positionAt records from
+positions-are area p zero = refl
+positions-are area p (suc k) = rw (from-take area p 24, from-drop area p 24) (ap (λ (ps : List Position). positionIn (cut area p (p + 24)) ∷ ps) (positions-are area (p + 24) k))
+
+-- ---- a number of k bytes at a place
+
+-- r is that number
+pub record NumberAt (area : List ℕ) (a k r : ℕ) : Type 0 where
+  pub value : r ≡ number (cut area a (a + k))
+  pub small : r < 256 ^ k
+
+pub number-bound : (area : List ℕ) (a k r : ℕ) → ((i : ℕ) → getD area i 0 < 256) → a + k ≤ length area → r ≡ number (cut area a (a + k)) → NumberAt area a k r
+number-bound area a k r h l e =
+    let n : length (cut area a (a + k)) ≡ k = cut-length area a (a + k) l ∙ omega arith in
+    record { value = e; small = rw e (rw n at (number-small (within-cut a (a + k) (bytes-within area h)))) }
+
+-- ---- the position that was read
+
+-- q is the position at p, its totals of six bytes
+pub record PositionAt (area : List ℕ) (p : ℕ) (q : W.Position) : Type 0 where
+  pub value : positionOf q ≡ positionAt area p
+  pub transferred : q .transferred < 281474976710656
+  pub detailed : q .detailed < 281474976710656
+
+module _ (area : List ℕ) (p : ℕ) where
+  -- a number of the position
+  in-position : (i w : ℕ) {r : ℕ} → i + w ≤ 24 → NumberAt area (p + i) w r → r ≡ numberAt (cut area p (p + 24)) i w
+  in-position i w h n = n .value ∙ sym (ap number (ap (take w) (cut-drop area p (p + 24) i) ∙ cut-take area (p + i) (p + 24) w (omega arith)))
+
+  pub position-read : {bank date transferred detailed : ℕ} → NumberAt area p 8 bank → NumberAt area (p + 8) 3 date → NumberAt area (p + 11) 6 transferred → NumberAt area (p + 17) 6 detailed
+      → PositionAt area p (record { bank = bank; date = date; transferred = transferred; detailed = detailed })
+  unfolding positionAt positionIn
+  position-read b d t e = record {
+    value = rw (in-position 0 8 (lit≤ tt) (rw (← add-zero p) at b), in-position 8 3 (lit≤ tt) d, in-position 11 6 (lit≤ tt) t, in-position 17 6 (lit≤ tt) e);
+    transferred = t .small;
+    detailed = e .small;
+  }

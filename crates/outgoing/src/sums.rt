@@ -1,0 +1,79 @@
+// What a turn refunds and collects, and how many positions it corrects.
+use crate::positions::position_at;
+use crate::positions::position_count;
+use written::Position;
+ghost use mathlib.Core.Path.{_≡_};
+ghost use mathlib.Core.Bool.{true};
+ghost use Prim.Native.Nat.{_-_, _+_, _*_, _<_, _≤_};
+ghost use lib.ListN.{length};
+ghost use Rattle.rules.specs.Text.{isSome};
+ghost use Rattle.rules.specs.Area.{decode, holds};
+ghost use Rattle.written.specs.Values.{positionOf};
+ghost use Rattle.outgoing.specs.Positions.{positionsAt};
+ghost use Rattle.outgoing.specs.Sums.{Adds, Totals};
+
+// The sum refunded, the sum collected, and the number of corrections.
+pub struct Sums {
+    pub refunded: u64,
+    pub collected: u64,
+    pub count: u32,
+}
+
+// What a is above b, 0 where it is not.
+fn above(a: u64, b: u64) -> u64
+    ensures { λ r. ⌜ r ≡ a - b ⌝ }
+{
+    if a < b {
+        return 0;
+    }
+    a - b
+}
+
+// The sums with one position more.
+fn with_position(s: Sums, p: Position) -> Sums
+    requires { ⌜ s .refunded + p .transferred < 18446744073709551616 ⌝ }
+    requires { ⌜ s .collected + p .detailed < 18446744073709551616 ⌝ }
+    requires { ⌜ s .count < 32 ⌝ }
+    ensures { λ r. ⌜ Adds (positionOf p) s r ⌝ }
+{
+    if p.detailed == 0 {
+        return s;
+    }
+    if p.transferred == p.detailed {
+        return s;
+    }
+    Sums {
+        refunded: s.refunded + above(p.transferred, p.detailed),
+        collected: s.collected + above(p.detailed, p.transferred),
+        count: s.count + 1,
+    }
+}
+
+// The sums of n positions.
+fn sums_of(area: &[u8], n: usize) -> Sums
+    requires { ⌜ n ≤ 32 ⌝ }
+    requires { ⌜ 1552 + 24 * n ≤ length (now area) ⌝ }
+    ensures { λ r. ⌜ Totals (positionsAt (now (area .entry)) 1552 n) r ⌝ }
+{
+    let mut s = Sums {
+        refunded: 0,
+        collected: 0,
+        count: 0,
+    };
+    let mut p: usize = 1552;
+    let mut k = n;
+    while k > 0 {
+        s = with_position(s, position_at(area, p));
+        p += 24;
+        k -= 1;
+    }
+    s
+}
+
+// The sums of a turn.
+pub fn turn_sums(area: &[u8]) -> Sums
+    requires { ⌜ isSome (holds (now area)) ≡ true ⌝ }
+    ensures { λ r. ⌜ Totals (decode (now (area .entry)) .positions) r ⌝ }
+{
+    sums_of(area, position_count(area))
+}
