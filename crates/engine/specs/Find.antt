@@ -9,10 +9,11 @@ use lib.Dec.{eqb, lit<}
 use lib.ListN.{length}
 use Rattle.rules.specs.Text.{any}
 use Rattle.rules.specs.Engine.{Position, isOpen, positionOf}
+use Rattle.rules.specs.Area.{positionIn}
 use Rattle.written.specs.Values.{positionOf as valueOf}
 use Rattle.written.specs.declared.Position as W
 use Rattle.engine.specs.declared.find.Totals.{Totals}
-use Rattle.engine.specs.Positions.{positionAt, positionsAt, positions-next, positions-none, PositionAt}
+use Rattle.engine.specs.Positions.{positionAt, positionsAt, values-next, values-none, PositionAt}
 
 -- r has what the position of bank and date has, each total of six bytes
 pub record TotalsOf (ps : List Position) (bank date : ℕ) (r : Totals) : Type 0 where
@@ -43,9 +44,9 @@ module _ (area : List ℕ) (bank date : ℕ) where
     pub seek-end : k ≤ 0 → TotalsOf all bank date (record { «is_open» = false; transferred = 0; detailed = 0 })
     unfolding isOpen any positionOf
     seek-end h = record {
-      opens = rw (positions-none area p k h) at (s .opens);
-      transferred = ap (λ (q : Position). q .transferred) (rw (positions-none area p k h) at (s .position));
-      detailed = ap (λ (q : Position). q .detailed) (rw (positions-none area p k h) at (s .position));
+      opens = rw (values-none positionIn area p k h) at (s .opens);
+      transferred = ap (λ (q : Position). q .transferred) (rw (values-none positionIn area p k h) at (s .position));
+      detailed = ap (λ (q : Position). q .detailed) (rw (values-none positionIn area p k h) at (s .position));
       small = lit< tt;
       few = lit< tt;
     }
@@ -57,9 +58,9 @@ module _ (area : List ℕ) (bank date : ℕ) where
       pub seek-found : t ≡ true → TotalsOf all bank date (record { «is_open» = true; transferred = q .transferred; detailed = q .detailed })
       unfolding isOpen any positionOf
       seek-found d = record {
-        opens = rw (positions-next area p k h, ← here, d) at (s .opens);
-        transferred = ap (λ (x : Position). x .transferred) (v .value ∙ (rw (positions-next area p k h, ← here, d) at (s .position)));
-        detailed = ap (λ (x : Position). x .detailed) (v .value ∙ (rw (positions-next area p k h, ← here, d) at (s .position)));
+        opens = rw (values-next positionIn area p k h, ← here, d) at (s .opens);
+        transferred = ap (λ (x : Position). x .transferred) (v .value ∙ (rw (values-next positionIn area p k h, ← here, d) at (s .position)));
+        detailed = ap (λ (x : Position). x .detailed) (v .value ∙ (rw (values-next positionIn area p k h, ← here, d) at (s .position)));
         small = v .transferred;
         few = v .detailed;
       }
@@ -68,8 +69,8 @@ module _ (area : List ℕ) (bank date : ℕ) where
       unfolding isOpen any positionOf
       seek-on d = record {
         room = omega (arith, s .room);
-        opens = rw (positions-next area p k h, ← here, d) at (s .opens);
-        position = rw (positions-next area p k h, ← here, d) at (s .position);
+        opens = rw (values-next positionIn area p k h, ← here, d) at (s .opens);
+        position = rw (values-next positionIn area p k h, ← here, d) at (s .position);
       }
 
 pub ruleset finding = (both-first, both-not, seek-start, seek-end, seek-found, seek-on)

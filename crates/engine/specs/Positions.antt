@@ -1,4 +1,4 @@
--- The positions of an area, as a turn walks them: one behind the other, each read off its 24 bytes. Assumes nothing.
+-- The records of an area, one behind the other, each read off its 24 bytes; its positions. Assumes nothing.
 use mathlib.Core.Path.{_≡_, refl, sym, ap, _∙_}
 use mathlib.Core.List.{List, [], _∷_, map}
 use Prim.Native.Nat.{ℕ, zero, suc, _+_, _-_, _^_, _≤_, _<_}
@@ -14,30 +14,37 @@ use Rattle.laws.specs.Numbers.{bytes-within, within-cut, number-small}
 use Rattle.written.specs.Values.{positionOf}
 use Rattle.written.specs.declared.Position as W
 
--- the position at a place
-unfoldable pub positionAt : List ℕ → ℕ → Position
-positionAt area p = positionIn (cut area p (p + 24))
+-- what a record of 24 bytes at a place says, and k of them from the place p on
+unfoldable pub valueAt : {A : Type 0} → (List ℕ → A) → List ℕ → ℕ → A
+valueAt reads area p = reads (cut area p (p + 24))
 
--- k positions from the place p on
-unfoldable pub positionsAt : List ℕ → ℕ → ℕ → List Position
-positionsAt area p zero = []
-positionsAt area p (suc k) = positionAt area p ∷ positionsAt area (p + 24) k
+unfoldable pub valuesAt : {A : Type 0} → (List ℕ → A) → List ℕ → ℕ → ℕ → List A
+valuesAt reads area p zero = []
+valuesAt reads area p (suc k) = valueAt reads area p ∷ valuesAt reads area (p + 24) k
 
-pub positions-next : (area : List ℕ) (p k : ℕ) → 0 < k → positionsAt area p k ≡ positionAt area p ∷ positionsAt area (p + 24) (k - 1)
-unfolding positionsAt
-positions-next area p zero h = absurd (omega arith)
-positions-next area p (suc k) h = let e : suc k - 1 ≡ k = omega arith in rw e
+module _ {A : Type 0} (reads : List ℕ → A) (area : List ℕ) (p : ℕ) where
+  pub values-next : (k : ℕ) → 0 < k → valuesAt reads area p k ≡ valueAt reads area p ∷ valuesAt reads area (p + 24) (k - 1)
+  unfolding valuesAt
+  values-next zero h = absurd (omega arith)
+  values-next (suc k) h = let e : suc k - 1 ≡ k = omega arith in rw e
 
-pub positions-none : (area : List ℕ) (p k : ℕ) → k ≤ 0 → positionsAt area p k ≡ []
-unfolding positionsAt
-positions-none area p zero h = refl
-positions-none area p (suc k) h = absurd (omega arith)
+  pub values-none : (k : ℕ) → k ≤ 0 → valuesAt reads area p k ≡ []
+  unfolding valuesAt
+  values-none zero h = refl
+  values-none (suc k) h = absurd (omega arith)
 
 -- as the layout says them
-pub positions-are : (area : List ℕ) (p k : ℕ) → map positionIn (records k (drop p area)) ≡ positionsAt area p k
-unfolding positionsAt positionAt records from
-positions-are area p zero = refl
-positions-are area p (suc k) = rw (from-take area p 24, from-drop area p 24) (ap (λ (ps : List Position). positionIn (cut area p (p + 24)) ∷ ps) (positions-are area (p + 24) k))
+pub values-are : {A : Type 0} (reads : List ℕ → A) (area : List ℕ) (p k : ℕ) → map reads (records k (drop p area)) ≡ valuesAt reads area p k
+unfolding valuesAt valueAt records from
+values-are reads area p zero = refl
+values-are reads area p (suc k) = rw (from-take area p 24, from-drop area p 24, ← values-are reads area (p + 24) k) refl
+
+-- the position at a place, and those of an area
+abbrev pub positionAt : List ℕ → ℕ → Position
+positionAt area p = valueAt positionIn area p
+
+abbrev pub positionsAt : List ℕ → ℕ → ℕ → List Position
+positionsAt area p k = valuesAt positionIn area p k
 
 -- ---- a number of k bytes at a place
 
@@ -60,15 +67,15 @@ pub record PositionAt (area : List ℕ) (p : ℕ) (q : W.Position) : Type 0 wher
   pub detailed : q .detailed < 281474976710656
 
 module _ (area : List ℕ) (p : ℕ) where
-  -- a number of the position
-  in-position : (i w : ℕ) {r : ℕ} → i + w ≤ 24 → NumberAt area (p + i) w r → r ≡ numberAt (cut area p (p + 24)) i w
-  in-position i w h n = n .value ∙ sym (ap number (ap (take w) (cut-drop area p (p + 24) i) ∙ cut-take area (p + i) (p + 24) w (omega arith)))
+  -- a number of the record
+  pub in-record : (i w : ℕ) {r : ℕ} → i + w ≤ 24 → NumberAt area (p + i) w r → r ≡ numberAt (cut area p (p + 24)) i w
+  in-record i w h n = n .value ∙ sym (ap number (ap (take w) (cut-drop area p (p + 24) i) ∙ cut-take area (p + i) (p + 24) w (omega arith)))
 
   pub position-read : {bank date transferred detailed : ℕ} → NumberAt area p 8 bank → NumberAt area (p + 8) 3 date → NumberAt area (p + 11) 6 transferred → NumberAt area (p + 17) 6 detailed
       → PositionAt area p (record { bank = bank; date = date; transferred = transferred; detailed = detailed })
-  unfolding positionAt positionIn
+  unfolding valueAt positionIn
   position-read b d t e = record {
-    value = rw (in-position 0 8 (lit≤ tt) (rw (← add-zero p) at b), in-position 8 3 (lit≤ tt) d, in-position 11 6 (lit≤ tt) t, in-position 17 6 (lit≤ tt) e);
+    value = rw (in-record 0 8 (lit≤ tt) (rw (← add-zero p) at b), in-record 8 3 (lit≤ tt) d, in-record 11 6 (lit≤ tt) t, in-record 17 6 (lit≤ tt) e);
     transferred = t .small;
     detailed = e .small;
   }

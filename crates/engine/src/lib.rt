@@ -1,8 +1,10 @@
 // The engine read off its area.
 mod find;
 mod positions;
+mod reference;
 
 pub use find::Totals;
 pub use find::find_position;
 pub use positions::number_at;
 pub use positions::position_at;
+pub use reference::reference_used;
