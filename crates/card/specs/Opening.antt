@@ -14,6 +14,7 @@ use Rattle.rules.specs.Register.{register}
 use Rattle.rules.specs.Engine.{Engine}
 use Rattle.rules.specs.Calls.{firstOf, openStops, opened, openCall, refused}
 use Rattle.rules.specs.Area.{cardOpen, onAreas, stored, encode, holds}
+use Rattle.laws.specs.Tests.{held-told}
 use Rattle.card.specs.Answers.{Answers}
 
 -- the text, the day and the area
@@ -26,21 +27,24 @@ module _ (text : List ℕ) (day : ℕ) (area : List ℕ) where
   unfolding firstOf openStops
   open-short h = refusal 10 (rw (lt-leb _ _ h) refl) refl
 
-  pub open-day : 6144 ≤ length area → exists day ≡ false → Answers (cardOpen text day area) 3 0 (pos 0) area []
-  unfolding firstOf openStops
-  open-day h d = refusal 3 (rw (le-leb _ _ h, d) refl) refl
+  module _ (l : 6144 ≤ length area) (t : Bool) (u : t ≡ exists day) where
+    pub open-day : t ≡ false → Answers (cardOpen text day area) 3 0 (pos 0) area []
+    unfolding firstOf openStops
+    open-day d = refusal 3 (rw (le-leb _ _ l, ← u, d) refl) refl
 
-  pub open-register : 6144 ≤ length area → exists day ≡ true → isSome (register text) ≡ false → Answers (cardOpen text day area) 9 0 (pos 0) area []
-  unfolding firstOf openStops
-  open-register h d r = refusal 9 (rw (le-leb _ _ h, d, r) refl) refl
+    module _ (d : t ≡ true) (q : Bool) (v : q ≡ isSome (register text)) where
+      pub open-register : q ≡ false → Answers (cardOpen text day area) 9 0 (pos 0) area []
+      unfolding firstOf openStops
+      open-register r = refusal 9 (rw (le-leb _ _ l, ← u, d, ← v, r) refl) refl
 
-  pub open-accepted : {area' : List ℕ} → 6144 ≤ length area → exists day ≡ true → isSome (register text) ≡ true → area' ≡ encode (opened text day) ++ drop 6144 area
-      → Answers (cardOpen text day area) 0 0 (pos 0) area' []
-  unfolding firstOf openStops cardOpen openCall onAreas stored over
-  open-accepted {area'} h d r a = record {
-    number = rw (le-leb _ _ h, d, r) refl;
-    written = rw (le-leb _ _ h, d, r) refl;
-    difference = rw (le-leb _ _ h, d, r) refl;
-    area = rw (le-leb _ _ h, d, r) a;
-    output = rw (le-leb _ _ h, d, r) refl;
-  }
+      pub open-accepted : {area' : List ℕ} → q ≡ true → area' ≡ encode (opened text day) ++ drop 6144 area → Answers (cardOpen text day area) 0 0 (pos 0) area' []
+      unfolding firstOf openStops cardOpen openCall onAreas stored over
+      open-accepted {area'} r a = record {
+        number = rw (le-leb _ _ l, ← u, d, ← v, r) refl;
+        written = rw (le-leb _ _ l, ← u, d, ← v, r) refl;
+        difference = rw (le-leb _ _ l, ← u, d, ← v, r) refl;
+        area = rw (le-leb _ _ l, ← u, d, ← v, r) a;
+        output = rw (le-leb _ _ l, ← u, d, ← v, r) refl;
+      }
+
+pub ruleset opening = (held-told, open-short, open-day, open-register, open-accepted)
