@@ -18,9 +18,6 @@ use Rattle.laws.specs.Moving.{Sifted, sifted-count, stands-sifted}
 
 -- ---- parts side by side
 
-pub stands-next : {p x y q area : List ℕ} {base : ℕ} (n : ℕ) → length x ≡ n → Stands p x (y ++ q) base area → Stands (p ++ x) y q (base + n) area
-stands-next {p} {x} {y} {q} n e t = record { before = rw (length-append, t .before, e); whole = t .whole ∙ sym (append-assoc p x (y ++ q)) }
-
 pub stands-back : (p x y q : List ℕ) {area : List ℕ} {base at : ℕ} → length p ≡ base → Stands (p ++ x) y q at area → Stands p x (y ++ q) base area
 stands-back p x y q e t = record { before = e; whole = t .whole ∙ append-assoc p x (y ++ q) }
 
@@ -36,11 +33,11 @@ stands-laid-over {y = y} e t u = u .whole ∙ sym (stands-other y e t .whole)
 
 -- ---- a section
 
-replaced-length : {A : Type 0} (i : ℕ) (x : A) (xs : List A) → i < length xs → length (replaced i x xs) ≡ length xs
+pub replaced-length : {A : Type 0} (i : ℕ) (x : A) (xs : List A) → i < length xs → length (replaced i x xs) ≡ length xs
 unfolding replaced
 replaced-length i x xs h = rw (length-append, length-take-le i xs (omega arith), length-drop) (omega arith)
 
-inserted-length : {A : Type 0} (i : ℕ) (x : A) (xs : List A) → i ≤ length xs → length (inserted i x xs) ≡ suc (length xs)
+pub inserted-length : {A : Type 0} (i : ℕ) (x : A) (xs : List A) → i ≤ length xs → length (inserted i x xs) ≡ suc (length xs)
 unfolding inserted
 inserted-length i x xs h = rw (length-append, length-take-le i xs h, length-drop) (omega arith)
 

@@ -1,7 +1,12 @@
+pub mod Texts
 pub mod Header
 pub mod Opening
 pub mod Changes
 pub mod Next
 pub mod Numbers
 pub mod Turning
+pub mod Order
+pub mod Places
+pub mod Records
+pub mod Booking
 pub mod Sets

@@ -7,19 +7,20 @@ use Prim.Native.Nat.{ℕ, _+_, _-_, _≤_}
 use native.Mathlib.Omega.{arith}
 use lib.ListN.{length, drop, length-append}
 use Rattle.rules.specs.Text.{isSome}
-use Rattle.rules.specs.Engine.{Position, Engine}
-use Rattle.rules.specs.Area.{padded, referenceRecord, positionRecord, referenceIn, header, encode, decode, holds}
+use Rattle.rules.specs.Engine.{Position, Reference, Engine}
+use Rattle.rules.specs.Area.{referenceRecord, positionRecord, referenceIn, header, encode, decode, holds}
 use Rattle.laws.specs.Digits.{places-length}
 use Rattle.laws.specs.Laid.{laid}
 use Rattle.laws.specs.Writing.{Wrote}
 use Rattle.laws.specs.Sections.{Each, Each.no-record, Each.and-record, each-map}
 use Rattle.laws.specs.Standing.{Stands}
 use Rattle.area.specs.Facts.{There, there}
-use Rattle.area.specs.Limits.{Limits, limits}
+use Rattle.area.specs.Limits.{limits}
 use Rattle.area.specs.Layout.{Kept, All, All.none, All.more}
-use Rattle.area.specs.Held.{Held, held, held-parts, references-kept}
+use Rattle.area.specs.Held.{Held, held, references-kept}
+use Rattle.area.specs.Sections.{referencePart, positionPart, textPart, Of, header-length, sections-encode, held-sections, references-stand, positions-stand}
 use Rattle.steps.specs.Header.{numbers, lengths, header-halves, numbers-length}
-use Rattle.steps.specs.Changes.{section, section-length, stands-next, stands-back, stands-other}
+use Rattle.steps.specs.Changes.{section, section-length, stands-back, stands-other}
 
 -- an area that holds an engine holds the one that is read from it
 pub holding : {area : List ℕ} → isSome (holds area) ≡ true → Held area (decode area)
@@ -38,26 +39,19 @@ kept-each : {A : Type 0} (write : A → List ℕ) (reads : List ℕ → A) {xs :
 kept-each write reads none = no-record
 kept-each write reads (more k s) = and-record (k .wide) (kept-each write reads s)
 
--- ---- the parts of an engine's area
-
-header-length : (e : Engine) → length (header e) ≡ 16
-unfolding header
-header-length e = simp (length-append, places-length)
+-- ---- the sections of an engine's area
 
 module _ {area : List ℕ} {e : Engine} (h : Held area e) where
   pub references-each : Each 24 (map referenceRecord (e .references))
   references-each = kept-each referenceRecord referenceIn (references-kept (e .references) (limits e (h .good) .forms))
 
-  pub references-stand : Stands (header e) (section 1536 referenceRecord (e .references)) (section 768 positionRecord (e .positions) ++ (padded 3824 (e .register) ++ drop 6144 area)) 16 area
-  unfolding encode
-  references-stand = record {
-    before = header-length e;
-    whole = held-parts area e h ∙ simp append-assoc;
-  }
+  pub references-section : Stands (header e) (section 1536 referenceRecord (e .references)) (positionPart (e .positions) ++ (textPart (e .register) ++ drop 6144 area)) 16 area
+  unfolding referencePart
+  references-section = references-stand (held-sections area e h)
 
-  pub positions-stand : Stands (header e ++ section 1536 referenceRecord (e .references)) (section 768 positionRecord (e .positions)) (padded 3824 (e .register) ++ drop 6144 area) 1552 area
-  positions-stand =
-      stands-next 1536 (section-length referenceRecord 1536 (e .references) references-each (omega (arith, limits e (h .good) .today))) references-stand
+  pub positions-section : Stands (header e ++ referencePart (e .references)) (section 768 positionRecord (e .positions)) (textPart (e .register) ++ drop 6144 area) 1552 area
+  unfolding positionPart
+  positions-section = positions-stand (held-sections area e h)
 
 -- ---- the next engine, with the same register
 
@@ -67,29 +61,30 @@ pub record Fits (next : Engine) : Type 0 where
   pub today : length (next .references) ≤ 64
   pub wide : Each 24 (map referenceRecord (next .references))
 
-pub assembled : {area b c d : List ℕ} {e : Engine} {r : ℕ} (next : Engine) → Held area e → next .register ≡ e .register → Fits next
-    → b ≡ laid (section 768 positionRecord (next .positions)) 1552 area
-    → c ≡ laid (section 1536 referenceRecord (next .references)) 16 b
-    → Wrote (numbers (next .day) (next .count) (length (next .positions)) (length (next .references))) 0 c r d
-    → d ≡ encode next ++ drop 6144 area
-unfolding encode
+references-length : (rs : List Reference) → Each 24 (map referenceRecord rs) → length rs ≤ 64 → length (referencePart rs) ≡ 1536
+unfolding referencePart
+references-length rs s l = section-length referenceRecord 1536 rs s (omega arith)
+
+pub positions-length : (ps : List Position) → length ps ≤ 32 → length (positionPart ps) ≡ 768
+unfolding positionPart
+positions-length ps l = section-length positionRecord 768 ps (each-map positionRecord position-wide ps) (omega arith)
+
+pub assembled : {area b c d : List ℕ} {e : Engine} {r : ℕ} (next : Engine) → Held area e → next .register ≡ e .register → Fits next → b ≡ laid (positionPart (next .positions)) 1552 area
+    → c ≡ laid (referencePart (next .references)) 16 b → Wrote (numbers (next .day) (next .count) (length (next .positions)) (length (next .references))) 0 c r d → d ≡ encode next ++ drop 6144 area
 assembled {area} {b} {c} {d} {e} next h g f u v w =
-    let l : Limits e = limits e (h .good) in
+    let s : Of e (drop 6144 area) area = held-sections area e h in
     let N : List ℕ = numbers (e .day) (e .count) (length (e .positions)) (length (e .references)) in
     let N' : List ℕ = numbers (next .day) (next .count) (length (next .positions)) (length (next .references)) in
     let L : List ℕ = lengths (length (e .register)) in
-    let R : List ℕ = section 1536 referenceRecord (e .references) in
-    let R' : List ℕ = section 1536 referenceRecord (next .references) in
-    let P' : List ℕ = section 768 positionRecord (next .positions) in
-    let Q : List ℕ = padded 3824 (e .register) ++ drop 6144 area in
-    let lR : length R ≡ 1536 = section-length referenceRecord 1536 (e .references) (references-each h) (omega (arith, l .today)) in
-    let lR' : length R' ≡ 1536 = section-length referenceRecord 1536 (next .references) (f .wide) (omega (arith, f .today)) in
-    let lP : length (section 768 positionRecord (e .positions)) ≡ 768 =
-    section-length positionRecord 768 (e .positions) (each-map positionRecord position-wide (e .positions)) (omega (arith, l .few)) in
-    let lP' : length P' ≡ 768 =
-    section-length positionRecord 768 (next .positions) (each-map positionRecord position-wide (next .positions)) (omega (arith, f .few)) in
-    let t : Stands (header e ++ R) P' Q 1552 b = rw (← u) at (stands-other P' (lP' ∙ sym lP) (positions-stand h)) in
-    let t₂ : Stands (header e) R' (P' ++ Q) 16 c = rw (← v) at (stands-other R' (lR' ∙ sym lR) (stands-back (header e) R P' Q (header-length e) t)) in
+    let R : List ℕ = referencePart (e .references) in
+    let R' : List ℕ = referencePart (next .references) in
+    let P' : List ℕ = positionPart (next .positions) in
+    let Q : List ℕ = textPart (e .register) ++ drop 6144 area in
+    let lR : length R' ≡ 1536 = references-length (next .references) (f .wide) (f .today) in
+    let lP : length P' ≡ 768 = positions-length (next .positions) (f .few) in
+    let t : Stands (header e ++ R) P' Q 1552 b = rw (← u) at (stands-other P' (lP ∙ sym (s .positions)) (positions-stand s)) in
+    let t₂ : Stands (header e) R' (P' ++ Q) 16 c = rw (← v) at (stands-other R' (lR ∙ sym (s .references)) (stands-back (header e) R P' Q (s .head) t)) in
     let t₃ : Stands [] N (L ++ (R' ++ (P' ++ Q))) 0 c = record { before = refl; whole = t₂ .whole ∙ rw (header-halves e) (append-assoc N L (R' ++ (P' ++ Q))) } in
     let t₄ : Stands [] N' (L ++ (R' ++ (P' ++ Q))) 0 d = rw (← w .output) at (stands-other N' (numbers-length _ _ _ _ ∙ sym (numbers-length _ _ _ _)) t₃) in
-    t₄ .whole ∙ rw (header-halves next, g) (simp append-assoc)
+    let x : d ≡ header next ++ (R' ++ (P' ++ (textPart (next .register) ++ drop 6144 area))) = t₄ .whole ∙ rw (header-halves next, g, append-assoc) in
+    sections-encode next (drop 6144 area) d record { whole = x; head = header-length next; references = lR; positions = lP; text = rw g (s .text) }

@@ -10,20 +10,12 @@ use Rattle.rules.specs.Register.{register}
 use Rattle.rules.specs.Calls.{opened}
 use Rattle.rules.specs.Area.{zeros, padded, joined, header, encode}
 use Rattle.laws.specs.Digits.{places-length}
-use Rattle.laws.specs.Parts.{cut, cut-length, cut-all}
-use Rattle.laws.specs.Writing.{Wrote, wrote-then, wrote-over}
+use Rattle.laws.specs.Parts.{cut}
+use Rattle.laws.specs.Writing.{Wrote, wrote-over}
 use Rattle.laws.specs.Sections.{zeros-length, padded-length}
 use Rattle.area.specs.Registers.{register-length}
+use Rattle.steps.specs.Texts.{wrote-five, padded-all}
 use Rattle.steps.specs.Header.{numbers, lengths}
-
--- a part of a text and the zeros behind it
-pub padded-wrote : (n : ℕ) (s : List ℕ) (a b : ℕ) {at m r : ℕ} {out out₁ out₂ : List ℕ} → b ≤ length s → Wrote (cut s a b) at out m out₁
-    → Wrote (zeros (n - (b - a))) m out₁ r out₂ → Wrote (padded n (cut s a b)) at out r out₂
-unfolding padded
-padded-wrote n s a b h v w = rw (cut-length s a b h) (wrote-then v w)
-
-padded-all : (n : ℕ) (s : List ℕ) {at r : ℕ} {out out' : List ℕ} → Wrote (padded n (cut s 0 (length s))) at out r out' → Wrote (padded n s) at out r out'
-padded-all n s w = rw cut-all at w
 
 -- a register has room
 pub register-room : (text : List ℕ) → isSome (register text) ≡ true → length text ≤ 3824
@@ -36,7 +28,7 @@ openedParts text day = numbers day 0 0 0 ++ lengths (length text) ++ zeros 1536 
 pub opened-wrote : (text : List ℕ) (day : ℕ) {m₁ m₂ m₃ m₄ r : ℕ} {out o₁ o₂ o₃ o₄ out' : List ℕ} → Wrote (numbers day 0 0 0) 0 out m₁ o₁ → Wrote (lengths (length text)) m₁ o₁ m₂ o₂ → Wrote (zeros 1536) m₂ o₂ m₃ o₃
     → Wrote (zeros 768) m₃ o₃ m₄ o₄ → Wrote (padded 3824 (cut text 0 (length text))) m₄ o₄ r out' → Wrote (openedParts text day) 0 out r out'
 unfolding openedParts
-opened-wrote text day u v w x y = wrote-then (wrote-then (wrote-then (wrote-then u v) w) x) (padded-all 3824 text y)
+opened-wrote text day u v w x y = wrote-five (numbers day 0 0 0) (lengths (length text)) (zeros 1536) (zeros 768) (padded 3824 text) u v w x (padded-all 3824 text y)
 
 opened-parts : (text : List ℕ) (day : ℕ) → encode (opened text day) ≡ openedParts text day
 unfolding encode header opened padded joined openedParts numbers lengths

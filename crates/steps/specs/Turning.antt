@@ -18,11 +18,12 @@ use Rattle.laws.specs.Moving.{Sifted}
 use Rattle.area.specs.Limits.{Limits, limits}
 use Rattle.area.specs.Layout.{Kept, All, All.none, All.more}
 use Rattle.area.specs.Held.{Held, positions-kept}
+use Rattle.area.specs.Sections.{referencePart, positionPart}
 use Rattle.area.specs.Positions.{kept-length}
 use Rattle.steps.specs.declared.parts.Numbers.{Numbers}
 use Rattle.steps.specs.Header.{numbers}
-use Rattle.steps.specs.Changes.{section, section-passing, section-counted}
-use Rattle.steps.specs.Next.{holding, position-wide, positions-stand, Fits, assembled}
+use Rattle.steps.specs.Changes.{section-passing, section-counted}
+use Rattle.steps.specs.Next.{holding, position-wide, positions-section, Fits, assembled}
 use Rattle.steps.specs.Numbers.{NumbersOf, number-within}
 
 -- the engine after a turn to a day, with the outgoing number at a count
@@ -70,7 +71,7 @@ stays-agrees (more k s) = on-more (ap undetailed (k .back)) (stays-agrees s)
 
 pub turn-done : {a b c d : List ℕ} {x : Numbers} {j m r : ℕ} (day count : ℕ) → isSome (holds a) ≡ true → NumbersOf a x → Sifted stays 24 (x .positions) 1552 a j b → Wrote (zeros 1536) 16 b m c
     → Wrote (numbers day count j 0) 0 c r d → d ≡ encode (turned (decode a) day count) ++ drop 6144 a
-unfolding turned padded joined
+unfolding turned padded joined referencePart positionPart
 turn-done {a} {b} {c} {d} {x} {j} {m} {r} day count h n s z w =
     let g : Held a (decode a) = holding h in
     let l : Limits (decode a) = limits (decode a) (g .good) in
@@ -79,8 +80,8 @@ turn-done {a} {b} {c} {d} {x} {j} {m} {r} day count h n s z w =
     let agree : Agree positionRecord stays undetailed ps = stays-agrees (positions-kept (decode a .day) ps (l .good)) in
     let wide : Each 24 (map positionRecord ps) = each-map positionRecord position-wide ps in
     let few : 24 * length ps ≤ 768 = omega (arith, l .few) in
-    let now : b ≡ laid (section 768 positionRecord (kept ps)) 1552 a =
-    rw (passing-kept ps) at (section-passing positionRecord 768 ps wide few (positions-stand g) agree t) in
-    let counted : j ≡ length (kept ps) = section-counted positionRecord 768 ps wide few (positions-stand g) agree t ∙ ap length (passing-kept ps) in
+    let now : b ≡ laid (positionPart (kept ps)) 1552 a =
+    rw (passing-kept ps) at (section-passing positionRecord 768 ps wide few (positions-section g) agree t) in
+    let counted : j ≡ length (kept ps) = section-counted positionRecord 768 ps wide few (positions-section g) agree t ∙ ap length (passing-kept ps) in
     let fits : Fits (turned (decode a) day count) = record { few = omega (arith, kept-length ps, l .few); today = omega arith; wide = no-record } in
     assembled (turned (decode a) day count) g refl fits now (z .output) (rw counted at w)

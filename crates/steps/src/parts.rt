@@ -27,6 +27,7 @@ pub struct Numbers {
     pub references: u64,
 }
 
+// These numbers, read from an area that holds an engine.
 pub fn numbers_of(area: &[u8]) -> Numbers
     requires { ⌜ isSome (holds (now area)) ≡ true ⌝ }
     ensures { λ r. ⌜ NumbersOf (now (area .entry)) r ⌝ }

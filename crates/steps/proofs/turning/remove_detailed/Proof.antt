@@ -38,7 +38,7 @@ loop-less : tie.Need-loop-less Inv-loop μ-loop
 loop-less c = search (turning, needs)
 
 loop-again : tie.Need-loop-again Inv-loop μ-loop
-loop-again c = keeping-keep ((c .before .before .before .before .before .before .before .before .loop .inv)) (search needs) ((c .before .before .before .before .before .stays-at .ensures)) (search needs) ((c .before .before .keep-record .ensures))
+loop-again c = keeping-keep (c .before .before .before .before .before .before .before .before .loop .inv) (search needs) (c .before .before .before .before .before .stays-at .ensures) (search needs) (c .before .before .keep-record .ensures)
 
 add-i-2 : tie.Need-add-i-2 Inv-loop μ-loop
 add-i-2 c = search (turning, needs)
@@ -68,7 +68,7 @@ same-length : tie.Need-same-length Inv-loop μ-loop
 same-length c = search (turning, needs)
 
 returns : tie.Need-returns Inv-loop μ-loop
-returns c = keeping-end ((c .before .before .before .before .before .loop .inv)) (search needs) ((c .before .before .put-zeros .ensures))
+returns c = keeping-end (c .before .before .before .before .before .loop .inv) (search needs) (c .before .before .put-zeros .ensures)
 
 pub remove-detailed-spec : {M : Type 1} → statement M
 remove-detailed-spec =

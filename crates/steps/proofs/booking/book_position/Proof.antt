@@ -1,0 +1,67 @@
+-- An open position is raised at its place; a missing one is put there, those behind it moved up. Assumes nothing.
+use Rattle.steps.specs.Booking.{raise-fits, insert-done}
+use Rattle.steps.specs.Sets.{booking}
+use borrow.Author.Needs.{needs}
+use Rattle.steps.proofs.booking.book_position.Statement.{statement}
+use Rattle.steps.proofs.booking.book_position.Tie as tie
+
+place-of-requires : tie.Need-place-of-requires
+place-of-requires c κs = search (booking, needs)
+
+is-at-requires : tie.Need-is-at-requires
+is-at-requires c κs = search (booking, needs)
+
+mul-raise : tie.Need-mul-raise
+mul-raise c = search (booking, needs)
+
+add-raise : tie.Need-add-raise
+add-raise c = search (booking, needs)
+
+raise-requires : tie.Need-raise-requires
+raise-requires c κs = raise-fits _ (c .before .before .before .before .before .before .before .args .n) _ _ _ _ _ (search needs) (c .before .before .before .before .place-of .ensures) _ (c .before .before .is-at .ensures) (search needs) (search needs)
+
+same-length : tie.Need-same-length
+same-length c = search (booking, needs)
+
+returns : tie.Need-returns
+returns c = search (booking, needs)
+
+open-record-requires : tie.Need-open-record-requires
+open-record-requires c κs = search (booking, needs)
+
+mul-put-position : tie.Need-mul-put-position
+mul-put-position c = search (booking, needs)
+
+add-put-position : tie.Need-add-put-position
+add-put-position c = search (booking, needs)
+
+put-position-requires : tie.Need-put-position-requires
+put-position-requires c κs = search (booking, needs)
+
+add-result : tie.Need-add-result
+add-result c = search (booking, needs)
+
+same-length-2 : tie.Need-same-length-2
+same-length-2 c = search (booking, needs)
+
+returns-2 : tie.Need-returns-2
+returns-2 c = insert-done _ _ _ _ _ _ _ (search needs) (c .before .before .before .before .before .before .before .before .before .before .before .place-of .ensures) _ (c .before .before .before .before .before .before .before .before .before .is-at .ensures) (search needs) (search needs) (search needs) (c .before .before .before .before .before .before .open-record .ensures) (c .before .before .put-position .ensures)
+
+pub book-position-spec : {M : Type 1} → statement M
+book-position-spec =
+    tie.close
+    (tie.spec
+    place-of-requires
+    is-at-requires
+    mul-raise
+    add-raise
+    raise-requires
+    same-length
+    returns
+    open-record-requires
+    mul-put-position
+    add-put-position
+    put-position-requires
+    add-result
+    same-length-2
+    returns-2)

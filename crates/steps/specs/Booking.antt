@@ -1,0 +1,196 @@
+-- A message booked in an area: its position raised or put in its place, its reference behind the others, the header's numbers. Assumes nothing.
+use mathlib.Core.Path.{_≡_, refl, sym, ap, _∙_}
+use mathlib.Core.Bool.{Bool, true, false, not}
+use mathlib.Core.List.{List, [], _∷_, _++_}
+use Prim.Native.Nat.{ℕ, suc, _+_, _-_, _*_, _≤_, _<_}
+use native.Mathlib.Omega.{arith}
+use lib.Dec.{leb}
+use lib.ListN.{length, drop, length-append, drop-of-length-le}
+use borrow.Author.Tests.{leb-true, leb-false, not-false}
+use Rattle.rules.specs.Text.{isSome, bytes}
+use Rattle.rules.specs.Messages.{Message}
+use Rattle.rules.specs.Engine.{Position, Reference, Engine, limit, positionOf, booked, within}
+use Rattle.rules.specs.Calls.{added, ownReference, after, noRoom, overLimit, writes, afterMessage}
+use Rattle.rules.specs.Area.{numberAt, referenceRecord, positionRecord, header, encode, decode, holds}
+use Rattle.laws.specs.Digits.{places-length}
+use Rattle.laws.specs.Parts.{cut, cut-length}
+use Rattle.laws.specs.Laid.{laid}
+use Rattle.laws.specs.Writing.{Wrote}
+use Rattle.laws.specs.Sections.{Each.no-record, Each.and-record, inserted, replaced, each-map, each-append, map-appended, padded-length}
+use Rattle.laws.specs.Standing.{Stands, moved}
+use Rattle.laws.specs.Moving.{Opens, opens}
+use Rattle.area.specs.Facts.{never, or-left, or-right}
+use Rattle.area.specs.Limits.{Limits, limits}
+use Rattle.area.specs.Held.{Held}
+use Rattle.area.specs.Sections.{referencePart, positionPart, textPart, Of, held-sections, positions-stand}
+use Rattle.area.specs.Positions.{ordered-sorted, booked-few, found-same}
+use Rattle.steps.specs.declared.parts.Numbers.{Numbers}
+use Rattle.steps.specs.Texts.{wrote-five}
+use Rattle.steps.specs.Header.{numbers}
+use Rattle.steps.specs.Changes.{section, inserted-length, replaced-length, section-appended, section-replaced, section-inserted, stands-back, stands-other}
+use Rattle.steps.specs.Next.{holding, position-wide, references-each, positions-length, positions-section, Fits, assembled}
+use Rattle.steps.specs.Numbers.{NumbersOf}
+use Rattle.steps.specs.Places.{position, isFirst, PlaceOf}
+use Rattle.steps.specs.Records.{positionAt, transferred-at, detailed-at, Many, positions-from}
+
+-- ---- the engine then
+
+-- a bank's reference
+abbrev pub reference : ℕ → List ℕ → Reference
+reference bank text = record { sender = bank; text = text }
+
+-- the engine with a position booked, a reference accepted, and the outgoing number stepped forward
+unfoldable pub bookedWith : Engine → Position → Reference → ℕ → Engine
+bookedWith e q r written = record {
+  register = e .register;
+  day = e .day;
+  positions = booked q (e .positions);
+  references = e .references ++ (r ∷ []);
+  count = e .count + written;
+}
+
+-- with a message's own parts it is the engine after the message
+pub booked-after : (e : Engine) (m : Message) → bookedWith e (added m) (ownReference m) (writes e m) ≡ afterMessage e m
+unfolding bookedWith afterMessage
+booked-after e m = refl
+
+-- there is room for a reference (13), the position is open or there is room for it (14), and both its totals stay within the limit (15)
+pub record Booking (e : Engine) (q : Position) : Type 0 where
+  pub today : length (e .references) < 64
+  pub few : length (booked q (e .positions)) ≤ 32
+  pub transferred : positionOf (q .bank) (q .date) (e .positions) .transferred + q .transferred ≤ limit
+  pub detailed : positionOf (q .bank) (q .date) (e .positions) .detailed + q .detailed ≤ limit
+
+-- where none of 13 to 15 holds of a message
+pub booking-clear : (e : Engine) (m : Message) → within e ≡ true → length (e .references) < 64 → noRoom e m ≡ false → overLimit e m ≡ false → Booking e (added m)
+unfolding noRoom overLimit after
+booking-clear e m w t n o =
+    let l : Limits e = limits e w in record {
+      today = t;
+      few = booked-few (added m) (ordered-sorted (e .positions) (l .order)) (l .few) n;
+      transferred = leb-true _ _ (not-false _ (or-left _ _ o));
+      detailed = leb-true _ _ (not-false _ (or-right (not (leb (after e m .transferred) limit)) _ o));
+    }
+
+-- ---- positions
+
+-- the area has these positions then, k of them
+pub record Positions (ps : List Position) (a : List ℕ) (k : ℕ) (b : List ℕ) : Type 0 where
+  pub count : k ≡ length ps
+  pub bytes : b ≡ laid (positionPart ps) 1552 a
+
+pub position-wrote : (bank date t d : ℕ) {at m₁ m₂ m₃ m₄ r : ℕ} {out o₁ o₂ o₃ o₄ out' : List ℕ} → Wrote (bytes 8 bank) at out m₁ o₁ → Wrote (bytes 3 date) m₁ o₁ m₂ o₂ → Wrote (bytes 6 t) m₂ o₂ m₃ o₃
+    → Wrote (bytes 6 d) m₃ o₃ m₄ o₄ → Wrote (bytes 1 0) m₄ o₄ r out' → Wrote (positionRecord (position bank date t d)) at out r out'
+unfolding positionRecord
+position-wrote bank date t d u v w x y = wrote-five (bytes 8 bank) (bytes 3 date) (bytes 6 t) (bytes 6 d) (bytes 1 0) u v w x y
+
+-- both totals of the record at a place can be raised
+pub record Raises (a : List ℕ) (at t d : ℕ) : Type 0 where
+  pub inside : at + 24 ≤ length a
+  pub transferred : numberAt a (at + 11) 6 + t ≤ limit
+  pub detailed : numberAt a (at + 17) 6 + d ≤ limit
+
+-- the position of that record raised, as that of a bank and date
+abbrev pub raisedAt : List ℕ → ℕ → ℕ → ℕ → ℕ → ℕ → Position
+raisedAt a at bank date t d = position bank date (numberAt a (at + 11) 6 + t) (numberAt a (at + 17) 6 + d)
+
+pub raised-wrote : (a : List ℕ) (at bank date t d u v : ℕ) {r : ℕ} {b : List ℕ} → u ≡ numberAt a (at + 11) 6 → v ≡ numberAt a (at + 17) 6
+    → Wrote (positionRecord (position bank date (u + t) (v + d))) at a r b → Wrote (positionRecord (raisedAt a at bank date t d)) at a r b
+raised-wrote a at bank date t d u v e f w = rw (e, f) at w
+
+-- an open position stands at its place
+record Found (a : List ℕ) (n i bank date : ℕ) : Type 0 where
+  inside : i < n
+  is : positionOf bank date (decode a .positions) ≡ positionAt a (1552 + 24 * i)
+
+found : (a : List ℕ) (n i bank date : ℕ) → Many a n → PlaceOf bank date (decode a .positions) i → isFirst bank date (drop i (decode a .positions)) ≡ true → Found a n i bank date
+unfolding isFirst
+found a n i bank date m p k = go (leb n i) refl
+  where
+    go : (t : Bool) → leb n i ≡ t → Found a n i bank date
+    go true e =
+        let l : length (decode a .positions) ≤ i = omega (arith, m .same, leb-true n i e) in
+        never (sym (rw (drop-of-length-le (decode a .positions) l) at k))
+    go false e =
+        let l : i < n = leb-false n i e in
+        let f : drop i (decode a .positions) ≡ positionAt a (1552 + 24 * i) ∷ drop (suc i) (decode a .positions) = positions-from a n i m l in
+        record { inside = l; is = p .found ∙ rw (f, found-same (position bank date 0 0) (positionAt a (1552 + 24 * i)) (drop (suc i) (decode a .positions)) (rw f at k)) }
+
+module _ (a : List ℕ) (n i bank date t d : ℕ) (m : Many a n) (p : PlaceOf bank date (decode a .positions) i) (x : Bool) (f : x ≡ isFirst bank date (drop i (decode a .positions))) where
+  -- an open position is raised
+  module _ (k : x ≡ true) where
+    here : Found a n i bank date
+    here = found a n i bank date m p (sym f ∙ k)
+
+    new-transferred : positionOf bank date (decode a .positions) .transferred ≡ numberAt a (1552 + 24 * i + 11) 6
+    new-transferred = ap (λ (y : Position). y .transferred) (here .is) ∙ transferred-at a (1552 + 24 * i)
+
+    new-detailed : positionOf bank date (decode a .positions) .detailed ≡ numberAt a (1552 + 24 * i + 17) 6
+    new-detailed = ap (λ (y : Position). y .detailed) (here .is) ∙ detailed-at a (1552 + 24 * i)
+
+    pub raise-fits : Booking (decode a) (position bank date t d) → Raises a (1552 + 24 * i) t d
+    raise-fits g = record { inside = omega (arith, here .inside, m .few, m .long); transferred = rw new-transferred at (g .transferred); detailed = rw new-detailed at (g .detailed) }
+
+    pub raise-done : {r : ℕ} {b : List ℕ} → isSome (holds a) ≡ true → Wrote (positionRecord (raisedAt a (1552 + 24 * i) bank date t d)) (1552 + 24 * i) a r b
+        → Positions (booked (position bank date t d) (decode a .positions)) a n b
+    unfolding positionPart
+    raise-done {b = b} h w =
+        let ps : List Position = decode a .positions in
+        let y : Position = raisedAt a (1552 + 24 * i) bank date t d in
+        let l : i < length ps = omega (arith, here .inside, m .same) in
+        let e : booked (position bank date t d) ps ≡ replaced i y ps = p .raises t d (sym f ∙ k) ∙ rw (new-transferred, new-detailed) in
+        let c : b ≡ laid (section 768 positionRecord (replaced i y ps)) 1552 a =
+        section-replaced positionRecord 768 ps (each-map positionRecord position-wide ps) (omega (arith, m .same, m .few)) (positions-section (holding h)) i y (position-wide y) l w in
+        record { count = m .same ∙ rw e (sym (replaced-length i y ps l)); bytes = rw e c }
+
+  -- a missing one is put in its place
+  module _ (k : x ≡ false) where
+    after-place : booked (position bank date t d) (decode a .positions) ≡ inserted i (position bank date t d) (decode a .positions)
+    after-place = p .opens t d (sym f ∙ k)
+
+    grown : length (booked (position bank date t d) (decode a .positions)) ≡ n + 1
+    grown = rw after-place (inserted-length i (position bank date t d) (decode a .positions) (p .within) ∙ omega (arith, m .same))
+
+    pub insert-fits : Booking (decode a) (position bank date t d) → Opens 1552 24 n i (length a)
+    insert-fits g = opens 1552 24 n i (length a) (omega (arith, p .within, m .same)) (omega (arith, g .few, grown, m .long))
+
+    pub insert-done : {r : ℕ} {b c : List ℕ} → isSome (holds a) ≡ true → Booking (decode a) (position bank date t d)
+        → b ≡ moved (1552 + 24 * i) (1552 + 24 * i + 24) (24 * (n - i)) a → Wrote (positionRecord (position bank date t d)) (1552 + 24 * i) b r c
+        → Positions (booked (position bank date t d) (decode a .positions)) a (n + 1) c
+    unfolding positionPart
+    insert-done {b = b} {c = c} h g u w =
+        let ps : List Position = decode a .positions in
+        let y : Position = position bank date t d in
+        let v : b ≡ moved (1552 + 24 * i) (1552 + 24 * i + 24) (24 * (length ps - i)) a = rw (m .same) at u in
+        let e : c ≡ laid (section 768 positionRecord (inserted i y ps)) 1552 a =
+        section-inserted positionRecord 768 ps (each-map positionRecord position-wide ps) (omega (arith, m .same, m .few)) (positions-section (holding h)) i y (position-wide y) (p .within) (omega (arith, g .few, grown, m .same)) v w in
+        record { count = sym grown; bytes = rw after-place e }
+
+-- ---- the message
+
+pub reference-wide : (r : Reference) → length (r .text) ≤ 16 → length (referenceRecord r) ≡ 24
+unfolding referenceRecord
+reference-wide r h = rw (length-append, places-length, padded-length 16 (r .text) h)
+
+module _ (a : List ℕ) (x : Numbers) (q : Position) (bank : ℕ) (text : List ℕ) (from to written : ℕ) (h : isSome (holds a) ≡ true) (n : NumbersOf a x) (g : Booking (decode a) q) where
+  pub book-done : {k m z : ℕ} {b c d : List ℕ} → to ≤ length text → to - from ≤ 16 → Positions (booked q (decode a .positions)) a k b
+      → Wrote (referenceRecord (reference bank (cut text from to))) (16 + 24 * x .references) b m c → Wrote (numbers (x .day) (x .count + written) k (x .references + 1)) 0 c z d
+      → d ≡ encode (bookedWith (decode a) q (reference bank (cut text from to)) written) ++ drop 6144 a
+  unfolding bookedWith referencePart
+  book-done {k} {m} {z} {b} {c} {d} i j p u w =
+      let r : Reference = reference bank (cut text from to) in
+      let s : length (r .text) ≤ 16 = rw (cut-length text from to i) j in
+      let e : Engine = decode a in
+      let H : Held a e = holding h in
+      let S : Of e (drop 6144 a) a = held-sections a e H in
+      let P' : List ℕ = positionPart (booked q (e .positions)) in
+      let Q : List ℕ = textPart (e .register) ++ drop 6144 a in
+      let lP : length P' ≡ 768 = positions-length (booked q (e .positions)) (g .few) in
+      let y : Stands (header e ++ referencePart (e .references)) P' Q 1552 b = rw (← p .bytes) at (stands-other P' (lP ∙ sym (S .positions)) (positions-stand S)) in
+      let o : Stands (header e) (section 1536 referenceRecord (e .references)) (P' ++ Q) 16 b = stands-back (header e) (referencePart (e .references)) P' Q (S .head) y in
+      let u' : Wrote (referenceRecord r) (16 + 24 * length (e .references)) b m c = rw (n .references) at u in
+      let v : c ≡ laid (referencePart (e .references ++ r ∷ [])) 16 b =
+      section-appended referenceRecord 1536 (e .references) (references-each H) (omega (arith, g .today)) o r (reference-wide r s) (omega (arith, g .today)) u' in
+      let l : length (e .references ++ r ∷ []) ≡ length (e .references) + 1 = length-append (e .references) (r ∷ []) in
+      let f : Fits (bookedWith e q r written) = record { few = g .few; today = omega (arith, g .today, l); wide = rw map-appended (each-append (references-each H) (and-record (reference-wide r s) no-record)) } in
+      assembled (bookedWith e q r written) H refl f (p .bytes) v (rw (n .day, n .count, n .references, p .count, ← l) at w)
