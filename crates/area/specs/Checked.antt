@@ -19,8 +19,8 @@ use Rattle.area.specs.Facts.{never, either, cond-left, cond-both, equal-
 use Rattle.area.specs.Bytes.{Bytes, within-take, within-drop}
 use Rattle.area.specs.Layout.{All, All.none, All.more}
 use Rattle.area.specs.Positions.{Good}
-use Rattle.area.specs.Walk.{walk}
-use Rattle.area.specs.Tests.{isZero, textFits, referenceTest, otherTest, newTest, dateTest, totalTest, positionAt, positionTest, orderTest}
+use Rattle.area.specs.Walk.{walk, always}
+use Rattle.area.specs.Tests.{isZero, textFits, referenceTest, otherTest, newTest, dateTest, totalTest, positionAt, positionTest, earlierBy, orderTest}
 use Rattle.area.specs.Records.{cut-is, in-record, position-good, position-same, position-test, reference-good, reference-same, reference-test}
 
 -- ---- a walk is a test of the list of records
@@ -78,7 +78,7 @@ module _ {A : Type 0} (f : List ℕ → Bool) (write : A → List ℕ) (reads : 
 -- ---- positions
 
 unfoldable pub positionFits : ℕ → List ℕ → Bool
-positionFits day r = positionTest day r 0 0
+positionFits day r = positionTest day r 0
 
 pub position-checks : (day : ℕ) → Checks (positionFits day) positionRecord positionIn (Good day)
 unfolding positionFits
@@ -88,9 +88,9 @@ position-checks day = record {
   test = λ r k g e. position-test r (k .bytes) (k .wide) day g e;
 }
 
-pub positions-walk : (day : ℕ) (a : List ℕ) (n p : ℕ) → walk (positionTest day a) n p ≡ each (positionFits day) (records n (drop p a))
+pub positions-walk : (day : ℕ) (a : List ℕ) (n p : ℕ) → walk (always (positionTest day a)) n p ≡ each (positionFits day) (records n (drop p a))
 unfolding positionFits positionTest dateTest totalTest
-positions-walk day a n p = walk-each a (positionTest day a) (positionFits day) (λ k q. rw (in-record a q 0 8 (lit≤ tt), in-record a q 8 11 (lit≤ tt), in-record a q 11 17 (lit≤ tt), in-record a q 17 23 (lit≤ tt), in-record a q 23 24 (lit≤ tt), add-zero)) n p
+positions-walk day a n p = walk-each a (always (positionTest day a)) (positionFits day) (λ k q. rw (in-record a q 0 8 (lit≤ tt), in-record a q 8 11 (lit≤ tt), in-record a q 11 17 (lit≤ tt), in-record a q 17 23 (lit≤ tt), in-record a q 23 24 (lit≤ tt), add-zero)) n p
 
 -- the position at a place is the record's
 number-in : (a : List ℕ) (p i w : ℕ) → i + w ≤ 24 → number (cut a (p + i) (p + (i + w))) ≡ numberAt (take 24 (drop p a)) i w
@@ -107,12 +107,20 @@ position-at a p =
       detailed = number-in a p 17 6 (lit≤ tt) i;
     }
 
-order-from : (a : List ℕ) (n p : ℕ) → walk (orderTest a) n p ≡ ordered (map positionIn (records (suc n) (drop p a)))
-unfolding walk orderTest ordered records
-order-from a zero p = refl
-order-from a (suc n) p = rw (position-at a p, position-at a (p + 24), order-from a n (p + 24), drop-drop 24 p a)
+earlier-by : (p q : Position) → earlier p q ≡ earlierBy (p .bank) (p .date) (q .bank) (q .date)
+unfolding earlier earlierBy
+earlier-by p q = refl
 
-pub order-walk : (a : List ℕ) (n p : ℕ) → walk (orderTest a) (n - 1) p ≡ ordered (map positionIn (records n (drop p a)))
+order-is : (a : List ℕ) (p : ℕ) → orderTest a p ≡ earlier (positionIn (take 24 (drop p a))) (positionIn (take 24 (drop (p + 24) a)))
+unfolding orderTest
+order-is a p = sym (earlier-by (positionAt a p) (positionAt a (p + 24))) ∙ rw (position-at a p, position-at a (p + 24))
+
+order-from : (a : List ℕ) (n p : ℕ) → walk (always (orderTest a)) n p ≡ ordered (map positionIn (records (suc n) (drop p a)))
+unfolding walk ordered records
+order-from a zero p = refl
+order-from a (suc n) p = rw (order-is a p, order-from a n (p + 24), drop-drop 24 p a)
+
+pub order-walk : (a : List ℕ) (n p : ℕ) → walk (always (orderTest a)) (n - 1) p ≡ ordered (map positionIn (records n (drop p a)))
 unfolding walk ordered records
 order-walk a zero p = refl
 order-walk a (suc n) p = let e : suc n - 1 ≡ n = omega arith in rw e (order-from a n p)
@@ -133,7 +141,7 @@ forms-all none = refl
 forms-all (more g s) = cond-both _ _ g (forms-all s)
 
 unfoldable pub referenceFits : List ℕ → Bool
-referenceFits r = referenceTest r 0 0
+referenceFits r = referenceTest r 0
 
 pub reference-checks : Checks referenceFits referenceRecord referenceIn Form
 unfolding referenceFits
@@ -143,9 +151,10 @@ reference-checks = record {
   test = λ r k g e. reference-test r (k .bytes) (k .wide) g e;
 }
 
-pub references-walk : (a : List ℕ) (n p : ℕ) → walk (referenceTest a) n p ≡ each referenceFits (records n (drop p a))
+pub references-walk : (a : List ℕ) (n p : ℕ) → walk (always (referenceTest a)) n p ≡ each referenceFits (records n (drop p a))
 unfolding referenceFits referenceTest
-references-walk a n p = walk-each a (referenceTest a) referenceFits (λ k q. rw (in-record a q 0 8 (lit≤ tt), in-record a q 8 24 (lit≤ tt), add-zero)) n p
+references-walk a n p =
+    walk-each a (always (referenceTest a)) referenceFits (λ k q. let e : q + 8 + 16 ≡ q + 24 = omega arith in rw (in-record a q 0 8 (lit≤ tt), in-record a q 8 24 (lit≤ tt), add-zero, e)) n p
 
 -- two records that are written as they stand say the same exactly if they are equal
 same-sound : (r q : Reference) → sameReference r q ≡ true → r ≡ q
@@ -193,6 +202,6 @@ new-walk a zero p w = refl
 new-walk a (suc n) p (more b k) =
     let r : List ℕ = take 24 (drop p a) in
     let rs : List (List ℕ) = records n (drop 24 (drop p a)) in
-    let x : walk (otherTest a p) n (p + 24) ≡ each (otherThan r) rs = rw (← cut-is a p 24, drop-drop 24 p a) (walk-each a (otherTest a p) (otherThan (cut a p (p + 24))) (λ j q. refl) n (p + 24)) in
+    let x : walk (always (otherTest a p)) n (p + 24) ≡ each (otherThan r) rs = rw (← cut-is a p 24, drop-drop 24 p a) (walk-each a (always (otherTest a p)) (otherThan (cut a p (p + 24))) (λ j q. refl) n (p + 24)) in
     let y : walk (newTest a) n (p + 24) ≡ not (twice sameReference (map referenceIn rs)) = rw (drop-drop 24 p a) (new-walk a n (p + 24) (rw (drop-drop 24 p a) at k)) in
     rw (x, y, others r b k) (not-cond (any (sameReference (referenceIn r)) (map referenceIn rs)) (twice sameReference (map referenceIn rs)))

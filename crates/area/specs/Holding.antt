@@ -29,17 +29,24 @@ use Rattle.area.specs.Layout.{Kept, All, All.none, All.more, part-at, jo
 use Rattle.area.specs.Held.{Held, held, positions-kept, references-kept}
 use Rattle.area.specs.Positions.{Good, all-good, good-all}
 use Rattle.area.specs.Sections.{Sections, Of, referencePart, positionPart, textPart, held-sections, references-stand, positions-stand, text-stands}
-use Rattle.area.specs.Walk.{walk}
-use Rattle.area.specs.Tests.{isZero, headerTest, referenceTest, newTest, referencesTest, positionTest, orderTest, positionsTest, textTest, areaTest}
+use Rattle.area.specs.Walk.{walk, always}
+use Rattle.area.specs.Tests.{isZero, countsTest, headerTest, referenceTest, newTest, referencesTest, positionTest, orderTest, positionsTest, textTest, areaTest}
 use Rattle.area.specs.Records.{cut-is, zero-bytes, zeros-zero, bytes-zero, bytes-stand, take-part}
 use Rattle.area.specs.Checked.{each, Rec, Checks, records-bytes, records-length, each-good, each-same, each-test, positionFits, position-checks, positions-walk, order-walk, Form, all-forms, forms-all, referenceFits, reference-checks, references-walk, Whole, whole-all, new-walk}
 
 -- ---- the header
 
 -- its tests in the words of the definitions
-header-form : (a : List ℕ) → headerTest a ≡ (equal (take 2 a) mark && (exists (numberAt a 2 3) && (leb (numberAt a 5 2) (32 + 18 * numberAt a 8 1) && (leb (numberAt a 7 1) 32 && (leb (numberAt a 8 1) 64 && (every isZero (take 1 (drop 9 a)) && every isZero (take 4 (drop 12 a))))))))
-unfolding headerTest
-header-form a = rw (cut-is a 0 2, cut-is a 2 3, cut-is a 5 2, cut-is a 7 1, cut-is a 8 1, cut-is a 9 1, cut-is a 12 4)
+header-form : (a : List ℕ)
+    → headerTest a
+    ≡ (equal (take 2 a) mark
+    && (exists (numberAt a 2 3)
+    && ((leb (numberAt a 8 1) 64 && (leb (numberAt a 7 1) 32 && leb (numberAt a 5 2) (32 + 18 * numberAt a 8 1)))
+    && (every isZero (take 1 (drop 9 a))
+    && every isZero (take 4 (drop 12 a))))))
+unfolding headerTest countsTest
+header-form a =
+    rw (cut-is a 0 2, cut-is a 2 3, cut-is a 5 2, cut-is a 7 1, cut-is a 8 1, cut-is a 9 1, cut-is a 12 4)
 
 -- its parts, with any two bytes m for the mark
 module _ (m : List ℕ) (two : length m ≡ 2) (d c n k o g z : ℕ) (rest : List ℕ) where
@@ -234,11 +241,11 @@ record Passed (a : List ℕ) : Type 0 where
   today : numberAt a 8 1 ≤ 64
   currency : every isZero (take 1 (drop 9 a)) ≡ true
   lengths : every isZero (take 4 (drop 12 a)) ≡ true
-  references : walk (referenceTest a) (numberAt a 8 1) 16 ≡ true
+  references : walk (always (referenceTest a)) (numberAt a 8 1) 16 ≡ true
   distinct : walk (newTest a) (numberAt a 8 1) 16 ≡ true
   behind-references : every isZero (cut a (16 + 24 * numberAt a 8 1) 1552) ≡ true
-  positions : walk (positionTest (numberAt a 2 3) a) (numberAt a 7 1) 1552 ≡ true
-  order : walk (orderTest a) (numberAt a 7 1 - 1) 1552 ≡ true
+  positions : walk (always (positionTest (numberAt a 2 3) a)) (numberAt a 7 1) 1552 ≡ true
+  order : walk (always (orderTest a)) (numberAt a 7 1 - 1) 1552 ≡ true
   behind-positions : every isZero (cut a (1552 + 24 * numberAt a 7 1) 2320) ≡ true
   short : numberAt a 10 2 ≤ 1544
   text : isSome (register (cut a 2320 (2320 + numberAt a 10 2))) ≡ true

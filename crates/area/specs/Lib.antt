@@ -15,3 +15,5 @@ pub mod Records
 pub mod Checked
 pub mod Sections
 pub mod Holding
+pub mod Texts
+pub mod Ways

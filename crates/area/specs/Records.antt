@@ -83,11 +83,11 @@ module _ (r : List ℕ) (w : Within 256 0 r) (l : length r ≡ 24) where
 
   module _ (day : ℕ) where
     -- the test in the words of the definitions
-    position-form : positionTest day r 0 0 ≡ (isBic (take 8 r) && ((exists (numberAt r 8 3) && leb (numberAt r 8 3) day) && (leb (numberAt r 11 6) limit && (leb (numberAt r 17 6) limit && every isZero (take 1 (drop 23 r))))))
+    position-form : positionTest day r 0 ≡ (isBic (take 8 r) && ((exists (numberAt r 8 3) && leb (numberAt r 8 3) day) && (leb (numberAt r 11 6) limit && (leb (numberAt r 17 6) limit && every isZero (take 1 (drop 23 r))))))
     unfolding positionTest dateTest totalTest
     position-form = rw (cut-is r 0 8, cut-is r 8 3, cut-is r 11 6, cut-is r 17 6, cut-is r 23 1)
 
-    pub position-good : positionTest day r 0 0 ≡ true → Good day (positionIn r)
+    pub position-good : positionTest day r 0 ≡ true → Good day (positionIn r)
     unfolding positionIn
     position-good h =
         let k : _ ≡ true = sym position-form ∙ h in record {
@@ -98,14 +98,14 @@ module _ (r : List ℕ) (w : Within 256 0 r) (l : length r ≡ 24) where
           detailed = leb-true _ _ (search (and-left, and-right));
         }
 
-    pub position-same : positionTest day r 0 0 ≡ true → positionRecord (positionIn r) ≡ r
+    pub position-same : positionTest day r 0 ≡ true → positionRecord (positionIn r) ≡ r
     position-same h =
         let k : _ ≡ true = sym position-form ∙ h in
         let n : length (take 1 (drop 23 r)) ≡ 1 = length-take-le 1 (drop 23 r) (rw (length-drop, l) (lit≤ tt)) in
         let z : take 1 (drop 23 r) ≡ zeros 1 = zero-bytes _ 1 n (search (and-left, and-right)) in
         position-stands ∙ rw (bytes-zero 1, ← z, ← take-part r 23 1) (take-all 24 r (rw l (lit≤ tt)))
 
-    pub position-test : Good day (positionIn r) → positionRecord (positionIn r) ≡ r → positionTest day r 0 0 ≡ true
+    pub position-test : Good day (positionIn r) → positionRecord (positionIn r) ≡ r → positionTest day r 0 ≡ true
     unfolding positionIn
     position-test g e =
         let b : isBic (take 8 r) ≡ true = rw (bytes-stand r 0 8 w (rw l (lit≤ tt))) at (bank-bic (numberAt r 0 8) (g .bank)) in
@@ -155,11 +155,11 @@ module _ (r : List ℕ) (w : Within 256 0 r) (l : length r ≡ 24) where
   text-length : length (take 16 (drop 8 r)) ≡ 16
   text-length = length-take-le 16 (drop 8 r) (rw (length-drop, l) (lit≤ tt))
 
-  reference-form : referenceTest r 0 0 ≡ (isBic (take 8 r) && textFits (take 16 (drop 8 r)))
+  reference-form : referenceTest r 0 ≡ (isBic (take 8 r) && textFits (take 16 (drop 8 r)))
   unfolding referenceTest
   reference-form = rw (cut-is r 0 8, cut-is r 8 16)
 
-  pub reference-good : referenceTest r 0 0 ≡ true → goodReference (referenceIn r) ≡ true
+  pub reference-good : referenceTest r 0 ≡ true → goodReference (referenceIn r) ≡ true
   unfolding goodReference referenceIn textFits
   reference-good h =
       let k : _ ≡ true = sym reference-form ∙ h in
@@ -168,13 +168,13 @@ module _ (r : List ℕ) (w : Within 256 0 r) (l : length r ≡ 24) where
       let b : not (slashed t) ≡ true = search (and-left, and-right) in
       rw (bic-bank (take 8 r) (and-left _ _ k), a, b)
 
-  pub reference-same : referenceTest r 0 0 ≡ true → referenceRecord (referenceIn r) ≡ r
+  pub reference-same : referenceTest r 0 ≡ true → referenceRecord (referenceIn r) ≡ r
   reference-same h =
       let k : _ ≡ true = sym reference-form ∙ h in
       let t : padded 16 (untilZero (take 16 (drop 8 r))) ≡ take 16 (drop 8 r) = text-same _ text-length (and-right (isBic (take 8 r)) _ k) in
       reference-stands ∙ rw (t, ← take-part r 8 16) (take-all 24 r (rw l (lit≤ tt)))
 
-  pub reference-test : goodReference (referenceIn r) ≡ true → referenceRecord (referenceIn r) ≡ r → referenceTest r 0 0 ≡ true
+  pub reference-test : goodReference (referenceIn r) ≡ true → referenceRecord (referenceIn r) ≡ r → referenceTest r 0 ≡ true
   unfolding goodReference referenceIn
   reference-test g e =
       let b : isBic (take 8 r) ≡ true = rw (bytes-stand r 0 8 w (rw l (lit≤ tt))) at (bank-bic (numberAt r 0 8) (search (and-left, and-right))) in

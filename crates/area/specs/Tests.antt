@@ -1,5 +1,5 @@
 -- Number 10 as tests of an area's bytes, in the order of the layout: what the code asks of header, references, positions and texts. Assumes nothing.
-use mathlib.Core.Bool.{Bool, true, false, _&&_, not}
+use mathlib.Core.Bool.{Bool, true, false, _&&_, _||_, not}
 use mathlib.Core.List.{List, [], _∷_}
 use Prim.Native.Nat.{ℕ, _+_, _-_, _*_}
 use lib.Dec.{leb, eqb}
@@ -8,25 +8,27 @@ use Rattle.rules.specs.Text.{isText, every, run, equal, number, isSome}
 use Rattle.rules.specs.Dates.{exists}
 use Rattle.rules.specs.Accounts.{isBic}
 use Rattle.rules.specs.Register.{register}
-use Rattle.rules.specs.Engine.{Position, limit, earlier, slashed}
+use Rattle.rules.specs.Engine.{Position, limit, slashed}
 use Rattle.rules.specs.Area.{mark, untilZero}
 use Rattle.laws.specs.Parts.{cut}
-use Rattle.area.specs.Walk.{walk}
+use Rattle.area.specs.Walk.{walk, always}
 
 -- "unused room is zero"
 unfoldable pub isZero : ℕ → Bool
 isZero c = eqb c 0
+
+-- "at most 32", "at most 64 of them in all, outgoing number at most 32 + 18 × their count"
+unfoldable pub countsTest : ℕ → ℕ → ℕ → Bool
+countsTest count positions references = leb references 64 && (leb positions 32 && leb count (32 + 18 * references))
 
 -- mark, day, outgoing count, numbers of positions and references; the unused bytes
 unfoldable pub headerTest : List ℕ → Bool
 headerTest a =
     equal (cut a 0 2) mark
     && (exists (number (cut a 2 5))
-    && (leb (number (cut a 5 7)) (32 + 18 * number (cut a 8 9))
-    && (leb (number (cut a 7 8)) 32
-    && (leb (number (cut a 8 9)) 64
+    && (countsTest (number (cut a 5 7)) (number (cut a 7 8)) (number (cut a 8 9))
     && (every isZero (cut a 9 10)
-    && every isZero (cut a 12 16))))))
+    && every isZero (cut a 12 16))))
 
 -- ---- references
 
@@ -35,18 +37,18 @@ unfoldable pub textFits : List ℕ → Bool
 textFits cs = run isText 1 16 (untilZero cs) && (not (slashed (untilZero cs)) && every isZero (cut cs (length (untilZero cs)) 16))
 
 -- the record at a place
-unfoldable pub referenceTest : List ℕ → ℕ → ℕ → Bool
-referenceTest a k p = isBic (cut a p (p + 8)) && textFits (cut a (p + 8) (p + 24))
+unfoldable pub referenceTest : List ℕ → ℕ → Bool
+referenceTest a p = isBic (cut a p (p + 8)) && textFits (cut a (p + 8) (p + 8 + 16))
 
 -- it differs from a later one, and from all of those behind it
-unfoldable pub otherTest : List ℕ → ℕ → ℕ → ℕ → Bool
-otherTest a p k q = not (equal (cut a p (p + 24)) (cut a q (q + 24)))
+unfoldable pub otherTest : List ℕ → ℕ → ℕ → Bool
+otherTest a p q = not (equal (cut a p (p + 24)) (cut a q (q + 24)))
 
 unfoldable pub newTest : List ℕ → ℕ → ℕ → Bool
-newTest a k p = walk (otherTest a p) k (p + 24)
+newTest a k p = walk (always (otherTest a p)) k (p + 24)
 
 unfoldable pub referencesTest : List ℕ → ℕ → Bool
-referencesTest a n = walk (referenceTest a) n 16 && (walk (newTest a) n 16 && every isZero (cut a (16 + 24 * n) 1552))
+referencesTest a n = walk (always (referenceTest a)) n 16 && (walk (newTest a) n 16 && every isZero (cut a (16 + 24 * n) 1552))
 
 -- ---- positions
 
@@ -65,20 +67,24 @@ totalTest a i j = leb (number (cut a i j)) limit
 unfoldable pub dateTest : ℕ → ℕ → Bool
 dateTest day date = exists date && leb date day
 
-unfoldable pub positionTest : ℕ → List ℕ → ℕ → ℕ → Bool
-positionTest day a k p =
+unfoldable pub positionTest : ℕ → List ℕ → ℕ → Bool
+positionTest day a p =
     isBic (cut a p (p + 8))
     && (dateTest day (number (cut a (p + 8) (p + 11)))
     && (totalTest a (p + 11) (p + 17)
     && (totalTest a (p + 17) (p + 23)
     && every isZero (cut a (p + 23) (p + 24)))))
 
+-- bank and date before another bank and date
+unfoldable pub earlierBy : ℕ → ℕ → ℕ → ℕ → Bool
+earlierBy bank date other later = not (leb other bank) || (eqb bank other && not (leb later date))
+
 -- it stands before the next one
-unfoldable pub orderTest : List ℕ → ℕ → ℕ → Bool
-orderTest a k p = earlier (positionAt a p) (positionAt a (p + 24))
+unfoldable pub orderTest : List ℕ → ℕ → Bool
+orderTest a p = earlierBy (number (cut a p (p + 8))) (number (cut a (p + 8) (p + 11))) (number (cut a (p + 24) (p + 24 + 8))) (number (cut a (p + 24 + 8) (p + 24 + 11)))
 
 unfoldable pub positionsTest : ℕ → List ℕ → ℕ → Bool
-positionsTest day a n = walk (positionTest day a) n 1552 && (walk (orderTest a) (n - 1) 1552 && every isZero (cut a (1552 + 24 * n) 2320))
+positionsTest day a n = walk (always (positionTest day a)) n 1552 && (walk (always (orderTest a)) (n - 1) 1552 && every isZero (cut a (1552 + 24 * n) 2320))
 
 -- ---- texts
 

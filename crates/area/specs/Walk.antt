@@ -5,6 +5,10 @@ use Prim.Native.Nat.{ℕ, zero, suc, _+_, _-_, _*_, _≤_, _<_}
 use native.Mathlib.Omega.{arith}
 use lib.ListN.{length}
 
+-- a test of a place alone
+abbrev pub always : (ℕ → Bool) → ℕ → ℕ → Bool
+always f k p = f p
+
 -- k records from the place p on pass the test, which is handed how many follow, and the record's place
 unfoldable pub walk : (ℕ → ℕ → Bool) → ℕ → ℕ → Bool
 walk t zero p = true

@@ -1,0 +1,89 @@
+-- The ways on and out of the tests of an area: a law for each, with the facts as branches and calls hand them out. Assumes nothing.
+use mathlib.Core.Path.{_≡_, refl, sym, ap, _∙_}
+use mathlib.Core.Bool.{Bool, true, false, _&&_, not, cond}
+use mathlib.Core.List.{List}
+use Prim.Native.Nat.{ℕ, _+_, _-_, _≤_, _<_}
+use native.Mathlib.Omega.{arith}
+use lib.Dec.{leb}
+use lib.ListN.{take, drop}
+use borrow.Author.Tests.{le-leb, lt-leb, leb-true, eq-eqb, ne-eqb, not-true, not-false}
+use Rattle.rules.specs.Text.{number, isSome}
+use Rattle.rules.specs.Register.{register}
+use Rattle.laws.specs.Parts.{cut}
+use Rattle.laws.specs.Reading.{reading}
+use Rattle.laws.specs.Tests.{and-left, and-right, tests}
+use Rattle.area.specs.Walk.{walking}
+use Rattle.area.specs.Records.{cut-is}
+use Rattle.area.specs.Tests.{countsTest, headerTest, earlierBy}
+
+-- ---- a limit, and the tests behind it
+
+pub limit-held : (a b : ℕ) (r x : Bool) → a ≤ b → r ≡ x → r ≡ (leb a b && x)
+limit-held a b r x h e = rw (le-leb a b h) e
+
+pub limit-failed : (a b : ℕ) (x : Bool) → b < a → false ≡ (leb a b && x)
+limit-failed a b x h = rw (lt-leb a b h)
+
+-- ---- a call that answered t, and the tests behind it
+
+module _ (a b t : Bool) (u : t ≡ a) where
+  pub call-failed : not t ≡ true → false ≡ (a && b)
+  call-failed h = rw (← u, not-true t h)
+
+  pub call-passed : not t ≡ false → (r : Bool) → r ≡ b → r ≡ (a && b)
+  call-passed h r e = rw (← u, not-false t h) e
+
+  pub call-out : t ≡ false → false ≡ (a && b)
+  call-out h = rw (← u, h)
+
+  -- what must not hold
+  pub bar-met : t ≡ true → false ≡ (not a && b)
+  bar-met h = rw (← u, h)
+
+  pub bar-passed : t ≡ false → (r : Bool) → r ≡ b → r ≡ (not a && b)
+  bar-passed h r e = rw (← u, h) e
+
+-- ---- banks and dates compared
+
+module _ (b d o l : ℕ) where
+  pub earlier-bank : b < o → true ≡ earlierBy b d o l
+  unfolding earlierBy
+  earlier-bank h = rw (lt-leb o b h)
+
+  pub later-bank : o < b → false ≡ earlierBy b d o l
+  unfolding earlierBy
+  later-bank h = rw (le-leb o b (omega arith), ne-eqb b o (λ e. omega arith))
+
+  module _ (h : o ≤ b) (k : b ≤ o) where
+    pub earlier-date : d < l → true ≡ earlierBy b d o l
+    unfolding earlierBy
+    earlier-date m = rw (le-leb o b h, eq-eqb b o (omega arith), lt-leb l d m)
+
+    pub later-date : l ≤ d → false ≡ earlierBy b d o l
+    unfolding earlierBy
+    later-date m = rw (le-leb o b h, eq-eqb b o (omega arith), le-leb l d m)
+
+-- ---- the numbers of a header that passed
+
+module _ (a : List ℕ) (t : Bool) (u : t ≡ headerTest a) (h : not t ≡ false) where
+  counts : countsTest (number (cut a 5 7)) (number (cut a 7 8)) (number (cut a 8 9)) ≡ true
+  unfolding headerTest
+  counts = let k : headerTest a ≡ true = sym u ∙ not-false t h in search (and-left, and-right)
+
+  pub few-references : number (cut a 8 9) ≤ 64
+  unfolding countsTest
+  few-references = leb-true _ 64 (and-left _ _ counts)
+
+  pub few-positions : number (cut a 7 8) ≤ 32
+  unfolding countsTest
+  few-positions = leb-true _ 32 (and-left _ _ (and-right (leb (number (cut a 8 9)) 64) _ counts))
+
+-- the register that a part holds
+pub register-part : (s : List ℕ) (a e : ℕ) (r : Bool) → a ≤ e → r ≡ isSome (register (take (e - a) (drop a s))) → r ≡ isSome (register (cut s a e))
+register-part s a e r h k = let m : a + (e - a) ≡ e = omega arith in k ∙ ap (λ (x : List ℕ). isSome (register x)) (sym (cut-is s a (e - a)) ∙ ap (cut s a) m)
+
+pub ruleset comparing = (earlier-bank, later-bank, earlier-date, later-date)
+
+pub ruleset calling = (call-failed, call-passed, bar-met, bar-passed)
+
+pub ruleset limiting = (limit-held, limit-failed, call-failed, call-out, tests, walking, reading)

@@ -1,0 +1,107 @@
+// Numbers and zeros of an area, and its header.
+ghost use mathlib.Core.Path.{_≡_};
+ghost use mathlib.Core.Bool.{_&&_};
+ghost use Prim.Native.Nat.{_-_, _≤_};
+ghost use lib.ListN.{length};
+ghost use Rattle.rules.specs.Text.{every, equal, number};
+ghost use Rattle.rules.specs.Dates.{exists};
+ghost use Rattle.rules.specs.Area.{mark};
+ghost use Rattle.laws.specs.Parts.{cut};
+ghost use Rattle.area.specs.Tests.{isZero, countsTest, headerTest};
+
+// A number of at most 4 bytes.
+pub fn small_at(s: &[u8], a: usize, b: usize) -> u32
+    requires { ⌜ a ≤ b ⌝ }
+    requires { ⌜ b ≤ length (now s) ⌝ }
+    requires { ⌜ b - a ≤ 4 ⌝ }
+    ensures { λ r. ⌜ r ≡ number (cut (now (s .entry)) a b) ⌝ }
+{
+    text::read_be(s, a, b) as u32
+}
+
+// Is each byte from a up to b zero?
+pub fn zeros_hold(s: &[u8], a: usize, b: usize) -> bool
+    requires { ⌜ a ≤ b ⌝ }
+    requires { ⌜ b ≤ length (now s) ⌝ }
+    ensures { λ r. ⌜ r ≡ every isZero (cut (now (s .entry)) a b) ⌝ }
+{
+    let mut i = a;
+    while i < b {
+        let zero = s[i] == 0;
+        if zero {
+            i += 1;
+        } else {
+            return false;
+        }
+    }
+    true
+}
+
+// Are the outgoing count and the numbers of positions and references within their limits?
+fn counts_fit(count: u32, positions: u32, references: u32) -> bool
+    ensures { λ r. ⌜ r ≡ countsTest count positions references ⌝ }
+{
+    if references > 64 {
+        return false;
+    }
+    if positions > 32 {
+        return false;
+    }
+    count <= 32 + 18 * references
+}
+
+// Does the mark stand there?
+fn mark_stands(area: &[u8]) -> bool
+    requires { ⌜ 16 ≤ length (now area) ⌝ }
+    ensures { λ r. ⌜ r ≡ equal (cut (now (area .entry)) 0 2) mark ⌝ }
+{
+    text::equal_parts(area, 0, b"RC", 0, 2)
+}
+
+// Is the day of the header an existing date?
+fn day_exists(area: &[u8]) -> bool
+    requires { ⌜ 16 ≤ length (now area) ⌝ }
+    ensures { λ r. ⌜ r ≡ exists (number (cut (now (area .entry)) 2 5)) ⌝ }
+{
+    calendar::exists(small_at(area, 2, 5))
+}
+
+// Are the numbers of the header within their limits?
+fn counts_hold(area: &[u8]) -> bool
+    requires { ⌜ 16 ≤ length (now area) ⌝ }
+    ensures { λ r. ⌜ r ≡ countsTest (number (cut (now (area .entry)) 5 7)) (number (cut (now (area .entry)) 7 8)) (number (cut (now (area .entry)) 8 9)) ⌝ }
+{
+    counts_fit(
+        small_at(area, 5, 7),
+        small_at(area, 7, 8),
+        small_at(area, 8, 9),
+    )
+}
+
+// Are the unused bytes of the header zero?
+fn unused_zero(area: &[u8]) -> bool
+    requires { ⌜ 16 ≤ length (now area) ⌝ }
+    ensures { λ r. ⌜ r ≡ (every isZero (cut (now (area .entry)) 9 10) && every isZero (cut (now (area .entry)) 12 16)) ⌝ }
+{
+    if zeros_hold(area, 9, 10) {
+        return zeros_hold(area, 12, 16);
+    }
+    false
+}
+
+// Does the header pass?
+pub fn header_holds(area: &[u8]) -> bool
+    requires { ⌜ 16 ≤ length (now area) ⌝ }
+    ensures { λ r. ⌜ r ≡ headerTest (now (area .entry)) ⌝ }
+{
+    if !mark_stands(area) {
+        return false;
+    }
+    if !day_exists(area) {
+        return false;
+    }
+    if !counts_hold(area) {
+        return false;
+    }
+    unused_zero(area)
+}
