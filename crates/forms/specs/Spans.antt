@@ -37,6 +37,9 @@ pub record Within (s : List ℕ) (l : List Span) : Type 0 where
 pub within-at : (s : List ℕ) (l : List Span) (i : ℕ) → Within s l → SpanIn s (getD l i noSpan)
 within-at s l i w = w .span i
 
+pub within-order : (s : List ℕ) (l : List Span) (i : ℕ) → Within s l → getD l i noSpan .start ≤ getD l i noSpan .end
+within-order s l i w = w .span i .order
+
 pub within-none : (s : List ℕ) (n : ℕ) → Within s (replicate n noSpan)
 within-none s n = record { span = go n }
   where

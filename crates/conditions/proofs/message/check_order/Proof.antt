@@ -1,0 +1,46 @@
+-- `conditions::message::check_order` meets its contract: field 20's row, the details' form, a condition that holds, or the parts read. Assumes nothing.
+use Rattle.conditions.specs.Checks.{checking}
+use borrow.Author.Needs.{needs}
+use Rattle.conditions.proofs.message.check_order.Statement.{statement}
+use Rattle.conditions.proofs.message.check_order.Tie as tie
+
+read-rows-requires : tie.Need-read-rows-requires
+read-rows-requires c κs = search (checking, needs)
+
+element-copy-out-line : tie.Need-element-copy-out-line
+element-copy-out-line c = search (checking, needs)
+
+tally-details-requires : tie.Need-tally-details-requires
+tally-details-requires c κs = search (checking, needs)
+
+order-stop-requires : tie.Need-order-stop-requires
+order-stop-requires c κs = search (checking, needs)
+
+behind-requires : tie.Need-behind-requires
+behind-requires c κs = search (checking, needs)
+
+returns : tie.Need-returns
+returns c = search (checking, needs)
+
+returns-2 : tie.Need-returns-2
+returns-2 c = search (checking, needs)
+
+returns-3 : tie.Need-returns-3
+returns-3 c = search (checking, needs)
+
+returns-4 : tie.Need-returns-4
+returns-4 c = search (checking, needs)
+
+pub check-order-spec : {M : Type 1} → statement M
+check-order-spec =
+    tie.close
+    (tie.spec
+    read-rows-requires
+    element-copy-out-line
+    tally-details-requires
+    order-stop-requires
+    behind-requires
+    returns
+    returns-2
+    returns-3
+    returns-4)

@@ -1,0 +1,100 @@
+-- The conditions in their order, as the code asks them, and that they are document 01's.
+use mathlib.Core.Path.{_≡_, refl}
+use mathlib.Core.Bool.{Bool, true, false, _||_, not, cond}
+use mathlib.Core.List.{List, [], _∷_}
+use mathlib.Core.Option.{Option, some}
+use Prim.Native.Nat.{ℕ}
+use native.Mathlib.Omega.{arith}
+use lib.Dec.{leb, eqb}
+use lib.ListN.{length, getD, take, drop}
+use borrow.Author.Tests.{eq-eqb, ne-eqb}
+use Rattle.rules.specs.Text.{equal, isSome, any, twice}
+use Rattle.rules.specs.Lines.{sender}
+use Rattle.rules.specs.Engine.{slashed}
+use Rattle.rules.specs.Messages as M
+use Rattle.rules.specs.Messages.{Message, mt103, field20, account103, field21, currency32B, referenceOf, detailsOf}
+use Rattle.rules.specs.Calls.{Stop, stop, firstOf, holdsOf, badReference, badSum, badAmount, foreignPayer, badAccount, manyDates}
+use Rattle.forms.specs.Spans.{spanOf, noSpan, within-at, held-line}
+use Rattle.forms.specs.Details.{detailHeld}
+use Rattle.forms.specs.Transfers.{transferHeld}
+use Rattle.forms.specs.declared.rows.Span.{Span}
+use Rattle.forms.specs.declared.detail.Detail.{Detail}
+use Rattle.forms.specs.declared.transfer.Transfer.{Transfer}
+use Rattle.conditions.specs.Fields.{foreign}
+
+-- 3 to 8, of what was read of a message
+unfoldable pub formStops : List ℕ → Option Message → List Stop
+formStops temporary m =
+    stop 3 (not (isSome m))
+    ∷ stop 4 (holdsOf (λ m. not (leb (length (detailsOf m)) 16)) m)
+    ∷ stop 5 (holdsOf badReference m)
+    ∷ stop 6 (holdsOf badAmount m)
+    ∷ stop 7 (holdsOf (badAccount temporary) m)
+    ∷ stop 8 (holdsOf manyDates m)
+    ∷ []
+
+-- ---- a number picked by a test, as a call answered it
+
+module _ (b t : Bool) (x y r : ℕ) (u : t ≡ b) where
+  pub pick-held : t ≡ true → r ≡ x → r ≡ cond b x y
+  pick-held h e = rw (← u, h) e
+
+  pub pick-missed : t ≡ false → r ≡ y → r ≡ cond b x y
+  pick-missed h e = rw (← u, h) e
+
+module _ (a b x y r : ℕ) where
+  pub pick-apart : (a ≡ b → ⊥) → r ≡ x → r ≡ cond (not (eqb a b)) x y
+  pick-apart h e = rw (ne-eqb a b h) e
+
+  pub pick-alike : a ≡ b → r ≡ y → r ≡ cond (not (eqb a b)) x y
+  pick-alike h e = rw (eq-eqb a b h) e
+
+-- ---- a transfer
+
+-- a row's line
+abbrev lineIn : List ℕ → List Span → ℕ → List ℕ
+lineIn s l k = spanOf s (getD l k noSpan)
+
+-- 5, 6 and 7 of a transfer
+abbrev pub transferStop : List ℕ → List ℕ → Transfer → ℕ
+transferStop s temporary t =
+    cond (slashed (drop 4 (lineIn s (t .spans) 0))) 5
+    (cond (badSum (take 3 (drop 11 (lineIn s (t .spans) 2))) (t .amount)) 6
+    (cond (equal (drop 5 (lineIn s (t .spans) 11)) temporary) 0 7))
+
+or-nothing : (b : Bool) → (b || false || false) ≡ b
+or-nothing true = refl
+or-nothing false = refl
+
+not-picks : (b : Bool) → cond {A = ℕ} (not b) 7 0 ≡ cond b 0 7
+not-picks true = refl
+not-picks false = refl
+
+-- they are the message's: it has no details
+pub transfer-stops : (s temporary : List ℕ) (t : Transfer) → transferStop s temporary t ≡ firstOf (formStops temporary (some (mt103 (transferHeld s t))))
+unfolding formStops firstOf holdsOf badReference badAmount badAccount manyDates referenceOf detailsOf any twice
+transfer-stops s temporary t =
+    rw (or-nothing (slashed (field20 (transferHeld s t .rows))), not-picks (equal (account103 (transferHeld s t .rows)) temporary), held-line s (t .spans) 23 0 (omega arith), held-line s (t .spans) 23 2 (omega arith), held-line s (t .spans) 23 11 (omega arith))
+
+-- ---- a detail
+
+-- 5 to 8 of one detail of a bank, day being the date of the first; 9 where none holds
+unfoldable pub lowest : List ℕ → ℕ → M.Detail → ℕ
+lowest bank day d =
+    cond (slashed (field21 d)) 5
+    (cond (badSum (currency32B d) (d .amount)) 6
+    (cond (foreignPayer bank d) 7
+    (cond (not (eqb (d .date) day)) 8 9)))
+
+abbrev pub detailStop : List ℕ → ℕ → Detail → ℕ
+detailStop s day d =
+    cond (slashed (drop 4 (lineIn s (d .spans) 0))) 5
+    (cond (badSum (take 3 (drop 5 (lineIn s (d .spans) 1))) (d .amount)) 6
+    (cond (foreign (sender s) (lineIn s (d .spans) 2)) 7
+    (cond (not (eqb (d .date) day)) 8 9)))
+
+pub detail-lowest : (s : List ℕ) (day : ℕ) (d : Detail) → detailStop s day d ≡ lowest (sender s) day (detailHeld s d)
+unfolding lowest foreign foreignPayer
+detail-lowest s day d = rw (held-line s (d .spans) 17 0 (omega arith), held-line s (d .spans) 17 1 (omega arith), held-line s (d .spans) 17 2 (omega arith))
+
+pub ruleset stopping = (within-at, pick-held, pick-missed, pick-apart, pick-alike)

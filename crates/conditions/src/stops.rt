@@ -1,0 +1,47 @@
+// The lowest condition that a transfer breaks, and that one detail breaks.
+use crate::fields::bad_sum;
+use crate::fields::is_foreign;
+use crate::fields::is_same;
+use crate::fields::slashed_behind;
+use forms::Detail;
+use forms::Transfer;
+ghost use mathlib.Core.Path.{_≡_};
+ghost use Rattle.forms.specs.Spans.{Within};
+ghost use Rattle.conditions.specs.Stops.{transferStop, detailStop};
+
+// Of a transfer: 5, 6 or 7; 0 where none holds.
+pub fn transfer_stop(s: &[u8], temporary: &[u8], t: Transfer) -> u32
+    requires { ⌜ Within (now s) (t .spans) ⌝ }
+    ensures { λ r. ⌜ r ≡ transferStop (now (s .entry)) (now (temporary .entry)) t ⌝ }
+{
+    if slashed_behind(s, t.spans[0], 4) {
+        return 5;
+    }
+    if bad_sum(s, t.spans[2], 11, t.amount) {
+        return 6;
+    }
+    if is_same(s, t.spans[11], 5, temporary) {
+        return 0;
+    }
+    7
+}
+
+// Of one detail, day being the date of the first: 5, 6, 7 or 8; 9 where none holds.
+pub fn detail_stop(s: &[u8], d: Detail, day: u64) -> u32
+    requires { ⌜ Within (now s) (d .spans) ⌝ }
+    ensures { λ r. ⌜ r ≡ detailStop (now (s .entry)) day d ⌝ }
+{
+    if slashed_behind(s, d.spans[0], 4) {
+        return 5;
+    }
+    if bad_sum(s, d.spans[1], 5, d.amount) {
+        return 6;
+    }
+    if is_foreign(s, d.spans[2]) {
+        return 7;
+    }
+    if d.date != day {
+        return 8;
+    }
+    9
+}

@@ -1,0 +1,101 @@
+// The details of an MT101, judged one by one up to the closing line.
+use crate::stops::detail_stop;
+use forms::Detail;
+use forms::read_detail;
+use lines::closes_at;
+ghost use mathlib.Core.Path.{_≡_};
+ghost use Prim.Native.Nat.{_*_, _<_, _≤_, min};
+ghost use lib.ListN.{length};
+ghost use Rattle.forms.specs.Spans.{Within};
+ghost use Rattle.conditions.specs.Tally.{Raised, dayOf, After, TallyAt};
+
+// How many details there are, the sum of the first 16, the first one's date, and the lowest of 5 to 8 that one of them breaks, or 9.
+pub struct Tally {
+    pub ok: bool,
+    pub count: usize,
+    pub sum: u64,
+    pub date: u64,
+    pub low: u32,
+}
+
+// The sum with the amount of one more detail, n being before it: there are not to be more than 16.
+fn raised(n: usize, sum: u64, amount: u64) -> u64
+    requires { ⌜ sum ≤ n * 10000000000000000 ⌝ }
+    requires { ⌜ amount < 10000000000000000 ⌝ }
+    ensures { λ r. ⌜ Raised n sum amount r ⌝ }
+{
+    if n < 16 {
+        return sum + amount;
+    }
+    sum
+}
+
+// The date of the first detail, n being before this one.
+fn day_of(n: usize, day: u64, date: u64) -> u64
+    ensures { λ r. ⌜ r ≡ dayOf n day date ⌝ }
+{
+    if n == 0 {
+        return date;
+    }
+    day
+}
+
+// The lower of two numbers.
+fn least(a: u32, b: u32) -> u32
+    ensures { λ r. ⌜ r ≡ min a b ⌝ }
+{
+    if a < b {
+        return a;
+    }
+    b
+}
+
+// The tally with one more detail.
+fn after(s: &[u8], t: Tally, d: Detail) -> Tally
+    requires { ⌜ Within (now s) (d .spans) ⌝ }
+    requires { ⌜ t .count < 4096 ⌝ }
+    requires { ⌜ t .sum ≤ t .count * 10000000000000000 ⌝ }
+    requires { ⌜ d .amount < 10000000000000000 ⌝ }
+    ensures { λ r. ⌜ After (now (s .entry)) t d r ⌝ }
+{
+    let date = day_of(t.count, t.date, d.date);
+    let sum = raised(t.count, t.sum, d.amount);
+    let low = least(t.low, detail_stop(s, d, date));
+    Tally {
+        ok: true,
+        count: t.count + 1,
+        sum,
+        date,
+        low,
+    }
+}
+
+// The tally of all details from `at` up to the closing line.
+pub fn tally_details(s: &[u8], at: usize) -> Tally
+    requires { ⌜ at ≤ length (now s) ⌝ }
+    requires { ⌜ length (now s) ≤ 4096 ⌝ }
+    ensures { λ r. ⌜ TallyAt (now (s .entry)) at r ⌝ }
+{
+    let none = Tally {
+        ok: false,
+        count: 0,
+        sum: 0,
+        date: 0,
+        low: 9,
+    };
+    let mut t = none;
+    let mut pos = at;
+    while t.count < 4096 {
+        let d = read_detail(s, pos);
+        if d.ok {
+            t = after(s, t, d);
+            pos = d.next;
+            if closes_at(s, pos) {
+                return t;
+            }
+        } else {
+            return none;
+        }
+    }
+    none
+}
