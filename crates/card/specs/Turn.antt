@@ -12,7 +12,15 @@ use Rattle.rules.specs.Text.{isSome, over}
 use Rattle.rules.specs.Dates.{exists}
 use Rattle.rules.specs.Engine.{Engine}
 use Rattle.rules.specs.Calls.{firstOf, turnStops, turnText, refunded, collected, afterTurn, turnCall, acceptedTurn, refused}
-use Rattle.rules.specs.Area.{cardTurn, onAreas, stored, encode, holds}
+use Rattle.rules.specs.Area.{cardTurn, onAreas, stored, encode, decode, holds}
+use Rattle.laws.specs.Tests.{held-told}
+use Rattle.laws.specs.Writing.{Wrote, wrote-over, furthest}
+use Rattle.outgoing.specs.Sums.{Totals}
+use Rattle.outgoing.specs.declared.sums.Sums.{Sums}
+use Rattle.steps.specs.Turning.{turned, turned-after}
+use Rattle.steps.specs.Numbers.{NumbersOf}
+use Rattle.steps.specs.declared.parts.Numbers.{Numbers}
+use Rattle.card.specs.Held.{held-decode, wrote-exact, Measured, measured, size-long, size-fits}
 use Rattle.card.specs.Answers.{Answers}
 
 module _ (day : ℕ) (area out : List ℕ) where
@@ -51,3 +59,51 @@ module _ (day : ℕ) (area out : List ℕ) where
         → Answers (cardTurn day area out) 0 n z area' out'
     unfolding onAreas acceptedTurn stored
     turn-accepted d l w p q a o = rw (accepted d l w) record { number = refl; written = p; difference = q; area = a; output = o }
+
+-- ---- as the code goes: the engine is what is read off the area
+
+-- a turn that is made: bytes, difference, area and output
+pub record Turned (day : ℕ) (a out : List ℕ) (n : ℕ) (z : ℤ) (a' out' : List ℕ) : Type 0 where
+  pub written : n ≡ length (turnText (decode a) day)
+  pub difference : z ≡ subℕ (refunded (decode a .positions)) (collected (decode a .positions))
+  pub area : a' ≡ encode (afterTurn (decode a) day) ++ drop 6144 a
+  pub output : out' ≡ over (turnText (decode a) day) out
+
+-- its text written, its sums, and the area turned
+pub turned-done : (day : ℕ) {a out out' a' : List ℕ} {r : ℕ} {z : ℤ} (x : Sums) → length (turnText (decode a) day) ≤ length out → Wrote (turnText (decode a) day) 0 out r out'
+    → Totals (decode a .positions) x → z ≡ subℕ (x .refunded) (x .collected) → a' ≡ encode (turned (decode a) day (x .count)) ++ drop 6144 a → Turned day a out r z a' out'
+turned-done day {a} x l w t d c = record {
+  written = wrote-exact w l;
+  difference = d ∙ rw (t .refunded, t .collected) refl;
+  area = c ∙ rw (t .count, turned-after (decode a) day) refl;
+  output = wrote-over w l;
+}
+
+module _ (day : ℕ) (area out : List ℕ) (h : isSome (holds area) ≡ true) where
+  engine : holds area ≡ some (decode area)
+  engine = held-decode area h
+
+  module _ (t : Bool) (u : t ≡ exists day) where
+    pub turn-refused-day : t ≡ false → Answers (cardTurn day area out) 3 0 (pos 0) area out
+    turn-refused-day d = turn-day day area out (decode area) engine (sym u ∙ d)
+
+    module _ (d : t ≡ true) (x : Numbers) (n : NumbersOf area x) where
+      pub turn-refused-early : day ≤ x .day → Answers (cardTurn day area out) 11 0 (pos 0) area out
+      turn-refused-early l = turn-early day area out (decode area) engine (sym u ∙ d) (rw (n .day) at l)
+
+      module _ (l : x .day < day) {r : ℕ} (w : Measured (turnText (decode area) day) r) where
+        later : decode area .day < day
+        later = rw (n .day) at l
+
+        pub turn-refused-room : length out < r → Answers (cardTurn day area out) 16 0 (pos 0) area out
+        turn-refused-room k = turn-room day area out (decode area) engine (sym u ∙ d) later (size-long w (length out) k)
+
+        pub turn-fits : r ≤ length out → length out < furthest → length (turnText (decode area) day) ≤ length out
+        turn-fits k m = size-fits w (length out) k m
+
+        pub turn-made : {n₁ : ℕ} {z : ℤ} {area' out' : List ℕ} → r ≤ length out → length out < furthest → Turned day area out n₁ z area' out'
+            → Answers (cardTurn day area out) 0 n₁ z area' out'
+        turn-made k m c =
+            turn-accepted day area out (decode area) engine (sym u ∙ d) later (turn-fits k m) (c .written) (c .difference) (c .area) (c .output)
+
+pub ruleset turning = (held-told, measured, turned-done, turn-refused-day, turn-refused-early, turn-refused-room, turn-fits, turn-made)

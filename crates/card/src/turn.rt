@@ -1,0 +1,68 @@
+// The turn.
+use crate::difference::minus;
+ghost use mathlib.Core.Path.{_≡_};
+ghost use mathlib.Core.Bool.{true};
+ghost use Prim.Native.Nat.{_≤_};
+ghost use lib.IntN.{pos};
+ghost use lib.ListN.{length};
+ghost use Rattle.rules.specs.Text.{isSome};
+ghost use Rattle.rules.specs.Calls.{turnText};
+ghost use Rattle.rules.specs.Area.{holds, decode, cardTurn};
+ghost use Rattle.card.specs.Answers.{Answers};
+ghost use Rattle.card.specs.Turn.{Turned};
+ghost use Rattle.card.specs.Held.{Measured};
+
+// A turn that no condition stops: its text is written, its difference told, and the area turned.
+fn accept_turn(
+    day: u32,
+    area: &mut [u8],
+    output: &mut [u8],
+    written: &mut usize,
+    difference: &mut i64,
+)
+    requires { ⌜ isSome (holds (now area)) ≡ true ⌝ }
+    requires { ⌜ length (turnText (decode (now area)) day) ≤ length (now output) ⌝ }
+    ensures { λ _. ⌜ Turned day (now (area .entry)) (now (output .entry)) (now (written .exit)) (now (difference .exit)) (now (area .exit)) (now (output .exit)) ⌝ }
+{
+    *written = outgoing::put_turn_text(output, 0, day, area);
+    let sums = outgoing::turn_sums(area);
+    *difference = minus(sums.refunded, sums.collected);
+    steps::turn_area(area, day, sums.count);
+}
+
+// How many bytes the turn writes.
+fn turn_size(day: u32, area: &[u8]) -> usize
+    requires { ⌜ isSome (holds (now area)) ≡ true ⌝ }
+    ensures { λ r. ⌜ Measured (turnText (decode (now (area .entry))) day) r ⌝ }
+{
+    let mut nothing = [0u8; 0];
+    outgoing::put_turn_text(&mut nothing, 0, day, area)
+}
+
+// The turn of an area that holds an engine.
+pub fn turn_engine(
+    day: u32,
+    area: &mut [u8],
+    output: &mut [u8],
+    written: &mut usize,
+    difference: &mut i64,
+) -> u32
+    requires { ⌜ isSome (holds (now area)) ≡ true ⌝ }
+    ensures { λ r. ⌜ Answers (cardTurn day (now (area .entry)) (now (output .entry))) r (now (written .exit)) (now (difference .exit)) (now (area .exit)) (now (output .exit)) ⌝ }
+{
+    *written = 0;
+    *difference = 0;
+    if calendar::exists(day) {
+        let x = steps::numbers_of(area);
+        if day as u64 <= x.day {
+            return 11;
+        }
+        let size = turn_size(day, area);
+        if output.len() < size {
+            return 16;
+        }
+        accept_turn(day, area, output, written, difference);
+        return 0;
+    }
+    3
+}
