@@ -131,6 +131,17 @@ module _ {A : Type 0} (f : List ℕ → Bool) (write : A → List ℕ) (reads : 
         zero = rw j at (stands-zeros room (joined (map write xs)) t (omega arith));
       }
 
+-- the header says how long the register is
+pub text-number : (a : List ℕ) (e : Engine) → Held a e → numberAt a 10 2 ≡ length (e .register)
+unfolding header whole
+text-number a e h =
+    let rest : List ℕ = referencePart (e .references) ++ (positionPart (e .positions) ++ (textPart (e .register) ++ drop 6144 a)) in
+    let short : length (e .register) ≤ 1544 = register-length (e .register) (limits e (h .good) .register) in
+    ap number
+    (ap (λ (x : List ℕ). take 2 (drop 10 x)) (held-sections a e h .whole)
+    ∙ register-part mark refl (e .day) (e .count) (length (e .positions)) (length (e .references)) 0 (length (e .register)) 0 rest)
+    ∙ number-bytes 2 (length (e .register)) (omega arith)
+
 module _ (a : List ℕ) (b : Bytes a) (e : Engine) (h : Held a e) where
   l : Limits e
   l = limits e (h .good)
@@ -197,13 +208,10 @@ module _ (a : List ℕ) (b : Bytes a) (e : Engine) (h : Held a e) where
       rw (n, d, positions-walk, c .pass, order-walk, positions-at, l .order) (c .zero)
 
   text-passes : textTest a (number (cut a 10 12)) ≡ true
-  unfolding textTest textPart header whole
+  unfolding textTest textPart
   text-passes =
-      let rest : List ℕ = referencePart (e .references) ++ (positionPart (e .positions) ++ (textPart (e .register) ++ drop 6144 a)) in
       let short : length (e .register) ≤ 1544 = register-length (e .register) (l .register) in
-      let m : numberAt a 10 2 ≡ length (e .register) =
-      ap number (ap (λ (x : List ℕ). take 2 (drop 10 x)) (s .whole) ∙ register-part mark refl (e .day) (e .count) (length (e .positions)) (length (e .references)) 0 (length (e .register)) 0 rest)
-      ∙ number-bytes 2 (length (e .register)) (omega arith) in
+      let m : numberAt a 10 2 ≡ length (e .register) = text-number a e h in
       let n : number (cut a 10 12) ≡ length (e .register) = ap number (cut-is a 10 2) ∙ m in
       let t : cut a 2320 (2320 + length (e .register)) ≡ e .register = cut-is a 2320 (length (e .register)) ∙ ap (λ (x : ℕ). take x (drop 2320 a)) (sym m) ∙ text-at in
       rw (n, le-leb _ _ short, t, l .register) (stands-zeros 3824 (e .register) (text-stands s) (omega arith))

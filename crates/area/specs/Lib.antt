@@ -15,5 +15,6 @@ pub mod Records
 pub mod Checked
 pub mod Sections
 pub mod Holding
+pub mod Decoded
 pub mod Texts
 pub mod Ways

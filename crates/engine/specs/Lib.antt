@@ -1,3 +1,4 @@
 pub mod Positions
 pub mod Find
 pub mod References
+pub mod Held
