@@ -32,5 +32,3 @@ pub fn position_at(area: &[u8], p: usize) -> Position
         detailed,
     }
 }
-
-// Does a turn correct it: has it details, and do its totals differ?

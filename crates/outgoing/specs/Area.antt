@@ -19,7 +19,7 @@ use Rattle.area.specs.Limits.{limits, Limits}
 use Rattle.area.specs.Held.{held}
 use Rattle.register.specs.Places.{place, count}
 use Rattle.register.specs.Passed.{temporary-at, text-size}
-use Rattle.outgoing.specs.Positions.{positionsAt, positions-are}
+use Rattle.engine.specs.Positions.{valuesAt, positionsAt, values-are}
 
 -- a byte as a number
 pub byte-at : (area : List ℕ) (i : ℕ) → i < length area → numberAt area i 1 ≡ getD area i 0
@@ -27,7 +27,7 @@ unfolding numberFrom
 byte-at area i h = rw (drop-cons area i 0 h) (omega arith)
 
 positions-length : (area : List ℕ) (p k : ℕ) → length (positionsAt area p k) ≡ k
-unfolding positionsAt
+unfolding valuesAt
 positions-length area p zero = refl
 positions-length area p (suc k) = ap suc (positions-length area (p + 24) k)
 
@@ -50,7 +50,7 @@ module _ (area : List ℕ) (h : isSome (holds area) ≡ true) where
 
   positions : decode area .positions ≡ positionsAt area 1552 (getD area 7 0)
   unfolding decode
-  positions = rw (byte-at area 7 (omega (arith, standing-long)), positions-are)
+  positions = rw (byte-at area 7 (omega (arith, standing-long)), values-are)
 
   -- the register's text starts with the temporary account
   text-first : (n : ℕ) (cs : List ℕ) → isSome (register (take n cs)) ≡ true → registerOf (take n cs) .temporary ≡ take 22 cs

@@ -1,4 +1,5 @@
-pub mod Positions
 pub mod Turn
 pub mod Area
 pub mod Sums
+pub mod Details
+pub mod Postings

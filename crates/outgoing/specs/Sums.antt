@@ -9,11 +9,11 @@ use borrow.Author.Tests.{le-leb, eq-eqb, ne-eqb}
 use Rattle.rules.specs.Engine.{Position, hasDetails}
 use Rattle.rules.specs.Written.{corrected, correctedCount}
 use Rattle.rules.specs.Calls.{refunded, collected}
-use Rattle.rules.specs.Area.{decode}
+use Rattle.rules.specs.Area.{positionIn, decode}
 use Rattle.written.specs.Values.{positionOf}
 use Rattle.written.specs.declared.Position as W
 use Rattle.outgoing.specs.declared.sums.Sums.{Sums}
-use Rattle.outgoing.specs.Positions.{positionsAt, positions-next, positions-none, PositionAt}
+use Rattle.engine.specs.Positions.{positionsAt, values-next, values-none, PositionAt}
 use Rattle.outgoing.specs.Area.{Standing}
 
 -- what a position adds
@@ -153,7 +153,7 @@ module _ (area : List ℕ) (p k n : ℕ) (s : Sums) (l : SumsLeft area p k n s) 
   sums-more h {q} a {r} d =
       let x : Position = positionOf q in
       let xs : List Position = positionsAt area (p + 24) (k - 1) in
-      let e : positionsAt area p k ≡ x ∷ xs = positions-next area p k h ∙ rw (a .value) in
+      let e : positionsAt area p k ≡ x ∷ xs = values-next positionIn area p k h ∙ rw (a .value) in
       record {
         place = omega (arith, l .place);
         refunded = omega (arith, l .refunded, ap refunded e, refunded-first x xs, d .refunded);
@@ -167,7 +167,7 @@ module _ (area : List ℕ) (p k n : ℕ) (s : Sums) (l : SumsLeft area p k n s) 
   pub sums-end : k ≤ 0 → n ≤ 32 → Totals (positionsAt area 1552 n) s
   unfolding refunded collected correctedCount
   sums-end h m =
-      let e : positionsAt area p k ≡ [] = positions-none area p k h in
+      let e : positionsAt area p k ≡ [] = values-none positionIn area p k h in
       record {
         refunded = omega (arith, l .refunded, ap refunded e);
         collected = omega (arith, l .collected, ap collected e);

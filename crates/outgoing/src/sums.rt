@@ -1,6 +1,6 @@
 // What a turn refunds and collects, and how many positions it corrects.
-use crate::positions::position_at;
 use crate::positions::position_count;
+use engine::position_at;
 use written::Position;
 ghost use mathlib.Core.Path.{_≡_};
 ghost use mathlib.Core.Bool.{true};
@@ -9,7 +9,7 @@ ghost use lib.ListN.{length};
 ghost use Rattle.rules.specs.Text.{isSome};
 ghost use Rattle.rules.specs.Area.{decode, holds};
 ghost use Rattle.written.specs.Values.{positionOf};
-ghost use Rattle.outgoing.specs.Positions.{positionsAt};
+ghost use Rattle.engine.specs.Positions.{positionsAt};
 ghost use Rattle.outgoing.specs.Sums.{Adds, Totals};
 
 // The sum refunded, the sum collected, and the number of corrections.

@@ -1,7 +1,8 @@
 // The text of a turn: posting lines, then messages, for the positions that it corrects.
 use crate::positions::is_corrected;
-use crate::positions::position_at;
 use crate::positions::position_count;
+use engine::position_at;
+use outgoing_number::next_number;
 use written::put_correction;
 use written::put_correction_posting;
 ghost use mathlib.Core.Path.{_≡_};
@@ -13,7 +14,7 @@ ghost use Rattle.rules.specs.Written.{correctionPostings, corrections};
 ghost use Rattle.rules.specs.Calls.{turnText};
 ghost use Rattle.rules.specs.Area.{decode, holds};
 ghost use Rattle.laws.specs.Writing.{Wrote};
-ghost use Rattle.outgoing.specs.Positions.{positionsAt};
+ghost use Rattle.engine.specs.Positions.{positionsAt};
 
 // The posting lines of the n positions, in their order.
 fn put_correction_postings(
@@ -44,7 +45,7 @@ fn put_correction_postings(
     o
 }
 
-// The messages of the n positions, numbered from 1.
+// The messages of the n positions, each by the next number of the day.
 fn put_corrections(
     out: &mut [u8],
     at: usize,
@@ -64,7 +65,7 @@ fn put_corrections(
     while k > 0 {
         let q = position_at(area, p);
         if is_corrected(q) {
-            number += 1;
+            number = next_number(day, number);
             o = put_correction(out, o, day, temporary, number, q);
             p += 24;
             k -= 1;

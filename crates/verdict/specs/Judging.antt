@@ -136,7 +136,7 @@ code-missing s a b k e x = rw (cut-drop s a b 22, cut-done s (a + 22) b (omega a
 
 -- ---- the search
 
-found-below : (iban : List ℕ) (n : ℕ) (xs : List Account) (i : ℕ) → found iban n xs ≡ some i → i < n + length xs
+pub found-below : (iban : List ℕ) (n : ℕ) (xs : List Account) (i : ℕ) → found iban n xs ≡ some i → i < n + length xs
 unfolding found
 found-below iban n [] i h = absurd (let z : _≡_ {A = ℕ} 0 1 = cc in omega arith)
 found-below iban n (x ∷ xs) i h = go (equal (x .iban) iban) h (found-below iban (n + 1) xs i)

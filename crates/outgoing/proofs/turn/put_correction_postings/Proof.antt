@@ -6,7 +6,7 @@ use borrow.Author.Needs.{needs}
 use Rattle.rules.specs.Written.{correctionPostings}
 use Rattle.laws.specs.Pieces.{left-all}
 use Rattle.laws.specs.Writing.{Left}
-use Rattle.outgoing.specs.Positions.{positionsAt}
+use Rattle.engine.specs.Positions.{positionsAt}
 use Rattle.outgoing.specs.Turn.{turning}
 use Rattle.outgoing.proofs.turn.put_correction_postings.Statement.{statement}
 use Rattle.outgoing.proofs.turn.put_correction_postings.Tie as tie

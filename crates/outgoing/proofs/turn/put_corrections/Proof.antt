@@ -6,7 +6,7 @@ use borrow.Author.Needs.{needs}
 use Rattle.rules.specs.Written.{corrections}
 use Rattle.laws.specs.Pieces.{left-all}
 use Rattle.laws.specs.Writing.{Left}
-use Rattle.outgoing.specs.Positions.{positionsAt}
+use Rattle.engine.specs.Positions.{positionsAt}
 use Rattle.outgoing.specs.Turn.{turning}
 use Rattle.outgoing.proofs.turn.put_corrections.Statement.{statement}
 use Rattle.outgoing.proofs.turn.put_corrections.Tie as tie
@@ -26,8 +26,8 @@ position-at-requires c κs = search (turning, needs)
 is-corrected-requires : tie.Need-is-corrected-requires Inv-loop μ-loop
 is-corrected-requires c κs = search (turning, needs)
 
-add-number : tie.Need-add-number Inv-loop μ-loop
-add-number c = search (turning, needs)
+next-number-requires : tie.Need-next-number-requires Inv-loop μ-loop
+next-number-requires c κs = search (turning, needs)
 
 put-correction-requires : tie.Need-put-correction-requires Inv-loop μ-loop
 put-correction-requires c κs = search (turning, needs)
@@ -71,7 +71,7 @@ put-corrections-spec =
     loop-holds
     position-at-requires
     is-corrected-requires
-    add-number
+    next-number-requires
     put-correction-requires
     add-p
     sub-k
