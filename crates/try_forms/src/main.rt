@@ -1,0 +1,117 @@
+// Reads messages and writes a line for each: `@NAME` and a line end, then the message's bytes up to the next `@`. What is written is the name and the lowest number of 1 to 8
+// that stops the message; or 0 and its parts: field 20, date and amount, or field 20, date, sum and then field 21's line and the amount of each detail.
+use conditions::Checked;
+use forms::Span;
+ghost use Prim.Native.Nat.{_≤_};
+ghost use lib.ListN.{length};
+ghost use Rattle.try_forms.specs.Places.{Reached};
+
+// The next place with the byte c, or the end.
+fn reach(s: &[u8], at: usize, c: u8) -> usize
+    requires { ⌜ at ≤ length (now s) ⌝ }
+    ensures { λ r. ⌜ Reached (now (s .entry)) at r ⌝ }
+{
+    let mut i = at;
+    while i < s.len() {
+        if s[i] == c {
+            return i;
+        }
+        i += 1;
+    }
+    i
+}
+
+// A number.
+fn say_number(v: u64) {
+    io::write_all(1, b" ");
+    io::print_decimal(1, v);
+}
+
+// A part of the message.
+fn say_part(s: &[u8], p: Span) {
+    let a = p.start as usize;
+    let e = p.end as usize;
+    if a <= e {
+        if e <= s.len() {
+            io::write_all(1, b" ");
+            io::write_all(1, &s[a..e]);
+        }
+    }
+}
+
+// The details, from first on.
+fn say_details(s: &[u8], first: usize, count: usize) {
+    let mut at = first;
+    let mut i: usize = 0;
+    while i < count {
+        if s.len() < at {
+            return;
+        }
+        if 4096 < s.len() {
+            return;
+        }
+        let d = forms::read_detail(s, at);
+        say_part(s, d.spans[0]);
+        say_number(d.amount);
+        at = d.next;
+        i += 1;
+    }
+}
+
+// The answer of the check.
+fn say_checked(s: &[u8], r: Checked) {
+    match r {
+        Checked::Refused(k) => {
+            say_number(k as u64);
+        }
+        Checked::Transfer(p) => {
+            say_number(0);
+            say_part(s, p.reference);
+            say_number(p.date);
+            say_number(p.amount);
+        }
+        Checked::Order(p) => {
+            say_number(0);
+            say_part(s, p.reference);
+            say_number(p.date);
+            say_number(p.sum);
+            say_details(s, p.first, p.count);
+        }
+    }
+}
+
+// A message to the card whose temporary account is BG80BNBG96611020345678.
+fn try_message(s: &[u8]) {
+    say_checked(s, conditions::check_message(s, b"BG80BNBG96611020345678"));
+    io::write_all(1, b"\n");
+}
+
+// Each message of the input.
+fn try_each(s: &[u8]) {
+    let mut i: usize = 0;
+    while i < s.len() {
+        let e = reach(s, i, b'\n');
+        if s.len() <= e {
+            return;
+        }
+        if e == i {
+            return;
+        }
+        io::write_all(1, &s[i + 1..e]);
+        let a = e + 1;
+        let b = reach(s, a, b'@');
+        try_message(&s[a..b]);
+        i = b;
+    }
+}
+
+// All of the input, by way of a buffer.
+fn try_all(buffer: &mut [u8]) {
+    let n = io::read_full(0, buffer);
+    try_each(&buffer[..n]);
+}
+
+fn main() {
+    let mut space = io::large_buffer();
+    try_all(&mut space);
+}
