@@ -92,7 +92,10 @@ def scan(function, functions):
             depth[k] = now
             address, word, rest = function.code[k]
             aim = target(rest)
-            if word in ("bl", "blx"):
+            if word == "bl" and aim and place.get(aim[0], 0) > 0:
+                todo.append((place[aim[0]], now))  # a jump too far for a branch
+                break
+            elif word in ("bl", "blx"):
                 if aim is None:
                     raise SystemExit("frames: %s calls through a register" % function.name)
                 call(aim[1], now)
