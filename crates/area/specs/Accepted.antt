@@ -1,25 +1,25 @@
 -- What a message that 1 to 8 let pass has: the sender is a bank, field 20 a reference, and its date exists. Assumes nothing.
 use mathlib.Core.Path.{_≡_, refl, sym, ap, _∙_}
-use mathlib.Core.Bool.{Bool, true, false, _&&_, _||_, not, cond}
+use mathlib.Core.Bool.{Bool, true, false, _&&_, cond}
 use mathlib.Core.List.{List, [], _∷_, _++_}
 use mathlib.Core.Option.{Option, none, some, Option·map}
-use Prim.Native.Nat.{ℕ, zero, suc, _+_, _-_, _^_, _≤_, _<_}
+use Prim.Native.Nat.{ℕ, zero, suc, _+_, _^_, _≤_, _<_}
 use native.Mathlib.Omega.{arith}
 use lib.Dec.{leb, eqb, lit≤}
-use lib.ListN.{length, getD, take, drop}
+use lib.ListN.{length, take, drop}
 use lib.Seq.{take-take}
 use borrow.Author.Tests.{le-leb}
-use Rattle.rules.specs.Text.{ascii, digits, isText, run, equal, fits, fitsSign, number, bytes, then, given}
+use Rattle.rules.specs.Text.{ascii, digits, isText, run, equal, fits, fitsSign, number, then, given}
 use Rattle.rules.specs.Dates.{exists, date}
 use Rattle.rules.specs.Amounts.{amount}
 use Rattle.rules.specs.Accounts.{isBic}
-use Rattle.rules.specs.Lines.{Line, Taken, line, opening, closing, lines, inLines, framed, type, sender, body}
-use Rattle.rules.specs.Forms.{Row, Rowed, Rest, reference, fitsRest, fitsRow, leadRows, rowed, transferRows, orderRows, detailRows}
-use Rattle.rules.specs.Messages.{Message, mt103, mt101, Transfer, Detail, Detailed, Order, lineOf, transferOf, detailOf, detailed, details, readTransfer, readOrder, read, senderOf, referenceOf, detailsOf, firstDate, dateOf}
+use Rattle.rules.specs.Lines.{Line, line, opening, closing, lines, inLines, framed, type, sender, body}
+use Rattle.rules.specs.Forms.{Row, Rowed, reference, fitsRest, fitsRow, leadRows, rowed, transferRows, orderRows, detailRows}
+use Rattle.rules.specs.Messages.{Message, mt103, mt101, Transfer, Detail, lineOf, transferOf, detailOf, detailed, details, readTransfer, readOrder, read, senderOf, referenceOf, firstDate, dateOf}
 use Rattle.rules.specs.Engine.{isBank}
 use Rattle.laws.specs.Numbers.{bic-number, bic-small}
 use Rattle.laws.specs.Parts.{cut, from, from-take}
-use Rattle.laws.specs.Tests.{and-left, and-right, cond-right}
+use Rattle.laws.specs.Tests.{and-right, cond-right}
 use Rattle.area.specs.Facts.{never, cond-left, cond-both, Came, came, Gave, gave, some-is}
 
 -- ---- a date that is read exists

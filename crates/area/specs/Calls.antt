@@ -1,24 +1,23 @@
 -- The three calls on areas: an acceptance leaves an area that holds the next engine and writes its text, a refusal leaves all as it was. Assumes nothing.
-use mathlib.Core.Path.{_≡_, refl, sym, ap, _∙_}
+use mathlib.Core.Path.{_≡_, refl, sym, _∙_}
 use mathlib.Core.Bool.{Bool, true, false, not, cond}
-use mathlib.Core.List.{List, [], _∷_, _++_}
-use mathlib.Core.Option.{Option, none, some}
-use Prim.Native.Nat.{ℕ, _+_, _-_, _≤_, _<_}
+use mathlib.Core.List.{List, [], _++_}
+use mathlib.Core.Option.{none, some}
+use Prim.Native.Nat.{ℕ, _≤_, _<_}
 use native.Mathlib.Omega.{arith}
 use lib.Dec.{leb, eqb}
 use lib.IntN.{ℤ, pos, subℕ}
 use lib.ListN.{length, take, drop, length-append, length-drop}
 use lib.Seq.{take-at, drop-at}
-use borrow.Author.Tests.{leb-true, leb-false, eqb-true, eqb-false, eq-eqb, ne-eqb, not-false}
+use borrow.Author.Tests.{leb-true, leb-false, eqb-true, not-false}
 use Rattle.rules.specs.Text.{isSome, over}
 use Rattle.rules.specs.Dates.{exists}
 use Rattle.rules.specs.Messages.{Message, read}
-use Rattle.rules.specs.Register.{register}
 use Rattle.rules.specs.Engine.{Engine, within}
-use Rattle.rules.specs.Calls.{Answer, Stop, stop, firstOf, refused, openStops, opened, openCall, inputStops, messageStops, messageText, after, afterMessage, acceptedMessage, bothOf, messageCall, turnText, turnStops, refunded, collected, afterTurn, acceptedTurn, turnCall}
+use Rattle.rules.specs.Calls.{Answer, firstOf, refused, openStops, opened, openCall, inputStops, messageStops, messageText, after, afterMessage, acceptedMessage, bothOf, messageCall, turnText, turnStops, refunded, collected, afterTurn, acceptedTurn, turnCall}
 use Rattle.rules.specs.Area.{encode, holds, Result, stored, onAreas, cardOpen, cardMessage, cardTurn}
 use Rattle.area.specs.Facts.{There, there, Passed, passed}
-use Rattle.area.specs.Held.{encode-length, holds-encode, Held, held}
+use Rattle.area.specs.Held.{encode-length, holds-encode, held}
 use Rattle.area.specs.Keeps.{opened-within, Clear, clear, message-within, turn-within}
 
 -- ---- what a call does to area and output

@@ -1,26 +1,26 @@
 -- Records that pass their tests, one behind the other: all of them are within the limits, in order, distinct, and written as they stand. Assumes nothing.
 use mathlib.Core.Path.{_≡_, refl, sym, ap, _∙_}
-use mathlib.Core.Bool.{Bool, true, false, _&&_, not, cond}
-use mathlib.Core.List.{List, [], _∷_, _++_, map}
-use Prim.Native.Nat.{ℕ, zero, suc, _+_, _-_, _*_, _≤_, _<_}
+use mathlib.Core.Bool.{Bool, true, false, not, cond}
+use mathlib.Core.List.{List, [], _∷_, map}
+use Prim.Native.Nat.{ℕ, zero, suc, _+_, _-_, _*_, _≤_}
 use native.Mathlib.Nat.{add-zero}
 use native.Mathlib.Omega.{arith}
-use lib.Dec.{leb, eqb, lit≤}
+use lib.Dec.{eqb, lit≤}
 use lib.ListN.{length, take, drop, length-drop}
 use lib.Seq.{drop-drop, length-take-le}
-use borrow.Author.Tests.{eqb-true, eq-eqb, not-true, not-false}
-use Rattle.rules.specs.Text.{every, equal, number, any, twice}
-use Rattle.rules.specs.Engine.{Position, Reference, earlier, goodPosition, ordered, goodReference, goodReferences, sameReference}
+use borrow.Author.Tests.{eqb-true, eq-eqb}
+use Rattle.rules.specs.Text.{equal, number, any, twice}
+use Rattle.rules.specs.Engine.{Position, Reference, earlier, ordered, goodReference, goodReferences, sameReference}
 use Rattle.rules.specs.Area.{numberAt, referenceIn, positionIn, referenceRecord, positionRecord, records}
 use Rattle.laws.specs.Numbers.{Within, bytes-within}
-use Rattle.laws.specs.Parts.{cut, cut-cut}
+use Rattle.laws.specs.Parts.{cut}
 use Rattle.laws.specs.Tests.{and-left, and-right, cond-right}
-use Rattle.area.specs.Facts.{never, either, cond-left, cond-both, equal-true, equal-same}
+use Rattle.area.specs.Facts.{either, cond-left, cond-both, equal-true, equal-same}
 use Rattle.area.specs.Bytes.{Bytes, within-take, within-drop}
 use Rattle.area.specs.Layout.{All, All.none, All.more}
 use Rattle.area.specs.Positions.{Good}
 use Rattle.area.specs.Walk.{walk, always}
-use Rattle.area.specs.Tests.{isZero, textFits, referenceTest, otherTest, newTest, dateTest, totalTest, positionAt, positionTest, earlierBy, orderTest}
+use Rattle.area.specs.Tests.{referenceTest, otherTest, newTest, dateTest, totalTest, positionAt, positionTest, earlierBy, orderTest}
 use Rattle.area.specs.Records.{cut-is, in-record, position-good, position-same, position-test, reference-good, reference-same, reference-test}
 
 -- ---- a walk is a test of the list of records

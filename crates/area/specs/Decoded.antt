@@ -1,15 +1,14 @@
 -- What is read off an area that holds an engine: the engine is what it says, and the numbers of its header are those of its positions, references and text. Assumes nothing.
-use mathlib.Core.Path.{_≡_, refl, sym, ap, _∙_}
-use mathlib.Core.Bool.{Bool, true}
-use mathlib.Core.List.{List, map}
+use mathlib.Core.Path.{_≡_, sym, ap, _∙_}
+use mathlib.Core.Bool.{true}
+use mathlib.Core.List.{List}
 use Prim.Native.Nat.{ℕ, _+_, _≤_}
 use native.Mathlib.Omega.{arith}
 use lib.Dec.{leb}
 use lib.ListN.{length, take, drop}
 use borrow.Author.Tests.{leb-true}
-use Rattle.rules.specs.Text.{number, isSome}
-use Rattle.rules.specs.Engine.{Engine}
-use Rattle.rules.specs.Area.{numberAt, positionIn, referenceIn, records, decode, holds}
+use Rattle.rules.specs.Text.{isSome}
+use Rattle.rules.specs.Area.{numberAt, positionIn, referenceIn, decode, holds}
 use Rattle.laws.specs.Parts.{cut}
 use Rattle.area.specs.Facts.{There, there}
 use Rattle.area.specs.Limits.{Limits, limits}

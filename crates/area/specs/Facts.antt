@@ -1,25 +1,22 @@
 -- What a test that holds tells of its parts, and what an option that is there tells of how it was made. Assumes nothing.
-use mathlib.Core.Path.{_≡_, refl, sym, ap, _∙_}
-use mathlib.Core.Bool.{Bool, true, false, _&&_, _||_, not, cond}
+use mathlib.Core.Path.{_≡_, refl, sym}
+use mathlib.Core.Bool.{Bool, true, false, _&&_, _||_, cond}
 use mathlib.Core.List.{List, [], _∷_}
-use mathlib.Core.Option.{Option, none, some, Option·map}
+use mathlib.Core.Option.{Option, none, some}
 use Prim.Native.Nat.{ℕ, suc}
 use native.Mathlib.Omega.{arith}
-use lib.Dec.{leb, eqb}
-use borrow.Author.Tests.{eqb-true, eq-eqb}
+use lib.Dec.{eqb}
+use borrow.Author.Tests.{eq-eqb}
 use Rattle.rules.specs.Text.{equal, then, given, isSome}
 use Rattle.rules.specs.Calls.{Stop, stop, firstOf}
-use Rattle.laws.specs.Tests.{cond-right}
+pub use Rattle.laws.specs.Equal.{equal-true}
+pub use Rattle.laws.specs.Tests.{cond-left}
 
 -- ---- tests
 
 -- true is not false
 pub never : {A : Type 0} → true ≡ false → A
 never h = absurd (let z : _≡_ {A = ℕ} 0 1 = cc in omega arith)
-
-pub cond-left : (a b : Bool) → cond a b false ≡ true → a ≡ true
-cond-left true b h = refl
-cond-left false b h = h
 
 pub cond-both : (a b : Bool) → a ≡ true → b ≡ true → cond a b false ≡ true
 cond-both a b h k = rw (h, k)
@@ -54,16 +51,6 @@ either false true f g = g refl
 either false false f g = refl
 
 -- ---- equal bytes
-
-pub equal-true : (a b : List ℕ) → equal a b ≡ true → a ≡ b
-unfolding equal
-equal-true [] [] h = refl
-equal-true [] (d ∷ ds) h = never (sym h)
-equal-true (c ∷ cs) [] h = never (sym h)
-equal-true (c ∷ cs) (d ∷ ds) h =
-    let e : c ≡ d = eqb-true c d (cond-left (eqb c d) (equal cs ds) h) in
-    let f : cs ≡ ds = equal-true cs ds (cond-right (eqb c d) (equal cs ds) h) in
-    rw (e, f)
 
 pub equal-same : (a : List ℕ) → equal a a ≡ true
 unfolding equal

@@ -1,15 +1,15 @@
 -- What an area holds: the area that `encode` gives holds that engine, whatever stands behind it, and an area holds at most one engine. Assumes nothing.
 use mathlib.Core.Path.{_≡_, refl, sym, ap, _∙_}
-use mathlib.Core.Bool.{Bool, true, false, _&&_, not, cond}
-use mathlib.Core.List.{List, [], _∷_, _++_, map, append-assoc, append-nil}
-use mathlib.Core.Option.{Option, none, some}
-use Prim.Native.Nat.{ℕ, zero, suc, _+_, _-_, _*_, _^_, _≤_, _<_}
+use mathlib.Core.Bool.{true, _&&_}
+use mathlib.Core.List.{List, [], _∷_, _++_, map, append-assoc}
+use mathlib.Core.Option.{none, some}
+use Prim.Native.Nat.{ℕ, _+_, _-_, _*_, _≤_, _<_}
 use native.Mathlib.Omega.{arith}
-use lib.Dec.{leb, eqb}
+use lib.Dec.{leb}
 use lib.ListN.{length, take, drop, length-append, take-append-drop}
 use lib.Seq.{take-at, drop-at}
 use borrow.Author.Tests.{leb-true, le-leb}
-use Rattle.rules.specs.Text.{bytes, equal, given}
+use Rattle.rules.specs.Text.{bytes}
 use Rattle.rules.specs.Engine.{Position, Reference, Engine, goodPosition, goodPositions, goodReference, goodReferences, within}
 use Rattle.rules.specs.Area.{zeros, padded, joined, referenceRecord, positionRecord, mark, header, encode, numberAt, referenceIn, positionIn, records, decode, holds}
 use Rattle.laws.specs.Digits.{places-length}
@@ -18,7 +18,7 @@ use Rattle.laws.specs.Tests.{and-left, and-right, cond-right}
 use Rattle.area.specs.Facts.{cond-left, equal-true, equal-same, Gave, gave}
 use Rattle.area.specs.Registers.{register-length}
 use Rattle.area.specs.Limits.{Limits, limits, date-small}
-use Rattle.area.specs.Layout.{Kept, All, All.none, All.more, part-at, number-at, joined-length, records-back, position-kept, reference-kept}
+use Rattle.area.specs.Layout.{Kept, All, All.none, All.more, number-at, joined-length, records-back, position-kept, reference-kept}
 
 -- ---- the records of an engine within its limits
 

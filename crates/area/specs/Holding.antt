@@ -1,34 +1,33 @@
 -- Number 10: an area holds an engine exactly if its bytes pass the tests of the layout. Assumes nothing.
 use mathlib.Core.Path.{_≡_, refl, sym, ap, _∙_}
-use mathlib.Core.Bool.{Bool, true, false, _&&_, not, cond}
-use mathlib.Core.List.{List, [], _∷_, _++_, map, append-assoc, append-nil}
-use mathlib.Core.Option.{Option, none, some}
-use Prim.Native.Nat.{ℕ, zero, suc, _+_, _-_, _*_, _≤_, _<_}
-use native.Mathlib.Nat.{add-zero}
+use mathlib.Core.Bool.{Bool, true, _&&_}
+use mathlib.Core.List.{List, [], _++_, map, append-assoc}
+use mathlib.Core.Option.{none, some}
+use Prim.Native.Nat.{ℕ, zero, suc, _+_, _-_, _*_, _≤_}
 use native.Mathlib.Omega.{arith}
-use lib.Dec.{leb, eqb, lit≤}
+use lib.Dec.{leb, lit≤}
 use lib.ListN.{length, take, drop, length-append, length-drop, length-map}
-use lib.Seq.{take-at, drop-at, take-add, drop-drop, drop-append-add, length-take-le}
+use lib.Seq.{take-at, drop-at, take-add, drop-drop, length-take-le}
 use borrow.Author.Tests.{leb-true, le-leb, not-true}
-use Rattle.rules.specs.Text.{every, equal, number, bytes, isSome, given, twice}
+use Rattle.rules.specs.Text.{every, equal, number, bytes, isSome, given}
 use Rattle.rules.specs.Dates.{exists}
 use Rattle.rules.specs.Register.{register}
-use Rattle.rules.specs.Engine.{Position, Reference, Engine, goodPositions, ordered, goodReferences, sameReference, within}
+use Rattle.rules.specs.Engine.{Engine, within}
 use Rattle.rules.specs.Area.{zeros, padded, joined, mark, header, encode, numberAt, referenceIn, positionIn, referenceRecord, positionRecord, records, decode, holds}
 use Rattle.laws.specs.Digits.{places-length}
 use Rattle.laws.specs.Numbers.{Within, bytes-within, number-bytes}
-use Rattle.laws.specs.Parts.{cut, from, cut-length, cut-drop, from-take}
-use Rattle.laws.specs.Sections.{Each, no-record, and-record, zeros-length, records-are, recordsOf}
+use Rattle.laws.specs.Parts.{cut}
+use Rattle.laws.specs.Sections.{Each, no-record, and-record, zeros-length, records-are}
 use Rattle.laws.specs.Standing.{Stands, stands-from, stands-records}
-use Rattle.laws.specs.Tests.{and-left, and-right, cond-right}
-use Rattle.area.specs.Facts.{never, and-both, equal-true, equal-same, isSome-is, either, There, there}
+use Rattle.laws.specs.Tests.{and-left, and-right}
+use Rattle.area.specs.Facts.{and-both, equal-true, equal-same, isSome-is, either, There, there}
 use Rattle.area.specs.Bytes.{Bytes}
 use Rattle.area.specs.Registers.{register-length}
 use Rattle.area.specs.Limits.{Limits, limits, limits-within}
 use Rattle.area.specs.Layout.{Kept, All, All.none, All.more, part-at, joined-length}
 use Rattle.area.specs.Held.{Held, held, positions-kept, references-kept}
 use Rattle.area.specs.Positions.{Good, all-good, good-all}
-use Rattle.area.specs.Sections.{Sections, Of, referencePart, positionPart, textPart, held-sections, references-stand, positions-stand, text-stands}
+use Rattle.area.specs.Sections.{Of, referencePart, positionPart, textPart, held-sections, references-stand, positions-stand, text-stands}
 use Rattle.area.specs.Walk.{walk, always}
 use Rattle.area.specs.Tests.{isZero, countsTest, headerTest, referenceTest, newTest, referencesTest, positionTest, orderTest, positionsTest, textTest, areaTest}
 use Rattle.area.specs.Records.{cut-is, zero-bytes, zeros-zero, bytes-zero, bytes-stand, take-part}

@@ -1,26 +1,23 @@
 -- Accepted calls keep the engine within its limits: an opening, a message and a turn. Assumes nothing.
-use mathlib.Core.Path.{_≡_, refl, sym, ap, _∙_}
-use mathlib.Core.Bool.{Bool, true, false, _&&_, _||_, not, cond}
-use mathlib.Core.List.{List, [], _∷_, _++_}
-use mathlib.Core.Option.{Option, none, some}
-use Prim.Native.Nat.{ℕ, zero, suc, _+_, _-_, _*_, _/_, _≤_, _<_}
+use mathlib.Core.Path.{_≡_, refl}
+use mathlib.Core.Bool.{Bool, true, false, not, cond}
+use mathlib.Core.List.{List, [], _∷_}
+use mathlib.Core.Option.{some}
+use Prim.Native.Nat.{ℕ, suc, _+_, _/_, _≤_, _<_}
 use native.Mathlib.Omega.{arith}
 use lib.Dec.{leb, eqb}
 use lib.ListN.{length, length-append}
-use borrow.Author.Tests.{leb-true, leb-false, le-leb, eqb-true, not-false}
-use Rattle.rules.specs.Text.{isSome, any, twice}
-use Rattle.rules.specs.Dates.{exists}
+use borrow.Author.Tests.{leb-true, leb-false, eqb-true, not-false}
+use Rattle.rules.specs.Text.{any, twice}
 use Rattle.rules.specs.Lines.{framed}
-use Rattle.rules.specs.Messages.{Message, mt103, mt101, Detail, read, detailsOf, dateOf, senderOf, referenceOf}
+use Rattle.rules.specs.Messages.{Message, mt103, mt101, Detail, read, detailsOf, dateOf, referenceOf}
 use Rattle.rules.specs.Register.{Register, register, registerOf}
 use Rattle.rules.specs.Verdict.{isReturned}
-use Rattle.rules.specs.Engine.{Position, Reference, Engine, limit, booked, kept, slashed, isBank, goodPositions, ordered, sameReference, goodReference, goodReferences, within}
-use Rattle.rules.specs.Written.{partsOf, correctedCount}
-use Rattle.rules.specs.Calls.{Stop, stop, firstOf, holdsOf, openStops, opened, addressed, badReference, badAmount, badAccount, manyDates, misdated, messageText, bankOf, ownReference, added, after, noRoom, overLimit, verdictOf, returnedOf, judged, writes, afterMessage, inputStops, stateStops, messageStops, turnStops, afterTurn}
-use Rattle.laws.specs.Tests.{and-left, and-right}
+use Rattle.rules.specs.Engine.{Position, Engine, limit, slashed, isBank, goodPositions, ordered, sameReference, goodReference, goodReferences, within}
+use Rattle.rules.specs.Written.{partsOf}
+use Rattle.rules.specs.Calls.{firstOf, holdsOf, openStops, opened, addressed, badReference, badAmount, badAccount, manyDates, misdated, messageText, bankOf, ownReference, added, after, noRoom, overLimit, verdictOf, returnedOf, judged, writes, afterMessage, inputStops, stateStops, messageStops, turnStops, afterTurn}
 use Rattle.area.specs.Facts.{or-left, or-right, Passed, passed}
 use Rattle.area.specs.Limits.{Limits, limits, limits-within}
-use Rattle.area.specs.Layout.{All}
 use Rattle.area.specs.Positions.{Sorted, ordered-sorted, sorted-ordered, booked-sorted, booked-few, Passes, booked-good, all-good, good-all, kept-sorted, kept-good, kept-length, corrected-length}
 use Rattle.area.specs.References.{good-append, same-sym, twice-append}
 use Rattle.area.specs.Accepted.{Has, read-has, sender-bank}

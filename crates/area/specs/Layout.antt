@@ -1,23 +1,22 @@
 -- The layout of an area, read back: every part of `encode e` stands at its place and says what the engine has. Assumes nothing.
-use mathlib.Core.Path.{_≡_, refl, sym, ap, _∙_}
-use mathlib.Core.Bool.{Bool, true, false, _&&_, not, cond}
+use mathlib.Core.Path.{_≡_, refl, ap, _∙_}
+use mathlib.Core.Bool.{true, false}
 use mathlib.Core.List.{List, [], _∷_, _++_, map, append-assoc, append-nil}
-use Prim.Native.Nat.{ℕ, zero, suc, _+_, _-_, _*_, _^_, _≤_, _<_}
+use Prim.Native.Nat.{ℕ, zero, suc, _-_, _*_, _^_, _≤_, _<_}
 use native.Mathlib.Omega.{arith}
-use lib.Dec.{leb, eqb}
-use lib.ListN.{length, take, drop, replicate, length-append, length-replicate, length-map}
-use lib.Seq.{take-at, drop-at, take-append-le, length-take-le}
+use lib.Dec.{eqb}
+use lib.ListN.{length, take, drop, length-append}
+use lib.Seq.{take-at, drop-at}
 use borrow.Author.Tests.{leb-true, ne-eqb}
 use Rattle.rules.specs.Text.{isText, every, run, bytes, number}
-use Rattle.rules.specs.Engine.{Position, Reference, Engine, limit, goodPosition, goodPositions, goodReference, goodReferences, within}
-use Rattle.rules.specs.Area.{zeros, padded, joined, referenceRecord, positionRecord, mark, header, encode, numberAt, untilZero, referenceIn, positionIn, records, decode, holds}
+use Rattle.rules.specs.Engine.{Position, Reference, limit, goodPosition, goodReference}
+use Rattle.rules.specs.Area.{zeros, padded, joined, referenceRecord, positionRecord, numberAt, untilZero, referenceIn, positionIn, records}
 use Rattle.laws.specs.Digits.{places-length}
 use Rattle.laws.specs.Numbers.{number-bytes}
 use Rattle.laws.specs.Sections.{padded-length}
 use Rattle.laws.specs.Tests.{and-left, and-right, cond-right, between-low, between-high}
-use Rattle.area.specs.Facts.{cond-left, never}
-use Rattle.area.specs.Registers.{register-length}
-use Rattle.area.specs.Limits.{Limits, limits, date-small, bank-small}
+use Rattle.area.specs.Facts.{cond-left}
+use Rattle.area.specs.Limits.{date-small, bank-small}
 
 -- ---- parts
 

@@ -1,18 +1,15 @@
 -- An engine within its limits (10): the limits one by one, and that its numbers fit the bytes of the layout. Assumes nothing.
-use mathlib.Core.Path.{_≡_, refl, sym, ap, _∙_}
-use mathlib.Core.Bool.{Bool, true, false, _&&_, not, cond}
-use mathlib.Core.List.{List, [], _∷_}
+use mathlib.Core.Path.{_≡_}
+use mathlib.Core.Bool.{true, false}
 use Prim.Native.Nat.{ℕ, _+_, _*_, _/_, _≤_, _<_}
 use native.Mathlib.Omega.{arith}
-use lib.Dec.{leb}
 use lib.ListN.{length}
 use borrow.Author.Tests.{leb-true, le-leb, not-true}
 use Rattle.rules.specs.Text.{isSome, twice}
 use Rattle.rules.specs.Dates.{exists}
 use Rattle.rules.specs.Register.{register}
-use Rattle.rules.specs.Engine.{Position, Reference, Engine, isBank, goodPositions, ordered, goodReferences, sameReference, within}
+use Rattle.rules.specs.Engine.{Engine, isBank, goodPositions, ordered, goodReferences, sameReference, within}
 use Rattle.laws.specs.Tests.{and-left, and-right}
-use Rattle.area.specs.Facts.{and-both}
 
 -- "within the limits above"
 pub record Limits (e : Engine) : Type 0 where

@@ -1,6 +1,5 @@
 -- Positions in their order: what `booked` and `kept` leave is in order again, and within the limits if the totals are. Assumes nothing.
-use mathlib.Core.Path.{_≡_, refl, sym, ap, _∙_}
-use mathlib.Core.Logic.{_⊎_, inl, inr}
+use mathlib.Core.Path.{_≡_, refl, sym, ap}
 use mathlib.Core.Bool.{Bool, true, false, _&&_, _||_, not, cond, and-false}
 use mathlib.Core.List.{List, [], _∷_}
 use Prim.Native.Nat.{ℕ, suc, _+_, _≤_, _<_}
@@ -13,7 +12,7 @@ use Rattle.rules.specs.Dates.{exists}
 use Rattle.rules.specs.Engine.{Position, limit, earlier, alike, positionOf, isOpen, booked, hasDetails, kept, isBank, goodPosition, goodPositions, ordered}
 use Rattle.rules.specs.Written.{corrected, correctedCount}
 use Rattle.laws.specs.Tests.{and-left, and-right, cond-right}
-use Rattle.area.specs.Facts.{never, cond-left, cond-both, and-both, or-left, or-right, any-left, any-right, any-neither}
+use Rattle.area.specs.Facts.{never, cond-left, cond-both, or-left, or-right, any-neither}
 use Rattle.area.specs.Layout.{All, All.none, All.more}
 
 -- ---- "by BIC in byte order and then date"

@@ -1,28 +1,27 @@
 -- The record tests against the definitions: a record of 24 bytes passes exactly if what it says is within the limits and is written as it stands. Assumes nothing.
 use mathlib.Core.Path.{_≡_, refl, sym, ap, _∙_}
 use mathlib.Core.Bool.{Bool, true, false, _&&_, not, cond}
-use mathlib.Core.List.{List, [], _∷_, _++_, map, append-assoc, append-nil}
-use Prim.Native.Nat.{ℕ, zero, suc, _+_, _-_, _*_, _≤_, _<_}
-use native.Mathlib.Nat.{zero-add, zero-div}
+use mathlib.Core.List.{List, [], _∷_, _++_, append-nil}
+use Prim.Native.Nat.{ℕ, zero, suc, _+_, _-_, _≤_}
+use native.Mathlib.Nat.{zero-div}
 use native.Mathlib.Omega.{arith}
 use lib.Dec.{leb, eqb, lit≤}
-use lib.ListN.{length, take, drop, replicate, length-append, length-drop}
-use lib.Seq.{take-at, drop-at, take-add, take-all, drop-drop, length-take-le}
-use borrow.Author.Tests.{leb-true, le-leb, eqb-true, eq-eqb, not-true, not-false}
-use Rattle.rules.specs.Text.{isText, every, run, equal, places, number, bytes}
+use lib.ListN.{length, take, drop, length-drop}
+use lib.Seq.{drop-at, take-add, take-all, length-take-le}
+use borrow.Author.Tests.{leb-true, le-leb, eqb-true, not-true}
+use Rattle.rules.specs.Text.{isText, every, run, places, bytes}
 use Rattle.rules.specs.Dates.{exists}
 use Rattle.rules.specs.Accounts.{isBic}
-use Rattle.rules.specs.Engine.{Position, Reference, limit, isBank, goodPosition, goodReference, slashed}
+use Rattle.rules.specs.Engine.{limit, isBank, goodReference, slashed}
 use Rattle.rules.specs.Area.{zeros, padded, numberAt, untilZero, referenceIn, positionIn, referenceRecord, positionRecord}
 use Rattle.laws.specs.Digits.{places-length}
-use Rattle.laws.specs.Numbers.{Within, bytes-number, number-bytes, bic-number}
-use Rattle.laws.specs.Parts.{cut, from, cut-length, cut-cut, from-take, from-all}
+use Rattle.laws.specs.Numbers.{Within, bytes-number}
+use Rattle.laws.specs.Parts.{cut, from, cut-cut, from-take}
 use Rattle.laws.specs.Tests.{and-left, and-right, cond-right}
-use Rattle.area.specs.Facts.{never, and-both, cond-left, cond-both, equal-true, equal-same}
+use Rattle.area.specs.Facts.{cond-left}
 use Rattle.area.specs.Bytes.{within-take, within-drop}
-use Rattle.area.specs.Limits.{bank-small}
 use Rattle.area.specs.Layout.{part-at}
-use Rattle.area.specs.Positions.{Good, good, good-test}
+use Rattle.area.specs.Positions.{Good}
 use Rattle.area.specs.Accepted.{bic-bank}
 use Rattle.area.specs.Tests.{isZero, textFits, referenceTest, dateTest, totalTest, positionTest}
 

@@ -1,17 +1,17 @@
 -- A register that passes 9 is short: the line of the temporary account has 24 bytes, and each of at most 40 account lines has 38. Assumes nothing.
-use mathlib.Core.Path.{_≡_, refl, sym, ap, _∙_}
-use mathlib.Core.Bool.{Bool, true, false, _&&_, not, cond}
-use mathlib.Core.List.{List, [], _∷_, map}
+use mathlib.Core.Path.{_≡_, refl, sym}
+use mathlib.Core.Bool.{Bool, true, false, _&&_, cond}
+use mathlib.Core.List.{List, [], _∷_}
 use mathlib.Core.Option.{Option, none, some, Option·map}
 use Prim.Native.Nat.{ℕ, suc, _+_, _*_, _≤_}
 use native.Mathlib.Omega.{arith}
 use lib.Dec.{leb, eqb}
 use lib.ListN.{length, take, drop}
 use borrow.Author.Tests.{leb-true}
-use Rattle.rules.specs.Text.{ascii, equal, fits, digits, then, given, isSome, twice}
+use Rattle.rules.specs.Text.{ascii, digits, isSome}
 use Rattle.rules.specs.Accounts.{passes, ibanShape}
 use Rattle.rules.specs.Lines.{Line, lines, begun, before}
-use Rattle.rules.specs.Register.{Account, Register, accountLine, accountLines, ibans, sound, ofLines, register}
+use Rattle.rules.specs.Register.{Account, Register, accountLine, accountLines, sound, ofLines, register}
 use Rattle.laws.specs.Reading.{fits-length}
 use Rattle.laws.specs.Tests.{and-left, and-right}
 use Rattle.area.specs.Facts.{Came, came, Gave, gave, There, there}

@@ -1,20 +1,15 @@
 -- The four sections of an area, header, references, positions and texts: where each stands, and that an area with an engine's sections is the engine's. Assumes nothing.
-use mathlib.Core.Path.{_≡_, refl, sym, ap, _∙_}
+use mathlib.Core.Path.{_≡_, _∙_}
 use mathlib.Core.Bool.{true}
-use mathlib.Core.List.{List, [], _∷_, _++_, map, append-assoc}
-use Prim.Native.Nat.{ℕ, _+_, _-_, _*_, _≤_, _<_}
-use native.Mathlib.Nat.{add-zero}
+use mathlib.Core.List.{List, _++_, map, append-assoc}
+use Prim.Native.Nat.{ℕ}
 use native.Mathlib.Omega.{arith}
-use lib.Dec.{lit≤}
-use lib.ListN.{length, take, drop, length-append}
-use lib.Seq.{take-at, drop-at, drop-append-add, drop-drop, length-take-le}
+use lib.ListN.{length, drop, length-append}
 use Rattle.rules.specs.Engine.{Position, Reference, Engine, within}
-use Rattle.rules.specs.Area.{zeros, padded, joined, referenceRecord, positionRecord, referenceIn, positionIn, header, encode}
+use Rattle.rules.specs.Area.{padded, joined, referenceRecord, positionRecord, referenceIn, positionIn, header, encode}
 use Rattle.laws.specs.Digits.{places-length}
-use Rattle.laws.specs.Laid.{laid, laid-front}
-use Rattle.laws.specs.Parts.{cut, from, from-take}
-use Rattle.laws.specs.Sections.{padded-length, zeros-length}
-use Rattle.laws.specs.Standing.{Stands, stands-from}
+use Rattle.laws.specs.Sections.{padded-length}
+use Rattle.laws.specs.Standing.{Stands}
 use Rattle.area.specs.Limits.{Limits, limits}
 use Rattle.area.specs.Registers.{register-length}
 use Rattle.area.specs.Layout.{joined-length}

@@ -1,12 +1,12 @@
 -- A text that ends before the first zero: where it ends, and the test of a reference's text by its end. Assumes nothing.
-use mathlib.Core.Path.{_≡_, refl, sym, ap, _∙_}
+use mathlib.Core.Path.{_≡_, refl, ap, _∙_}
 use mathlib.Core.Bool.{Bool, true, false, _&&_, not, cond}
 use mathlib.Core.List.{List, [], _∷_}
 use Prim.Native.Nat.{ℕ, suc, _+_, _-_, _≤_, _<_}
 use native.Mathlib.Omega.{arith}
 use lib.Dec.{eqb}
 use lib.ListN.{length, getD, take}
-use borrow.Author.Tests.{eq-eqb, ne-eqb, not-true, not-false}
+use borrow.Author.Tests.{ne-eqb}
 use Rattle.rules.specs.Text.{isText, every, run}
 use Rattle.rules.specs.Engine.{slashed}
 use Rattle.rules.specs.Area.{untilZero}

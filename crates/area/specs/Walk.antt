@@ -1,9 +1,8 @@
 -- A walk over records of 24 bytes: a test at each place, and the law for each way on and out of the loop that makes it. Assumes nothing.
-use mathlib.Core.Path.{_≡_, refl, sym, ap, _∙_}
+use mathlib.Core.Path.{_≡_}
 use mathlib.Core.Bool.{Bool, true, false, cond}
-use Prim.Native.Nat.{ℕ, zero, suc, _+_, _-_, _*_, _≤_, _<_}
+use Prim.Native.Nat.{ℕ, zero, suc, _+_, _-_, _≤_, _<_}
 use native.Mathlib.Omega.{arith}
-use lib.ListN.{length}
 
 -- a test of a place alone
 abbrev pub always : (ℕ → Bool) → ℕ → ℕ → Bool
