@@ -1,3 +1,4 @@
+-- Each way out answers what the conditions of document 01 give, in their order: 3, 11, 16. Assumes nothing.
 use denote.Ref.{now}
 use native.Mathlib.Omega.{arith}
 use Rattle.card.specs.Turn.{turn-fits, turn-made}

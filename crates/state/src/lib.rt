@@ -1,0 +1,6 @@
+// A message to be booked, and the conditions 11 to 15 that the state may stop it by.
+mod booking;
+
+pub use booking::Booking;
+pub use booking::order_booking;
+pub use booking::transfer_booking;
