@@ -1,1 +1,2 @@
 pub mod Books
+pub mod Stops

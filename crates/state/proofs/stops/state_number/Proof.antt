@@ -1,0 +1,46 @@
+-- Each way out is the first of 11 to 15 that holds. Assumes nothing.
+use Rattle.state.specs.Stops.{stops}
+use borrow.Author.Needs.{needs}
+use Rattle.state.proofs.stops.state_number.Statement.{statement}
+use Rattle.state.proofs.stops.state_number.Tie as tie
+
+numbers-of-requires : tie.Need-numbers-of-requires
+numbers-of-requires c κs = search (stops, needs)
+
+is-misdated-requires : tie.Need-is-misdated-requires
+is-misdated-requires c κs = search (stops, needs)
+
+returns : tie.Need-returns
+returns c = search (stops, needs)
+
+is-used-requires : tie.Need-is-used-requires
+is-used-requires c κs = ((c .before .before .before .before .before .pre .0), (search needs, (search needs, (search needs, (c .before .before .before .before .before .pre .1 .text)))))
+
+returns-2 : tie.Need-returns-2
+returns-2 c = search (stops, needs)
+
+returns-3 : tie.Need-returns-3
+returns-3 c = search (stops, needs)
+
+totals-of-requires : tie.Need-totals-of-requires
+totals-of-requires c κs = search (stops, needs)
+
+rest-number-requires : tie.Need-rest-number-requires
+rest-number-requires c κs = search (stops, needs)
+
+returns-4 : tie.Need-returns-4
+returns-4 c = search (stops, needs)
+
+pub state-number-spec : {M : Type 1} → statement M
+state-number-spec =
+    tie.close
+    (tie.spec
+    numbers-of-requires
+    is-misdated-requires
+    returns
+    is-used-requires
+    returns-2
+    returns-3
+    totals-of-requires
+    rest-number-requires
+    returns-4)

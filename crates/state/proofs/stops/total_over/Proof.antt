@@ -1,0 +1,17 @@
+-- A total of six bytes and a message's sum add up in 64 bits. Assumes nothing.
+use Rattle.state.specs.Stops.{stops}
+use borrow.Author.Needs.{needs}
+use Rattle.state.proofs.stops.total_over.Statement.{statement}
+use Rattle.state.proofs.stops.total_over.Tie as tie
+
+add-if1 : tie.Need-add-if1
+add-if1 c = search (stops, needs)
+
+returns : tie.Need-returns
+returns c = search (stops, needs)
+
+returns-2 : tie.Need-returns-2
+returns-2 c = search (stops, needs)
+
+pub total-over-spec : {M : Type 1} → statement M
+total-over-spec = tie.close (tie.spec add-if1 returns returns-2)

@@ -1,0 +1,153 @@
+-- The conditions 11 to 15, as the code tests them: one law for each way out. Assumes nothing.
+use mathlib.Core.Path.{_≡_, refl, sym, ap, _∙_}
+use mathlib.Core.Bool.{Bool, true, false, _&&_, _||_, not, cond}
+use mathlib.Core.List.{List, [], _∷_}
+use Prim.Native.Nat.{ℕ, _+_, _≤_, _<_}
+use native.Mathlib.Omega.{arith}
+use borrow.Author.Tests.{le-leb, lt-leb, eq-eqb, ne-eqb}
+use lib.Dec.{leb, eqb}
+use lib.ListN.{length}
+use Rattle.rules.specs.Text.{isSome, any}
+use Rattle.rules.specs.Messages.{Message, dateOf, transferredBy, detailedBy, referenceOf}
+use Rattle.rules.specs.Engine.{Engine, Position, limit, positionOf, isOpen, sameReference}
+use Rattle.rules.specs.Calls.{Stop, stop, firstOf, misdated, bankOf, ownReference, noRoom, overLimit, after}
+use Rattle.rules.specs.Area.{holds, decode}
+use Rattle.laws.specs.Parts.{cut}
+use Rattle.laws.specs.Tests.{held-told}
+use Rattle.engine.specs.Find.{TotalsOf}
+use Rattle.engine.specs.References.{ofBank}
+use Rattle.engine.specs.declared.find.Totals.{Totals}
+use Rattle.steps.specs.Numbers.{NumbersOf}
+use Rattle.steps.specs.declared.parts.Numbers.{Numbers}
+use Rattle.state.specs.declared.booking.Booking.{Booking}
+use Rattle.state.specs.Books.{Books, messageIn, amountIf, misdatedBy}
+
+-- 11 to 15, the conditions of the state before the output's room
+unfoldable pub limitStops : Engine → Message → List Stop
+limitStops e m =
+    stop 11 (misdated (e .day) m)
+    ∷ stop 12 (any (sameReference (ownReference m)) (e .references))
+    ∷ stop 13 (leb 64 (length (e .references)))
+    ∷ stop 14 (noRoom e m)
+    ∷ stop 15 (overLimit e m)
+    ∷ []
+
+-- ---- single tests
+
+-- 15, of both totals
+unfoldable pub overBy : Totals → Booking → Bool
+overBy t b = not (leb (t .transferred + amountIf (b .transfer) (b .amount)) limit) || not (leb (t .detailed + amountIf (not (b .transfer)) (b .amount)) limit)
+
+-- 14 and 15
+unfoldable pub restNumber : ℕ → Totals → Booking → ℕ
+restNumber n t b = cond (leb 32 n && not (t .«is_open»)) 14 (cond (overBy t b) 15 0)
+
+module _ (b : Booking) (day : ℕ) where
+  pub misdated-transfer : b .transfer ≡ true → not (eqb (b .date) day) ≡ misdatedBy (b .transfer) (b .date) day
+  misdated-transfer t = rw t refl
+
+  pub misdated-before : b .transfer ≡ false → b .date ≤ day → false ≡ misdatedBy (b .transfer) (b .date) day
+  misdated-before t l = rw (t, le-leb _ _ l) refl
+
+  pub misdated-after : b .transfer ≡ false → day < b .date → true ≡ misdatedBy (b .transfer) (b .date) day
+  misdated-after t l = rw (t, lt-leb _ _ l) refl
+
+pub total-within : (v w : ℕ) → v + w ≤ 99999999999999 → false ≡ not (leb (v + w) limit)
+total-within v w h = rw (le-leb _ _ h) refl
+
+pub total-above : (v w : ℕ) → 99999999999999 < v + w → true ≡ not (leb (v + w) limit)
+total-above v w h = rw (lt-leb _ _ h) refl
+
+module _ (b : Booking) where
+  pub amount-own : b .transfer ≡ true → b .amount ≡ amountIf (b .transfer) (b .amount)
+  amount-own t = rw t refl
+
+  pub amount-none : b .transfer ≡ false → 0 ≡ amountIf (b .transfer) (b .amount)
+  amount-none t = rw t refl
+
+  pub sum-none : b .transfer ≡ true → 0 ≡ amountIf (not (b .transfer)) (b .amount)
+  sum-none t = rw t refl
+
+  pub sum-own : b .transfer ≡ false → b .amount ≡ amountIf (not (b .transfer)) (b .amount)
+  sum-own t = rw t refl
+
+  amount-small : (t : Bool) → b .amount ≤ 160000000000000000 → amountIf t (b .amount) ≤ 160000000000000000
+  amount-small true h = h
+  amount-small false h = omega arith
+
+  pub added-small : {v : ℕ} → v ≡ amountIf (b .transfer) (b .amount) → b .amount ≤ 160000000000000000 → v ≤ 160000000000000000
+  added-small e h = rw e (amount-small (b .transfer) h)
+
+  pub summed-small : {v : ℕ} → v ≡ amountIf (not (b .transfer)) (b .amount) → b .amount ≤ 160000000000000000 → v ≤ 160000000000000000
+  summed-small e h = rw e (amount-small (not (b .transfer)) h)
+
+module _ (t : Totals) (b : Booking) {v : ℕ} (e : v ≡ amountIf (b .transfer) (b .amount)) (q : Bool) (u : q ≡ not (leb (t .transferred + v) limit)) where
+  pub over-first : q ≡ true → true ≡ overBy t b
+  unfolding overBy
+  over-first d = rw (← e, ← u, d) refl
+
+  pub over-second : q ≡ false → {w : ℕ} → w ≡ amountIf (not (b .transfer)) (b .amount) → {r : Bool} → r ≡ not (leb (t .detailed + w) limit) → r ≡ overBy t b
+  unfolding overBy
+  over-second d f g = g ∙ rw (← e, ← u, d, f) refl
+
+module _ (n : ℕ) (t : Totals) (b : Booking) (q : Bool) (u : q ≡ overBy t b) where
+  module _ (o : t .«is_open» ≡ true) where
+    open-any : (x : Bool) → (x && false) ≡ false
+    open-any true = refl
+    open-any false = refl
+
+    pub rest-open-over : q ≡ true → 15 ≡ restNumber n t b
+    unfolding restNumber overBy
+    rest-open-over d = rw (o, open-any, ← u, d) refl
+
+    pub rest-open : q ≡ false → 0 ≡ restNumber n t b
+    unfolding restNumber overBy
+    rest-open d = rw (o, open-any, ← u, d) refl
+
+  module _ (o : t .«is_open» ≡ false) where
+    pub rest-full : 32 ≤ n → 14 ≡ restNumber n t b
+    unfolding restNumber
+    rest-full l = rw (o, le-leb _ _ l) refl
+
+    module _ (l : n < 32) where
+      pub rest-over : q ≡ true → 15 ≡ restNumber n t b
+      unfolding restNumber overBy
+      rest-over d = rw (o, lt-leb _ _ l, ← u, d) refl
+
+      pub rest-none : q ≡ false → 0 ≡ restNumber n t b
+      unfolding restNumber overBy
+      rest-none d = rw (o, lt-leb _ _ l, ← u, d) refl
+
+-- ---- all of them
+
+module _ (s area : List ℕ) (b : Booking) (k : Books s b) (x : Numbers) (n : NumbersOf area x) where
+  day-is : misdated (decode area .day) (messageIn s) ≡ misdatedBy (b .transfer) (b .date) (x .day)
+  day-is = rw (n .day) (k .dated (decode area .day))
+
+  own-is : ofBank (b .bank) (cut s (b .start) (b .end)) ≡ ownReference (messageIn s)
+  own-is = rw (k .bank, k .reference) refl
+
+  module _ (t : Bool) (u : t ≡ misdatedBy (b .transfer) (b .date) (x .day)) where
+    pub state-day : t ≡ true → 11 ≡ firstOf (limitStops (decode area) (messageIn s))
+    unfolding firstOf limitStops
+    state-day d = rw (day-is, ← u, d) refl
+
+    module _ (d : t ≡ false) (q : Bool) (v : q ≡ any (sameReference (ofBank (b .bank) (cut s (b .start) (b .end)))) (decode area .references)) where
+      used-is : any (sameReference (ownReference (messageIn s))) (decode area .references) ≡ q
+      used-is = sym (v ∙ rw own-is refl)
+
+      pub state-used : q ≡ true → 12 ≡ firstOf (limitStops (decode area) (messageIn s))
+      unfolding firstOf limitStops
+      state-used w = rw (day-is, ← u, d, used-is, w) refl
+
+      module _ (w : q ≡ false) where
+        pub state-full : 64 ≤ x .references → 13 ≡ firstOf (limitStops (decode area) (messageIn s))
+        unfolding firstOf limitStops
+        state-full l = rw (day-is, ← u, d, used-is, w, ← n .references, le-leb _ _ l) refl
+
+        pub state-rest : x .references < 64 → (y : Totals) → TotalsOf (decode area .positions) (b .bank) (b .date) y → {r : ℕ} → r ≡ restNumber (x .positions) y b → r ≡ firstOf (limitStops (decode area) (messageIn s))
+        unfolding firstOf limitStops restNumber noRoom overLimit overBy after
+        state-rest l y g e =
+            e ∙ rw (day-is, ← u, d, used-is, w, ← n .references, lt-leb _ _ l, ← k .bank, ← k .date, ← g .opens, ← g .transferred, ← g .detailed, ← n .positions, k .transferred, k .detailed) refl
+
+pub ruleset stops = (held-told, misdated-transfer, misdated-before, misdated-after, total-within, total-above, amount-own, amount-none, sum-none, sum-own, added-small, summed-small, over-first, over-second, rest-open-over, rest-open, rest-full, rest-over, rest-none, state-day, state-used, state-full, state-rest)

@@ -1,0 +1,116 @@
+// The conditions 11 to 15, "stopped by the state".
+use crate::booking::Booking;
+use engine::Totals;
+ghost use mathlib.Core.Path.{_≡_};
+ghost use mathlib.Core.Bool.{true, _&&_, _||_, not};
+ghost use Prim.Native.Nat.{_+_, _<_, _≤_};
+ghost use lib.Dec.{leb};
+ghost use lib.ListN.{length};
+ghost use Rattle.rules.specs.Text.{isSome};
+ghost use Rattle.rules.specs.Engine.{limit};
+ghost use Rattle.rules.specs.Calls.{firstOf};
+ghost use Rattle.rules.specs.Area.{holds, decode};
+ghost use Rattle.state.specs.Books.{Books, messageIn, amountIf, misdatedBy};
+ghost use Rattle.state.specs.Stops.{limitStops, overBy, restNumber};
+
+// 11: an MT103 not dated on the day, an MT101 dated after it?
+fn is_misdated(b: Booking, day: u64) -> bool
+    ensures { λ r. ⌜ r ≡ misdatedBy (b .transfer) (b .date) day ⌝ }
+{
+    let date = b.date as u64;
+    if b.transfer {
+        return date != day;
+    }
+    if date <= day {
+        return false;
+    }
+    true
+}
+
+// What a message adds to transferred.
+pub fn transferred_by(b: Booking) -> u64
+    ensures { λ r. ⌜ r ≡ amountIf (b .transfer) (b .amount) ⌝ }
+{
+    if b.transfer {
+        return b.amount;
+    }
+    0
+}
+
+// What it adds to detailed.
+pub fn detailed_by(b: Booking) -> u64
+    ensures { λ r. ⌜ r ≡ amountIf (not (b .transfer)) (b .amount) ⌝ }
+{
+    if b.transfer {
+        return 0;
+    }
+    b.amount
+}
+
+// Is a total with so much added over its limit?
+fn total_over(total: u64, added: u64) -> bool
+    requires { ⌜ total < 281474976710656 ⌝ }
+    requires { ⌜ added ≤ 160000000000000000 ⌝ }
+    ensures { λ r. ⌜ r ≡ not (leb (total + added) limit) ⌝ }
+{
+    if total + added <= 99999999999999 {
+        return false;
+    }
+    true
+}
+
+// 15: is one of both totals over its limit?
+fn is_over(t: Totals, b: Booking) -> bool
+    requires { ⌜ t .transferred < 281474976710656 ⌝ }
+    requires { ⌜ t .detailed < 281474976710656 ⌝ }
+    requires { ⌜ b .amount ≤ 160000000000000000 ⌝ }
+    ensures { λ r. ⌜ r ≡ overBy t b ⌝ }
+{
+    if total_over(t.transferred, transferred_by(b)) {
+        return true;
+    }
+    total_over(t.detailed, detailed_by(b))
+}
+
+// 14 and 15, with n positions open; 0 where neither holds.
+fn rest_number(n: u64, t: Totals, b: Booking) -> u32
+    requires { ⌜ t .transferred < 281474976710656 ⌝ }
+    requires { ⌜ t .detailed < 281474976710656 ⌝ }
+    requires { ⌜ b .amount ≤ 160000000000000000 ⌝ }
+    ensures { λ r. ⌜ r ≡ restNumber n t b ⌝ }
+{
+    let over = is_over(t, b);
+    if t.is_open {
+        if over {
+            return 15;
+        }
+        return 0;
+    }
+    if 32 <= n {
+        return 14;
+    }
+    if over {
+        return 15;
+    }
+    0
+}
+
+// 11 to 15; 0 where none holds.
+pub fn state_number(s: &[u8], area: &[u8], b: Booking) -> u32
+    requires { ⌜ isSome (holds (now area)) ≡ true ⌝ }
+    requires { ⌜ Books (now s) b ⌝ }
+    ensures { λ r. ⌜ r ≡ firstOf (limitStops (decode (now (area .entry))) (messageIn (now (s .entry)))) ⌝ }
+{
+    let x = steps::numbers_of(area);
+    if is_misdated(b, x.day) {
+        return 11;
+    }
+    if engine::is_used(area, b.bank, s, b.start, b.end) {
+        return 12;
+    }
+    if 64 <= x.references {
+        return 13;
+    }
+    let t = engine::totals_of(area, b.bank, b.date);
+    rest_number(x.positions, t, b)
+}
