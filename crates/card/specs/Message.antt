@@ -8,52 +8,15 @@ use borrow.Author.Tests.{le-leb, lt-leb}
 use lib.Dec.{leb, eqb}
 use lib.IntN.{ℤ, pos, subℕ}
 use lib.ListN.{length, drop}
-use Rattle.rules.specs.Text.{isSome, over, any}
+use Rattle.rules.specs.Text.{isSome, over}
 use Rattle.rules.specs.Messages.{Message, read}
 use Rattle.rules.specs.Register.{registerOf}
-use Rattle.rules.specs.Engine.{Engine, sameReference}
-use Rattle.rules.specs.Calls.{Stop, stop, firstOf, holdsOf, misdated, ownReference, noRoom, overLimit, inputStops, stateStops, messageStops, messageText, after, afterMessage, messageCall, bothOf, acceptedMessage, refused}
+use Rattle.rules.specs.Engine.{Engine}
+use Rattle.rules.specs.Calls.{stop, firstOf, holdsOf, inputStops, stateStops, messageStops, messageText, after, afterMessage, messageCall, bothOf, acceptedMessage, refused}
 use Rattle.rules.specs.Area.{cardMessage, onAreas, stored, encode, holds}
+use Rattle.state.specs.Stops.{limitStops}
 use Rattle.card.specs.Answers.{Answers}
 use Rattle.card.specs.Stops.{numbered, first-later, first-earlier}
-
--- 11 to 15, the conditions of the state before the output's room
-unfoldable pub limitStops : Engine → Message → List Stop
-limitStops e m =
-    stop 11 (misdated (e .day) m)
-    ∷ stop 12 (any (sameReference (ownReference m)) (e .references))
-    ∷ stop 13 (leb 64 (length (e .references)))
-    ∷ stop 14 (noRoom e m)
-    ∷ stop 15 (overLimit e m)
-    ∷ []
-
-module _ (e : Engine) (m : Message) where
-  pub limit-day : misdated (e .day) m ≡ true → firstOf (limitStops e m) ≡ 11
-  unfolding firstOf limitStops
-  limit-day a = rw a refl
-
-  module _ (a : misdated (e .day) m ≡ false) where
-    pub limit-used : any (sameReference (ownReference m)) (e .references) ≡ true → firstOf (limitStops e m) ≡ 12
-    unfolding firstOf limitStops
-    limit-used b = rw (a, b) refl
-
-    module _ (b : any (sameReference (ownReference m)) (e .references) ≡ false) where
-      pub limit-full : 64 ≤ length (e .references) → firstOf (limitStops e m) ≡ 13
-      unfolding firstOf limitStops
-      limit-full c = rw (a, b, le-leb _ _ c) refl
-
-      module _ (c : length (e .references) < 64) where
-        pub limit-room : noRoom e m ≡ true → firstOf (limitStops e m) ≡ 14
-        unfolding firstOf limitStops
-        limit-room d = rw (a, b, lt-leb _ _ c, d) refl
-
-        pub limit-over : noRoom e m ≡ false → overLimit e m ≡ true → firstOf (limitStops e m) ≡ 15
-        unfolding firstOf limitStops
-        limit-over d o = rw (a, b, lt-leb _ _ c, d, o) refl
-
-        pub limit-none : noRoom e m ≡ false → overLimit e m ≡ false → firstOf (limitStops e m) ≡ 0
-        unfolding firstOf limitStops
-        limit-none d o = rw (a, b, lt-leb _ _ c, d, o) refl
 
 -- the temporary account of an engine
 abbrev pub temporaryOf : Engine → List ℕ

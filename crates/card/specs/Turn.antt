@@ -106,4 +106,8 @@ module _ (day : ℕ) (area out : List ℕ) (h : isSome (holds area) ≡ true) wh
         turn-made k m c =
             turn-accepted day area out (decode area) engine (sym u ∙ d) later (turn-fits k m) (c .written) (c .difference) (c .area) (c .output)
 
-pub ruleset turning = (held-told, measured, turned-done, turn-refused-day, turn-refused-early, turn-refused-room, turn-fits, turn-made)
+-- 10
+pub turn-no-engine : (day : ℕ) (area out : List ℕ) (t : Bool) → t ≡ isSome (holds area) → t ≡ false → Answers (cardTurn day area out) 10 0 (pos 0) area out
+turn-no-engine day area out t u d = turn-engine day area out (sym u ∙ d)
+
+pub ruleset turning = (held-told, turn-no-engine, measured, turned-done, turn-refused-day, turn-refused-early, turn-refused-room, turn-fits, turn-made)

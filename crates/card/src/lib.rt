@@ -4,3 +4,4 @@ mod opening;
 mod turn;
 
 pub use opening::card_open;
+pub use turn::card_turn;

@@ -40,7 +40,7 @@ fn turn_size(day: u32, area: &[u8]) -> usize
 }
 
 // The turn of an area that holds an engine.
-pub fn turn_engine(
+fn turn_engine(
     day: u32,
     area: &mut [u8],
     output: &mut [u8],
@@ -65,4 +65,23 @@ pub fn turn_engine(
         return 0;
     }
     3
+}
+
+// Turns to a later day.
+#[no_mangle]
+pub extern "C" fn card_turn(
+    day: u32,
+    area: &mut [u8],
+    output: &mut [u8],
+    written: &mut usize,
+    difference: &mut i64,
+) -> u32
+    ensures { λ r. ⌜ Answers (cardTurn day (now (area .entry)) (now (output .entry))) r (now (written .exit)) (now (difference .exit)) (now (area .exit)) (now (output .exit)) ⌝ }
+{
+    if limits::limits_hold(area) {
+        return turn_engine(day, area, output, written, difference);
+    }
+    *written = 0;
+    *difference = 0;
+    10
 }
