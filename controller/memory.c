@@ -2,13 +2,13 @@
 #include <stdint.h>
 #include <string.h>
 
-/* Both addresses are those of words, so that four bytes go at a time. */
-static int words(const void *a, const void *b) { return (((uintptr_t)a | (uintptr_t)b) & 3) == 0; }
+/* Is the address, or are both that are joined in it, one of words, so that four bytes go at a time? */
+static int is_word(uintptr_t address) { return (address & 3) == 0; }
 
 void *memcpy(void *to, const void *from, size_t n) {
   uint8_t *t = to;
   const uint8_t *f = from;
-  if (words(t, f)) {
+  if (is_word((uintptr_t)t | (uintptr_t)f)) {
     for (; n >= 4; n -= 4, t += 4, f += 4) *(uint32_t *)t = *(const uint32_t *)f;
   }
   for (; n > 0; n--) *t++ = *f++;
@@ -28,6 +28,10 @@ void *memmove(void *to, const void *from, size_t n) {
 
 void *memset(void *to, int value, size_t n) {
   uint8_t *t = to;
+  uint32_t word = (uint8_t)value * 0x01010101u;
+  if (is_word((uintptr_t)t)) {
+    for (; n >= 4; n -= 4, t += 4) *(uint32_t *)t = word;
+  }
   for (; n > 0; n--) *t++ = (uint8_t)value;
   return to;
 }
