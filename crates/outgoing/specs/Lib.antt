@@ -3,3 +3,5 @@ pub mod Area
 pub mod Sums
 pub mod Details
 pub mod Postings
+pub mod Rows
+pub mod Returned

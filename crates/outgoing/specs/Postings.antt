@@ -26,7 +26,8 @@ use Rattle.verdict.specs.declared.Verdict.the-variants.{Credited, Returned}
 use Rattle.verdict.specs.declared.detail.Judged as J
 use Rattle.written.specs.Values.{bookOf}
 use Rattle.written.specs.declared.Book as W
-use Rattle.outgoing.specs.Details.{detailsAt, details-next, details-stop, details-none}
+use Rattle.conditions.specs.Walk.{walked}
+use Rattle.outgoing.specs.Details.{walked-next, walked-stop, walked-none}
 
 -- ---- a credited detail's account line is one of the register's
 
@@ -87,26 +88,26 @@ module _ (text : List ℕ) (h : isSome (register text) ≡ true) (b : W.Book) (v
 
 -- ---- detail by detail
 
-module _ (text s : List ℕ) (b : Book) (p k : ℕ) {o at : ℕ} {out whole start : List ℕ} (l : Left (detailPostings (registerOf text) b (detailsAt k (from s p))) o out whole at start) where
+module _ (text s : List ℕ) (b : Book) (p k : ℕ) {o at : ℕ} {out whole start : List ℕ} (l : Left (detailPostings (registerOf text) b (walked k (from s p))) o out whole at start) where
   module _ (h : 0 < k) (j : J.Judged) (w : JudgedAt text s p j) where
     credits-step : j .detail .ok ≡ true
-        → detailPostings (registerOf text) b (detailsAt k (from s p)) ≡ verdictPosting (registerOf text) b (j .detail .amount) (verdictOf (j .verdict)) ++ detailPostings (registerOf text) b (detailsAt (k - 1) (from s (j .detail .next)))
+        → detailPostings (registerOf text) b (walked k (from s p)) ≡ verdictPosting (registerOf text) b (j .detail .amount) (verdictOf (j .verdict)) ++ detailPostings (registerOf text) b (walked (k - 1) (from s (j .detail .next)))
     unfolding detailPostings
     credits-step e =
         let d : Detail = detailHeld s (j .detail) in
-        rw (details-next s p k (j .detail) (w .detail) h e, w .verdict)
-        (ap (λ (l : List ℕ). l ++ detailPostings (registerOf text) b (detailsAt (k - 1) (from s (j .detail .next)))) (detail-amount (registerOf text) b d (verdict (registerOf text) (account59 d))))
+        rw (walked-next s p (j .detail) (w .detail) k h e, w .verdict)
+        (ap (λ (l : List ℕ). l ++ detailPostings (registerOf text) b (walked (k - 1) (from s (j .detail .next)))) (detail-amount (registerOf text) b d (verdict (registerOf text) (account59 d))))
 
     pub credits-more : j .detail .ok ≡ true → {o' : ℕ} {out' : List ℕ} → Wrote (verdictPosting (registerOf text) b (j .detail .amount) (verdictOf (j .verdict))) o out o' out'
-        → Left (detailPostings (registerOf text) b (detailsAt (k - 1) (from s (j .detail .next)))) o' out' whole at start
+        → Left (detailPostings (registerOf text) b (walked (k - 1) (from s (j .detail .next)))) o' out' whole at start
     credits-more e u = left-turn (rw (credits-step e) at l) u
 
     pub credits-stop : j .detail .ok ≡ false → Wrote whole at start o out
     unfolding detailPostings
-    credits-stop e = left-none (rw (details-stop s p k (j .detail) (w .detail) h e) at l)
+    credits-stop e = left-none (rw (walked-stop s p (j .detail) (w .detail) k h e) at l)
 
   pub credits-end : k ≤ 0 → Wrote whole at start o out
   unfolding detailPostings
-  credits-end h = left-none (rw (details-none k (from s p) h) at l)
+  credits-end h = left-none (rw (walked-none k (from s p) h) at l)
 
 pub ruleset crediting = (left-length, listed, listed-line, posting-returned, posting-credited, credits-more, credits-stop, credits-end)

@@ -15,7 +15,7 @@ ghost use Rattle.rules.specs.Calls.{detailPostings};
 ghost use Rattle.laws.specs.Parts.{from};
 ghost use Rattle.laws.specs.Writing.{Wrote};
 ghost use Rattle.verdict.specs.Answers.{verdictOf};
-ghost use Rattle.outgoing.specs.Details.{detailsAt};
+ghost use Rattle.conditions.specs.Walk.{walked};
 ghost use Rattle.outgoing.specs.Postings.{Listed, bookBy, verdictPosting};
 
 // The posting line of an amount by its verdict: a credit, or a return.
@@ -55,7 +55,7 @@ pub fn put_detail_postings(
     requires { ⌜ 22 ≤ length (now text) ⌝ }
     requires { ⌜ first ≤ length (now s) ⌝ }
     requires { ⌜ length (now s) ≤ 4096 ⌝ }
-    ensures { λ r. ⌜ Wrote (detailPostings (registerOf (now (text .entry))) (bookBy (now (text .entry)) book) (detailsAt count (from (now (s .entry)) first))) at (now (out .entry)) r (now (out .exit)) ⌝ }
+    ensures { λ r. ⌜ Wrote (detailPostings (registerOf (now (text .entry))) (bookBy (now (text .entry)) book) (walked count (from (now (s .entry)) first))) at (now (out .entry)) r (now (out .exit)) ⌝ }
 {
     let mut o = at;
     let mut p = first;

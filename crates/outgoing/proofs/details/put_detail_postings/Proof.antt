@@ -9,12 +9,12 @@ use Rattle.laws.specs.Pieces.{left-all}
 use Rattle.laws.specs.Writing.{Left}
 use Rattle.laws.specs.Parts.{from}
 use Rattle.outgoing.specs.Postings.{bookBy, crediting}
-use Rattle.outgoing.specs.Details.{detailsAt}
+use Rattle.conditions.specs.Walk.{walked}
 use Rattle.outgoing.proofs.details.put_detail_postings.Statement.{statement}
 use Rattle.outgoing.proofs.details.put_detail_postings.Tie as tie
 
 abbrev Inv-loop : tie.InvT-loop
-Inv-loop out₀ at book text s first count o₀ p₀ k₀ out o p k = (p ≤ length s) × Left (detailPostings (registerOf text) (bookBy text book) (detailsAt k (from s p))) o out (detailPostings (registerOf text) (bookBy text book) (detailsAt count (from s first))) at out₀
+Inv-loop out₀ at book text s first count o₀ p₀ k₀ out o p k = (p ≤ length s) × Left (detailPostings (registerOf text) (bookBy text book) (walked k (from s p))) o out (detailPostings (registerOf text) (bookBy text book) (walked count (from s first))) at out₀
 
 abbrev μ-loop : tie.MeasureT-loop
 μ-loop out₀ at book text s first count o₀ p₀ k₀ out o p k = k

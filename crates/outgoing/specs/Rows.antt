@@ -1,0 +1,49 @@
+-- The rows of a returned detail, off the parts of its lines. Assumes nothing.
+use mathlib.Core.Path.{_≡_}
+use mathlib.Core.List.{List, _++_}
+use Prim.Native.Nat.{ℕ, _+_, _-_, _≤_, _<_}
+use native.Mathlib.Omega.{arith}
+use lib.ListN.{getD, take, drop}
+use lib.Seq.{take-all}
+use Rattle.rules.specs.Text.{ascii}
+use Rattle.rules.specs.Written.{returnedRows}
+use Rattle.laws.specs.Parts.{cut, cut-take, cut-length}
+use Rattle.laws.specs.Writing.{Wrote}
+use Rattle.forms.specs.Spans.{spanOf, noSpan, SpanIn, held-line}
+use Rattle.forms.specs.Fields.{Behind, behind-in, behind-bytes}
+use Rattle.forms.specs.Details.{detailHeld}
+use Rattle.forms.specs.declared.rows.Span.{Span}
+use Rattle.forms.specs.declared.detail.Detail as F
+
+-- ---- what stands behind the first k bytes of a line, or n bytes of it
+
+module _ (s : List ℕ) (p q : Span) (k : ℕ) (w : SpanIn s p) (b : Behind p k q) where
+  bytes : spanOf s q ≡ drop k (spanOf s p)
+  bytes = behind-bytes s p k w q b
+
+  within : SpanIn s q
+  within = behind-in s p k w q b
+
+  module _ {at r : ℕ} {out out' : List ℕ} where
+    pub behind-wrote : Wrote (cut s (q .start) (q .end)) at out r out' → Wrote (drop k (spanOf s p)) at out r out'
+    behind-wrote v = rw (← bytes) v
+
+    pub front-short : (n : ℕ) → q .end - q .start ≤ n → Wrote (cut s (q .start) (q .end)) at out r out' → Wrote (take n (drop k (spanOf s p))) at out r out'
+    front-short n h v = rw (← bytes, take-all n (spanOf s q) (rw (cut-length s (q .start) (q .end) (within .room)) h)) v
+
+    pub front-long : (n : ℕ) → n < q .end - q .start → Wrote (cut s (q .start) (q .start + n)) at out r out' → Wrote (take n (drop k (spanOf s p))) at out r out'
+    front-long n h v = rw (← bytes, cut-take s (q .start) (q .end) n (omega (arith, h))) v
+
+-- ---- the two rows
+
+-- 52D's BAE, a slash, BAEREF's date, a slash
+abbrev pub rowFront : List ℕ → Span → Span → List ℕ
+rowFront s branch baeref = take 8 (drop 5 (spanOf s branch)) ++ ascii "/" ++ take 6 (drop 6 (spanOf s baeref)) ++ ascii "/"
+
+-- off the lines of 52D, 59 and BAEREF
+abbrev pub rowsOf : List ℕ → Span → Span → Span → List ℕ
+rowsOf s branch account baeref = (rowFront s branch baeref ++ drop 12 (spanOf s baeref) ++ ascii "\r\n") ++ (drop 5 (spanOf s account) ++ ascii "\r\n")
+
+pub rows-held : (s : List ℕ) (d : F.Detail) → rowsOf s (getD (d .spans) 7 noSpan) (getD (d .spans) 9 noSpan) (getD (d .spans) 14 noSpan) ≡ returnedRows (detailHeld s d)
+unfolding returnedRows
+rows-held s d = rw (held-line s (d .spans) 17 7 (omega arith), held-line s (d .spans) 17 9 (omega arith), held-line s (d .spans) 17 14 (omega arith))
