@@ -12,7 +12,7 @@ ghost use Rattle.laws.specs.Writing.{Wrote};
 
 // Field 21, from part 2 on: part 1's reference. n is the number before part 1's.
 fn put_linked(out: &mut [u8], at: usize, day: u32, n: u32, part: u32) -> usize
-    requires { ⌜ n + part < 4294967296 ⌝ }
+    requires { ⌜ n + 1 < 4294967296 ⌝ }
     ensures { λ r. ⌜ Wrote (linked day n part) at (now (out .entry)) r (now (out .exit)) ⌝ }
 {
     if part < 2 {
@@ -21,13 +21,21 @@ fn put_linked(out: &mut [u8], at: usize, day: u32, n: u32, part: u32) -> usize
     put_reference_field(out, at, b":21:", day, n + 1)
 }
 
-// First line, field 20 and field 21 of a part.
-pub fn put_opened199(out: &mut [u8], at: usize, day: u32, n: u32, bank: u64, part: u32) -> usize
-    requires { ⌜ n + part < 4294967296 ⌝ }
-    ensures { λ r. ⌜ Wrote (opened (ascii "199") bank ++ field (ascii ":20:") (reference day (n + part)) ++ linked day n part) at (now (out .entry)) r (now (out .exit)) ⌝ }
+// First line, field 20 with the part's own number, and field 21.
+pub fn put_opened199(
+    out: &mut [u8],
+    at: usize,
+    day: u32,
+    n: u32,
+    number: u32,
+    bank: u64,
+    part: u32,
+) -> usize
+    requires { ⌜ n + 1 < 4294967296 ⌝ }
+    ensures { λ r. ⌜ Wrote (opened (ascii "199") bank ++ field (ascii ":20:") (reference day number) ++ linked day n part) at (now (out .entry)) r (now (out .exit)) ⌝ }
 {
     let a = put_opened(out, at, b"199", bank);
-    let b = put_reference_field(out, a, b":20:", day, n + part);
+    let b = put_reference_field(out, a, b":20:", day, number);
     put_linked(out, b, day, n, part)
 }
 

@@ -13,9 +13,6 @@ put-opened-requires c κs = search needs
 slice-aggregate-put-reference-field : tie.Need-slice-aggregate-put-reference-field
 slice-aggregate-put-reference-field c = search needs
 
-add-put-reference-field : tie.Need-add-put-reference-field
-add-put-reference-field c = search needs
-
 put-reference-field-requires : tie.Need-put-reference-field-requires
 put-reference-field-requires c κs = search needs
 
@@ -35,7 +32,6 @@ put-opened199-spec =
     slice-aggregate-put-opened
     put-opened-requires
     slice-aggregate-put-reference-field
-    add-put-reference-field
     put-reference-field-requires
     put-linked-requires
     same-length

@@ -1,0 +1,104 @@
+-- `detail_lines::returned::put_returned` meets its contract. The loop's invariant: the rows of m returned details from p on are left to write. Assumes nothing.
+use Prim.Native.Nat.{_≤_}
+use native.Mathlib.Omega.{arith}
+use lib.ListN.{length, take}
+use borrow.Author.Needs.{needs}
+use Rattle.rules.specs.Written.{allReturned}
+use Rattle.laws.specs.Pieces.{left-all}
+use Rattle.laws.specs.Writing.{Left}
+use Rattle.detail_lines.specs.Returned.{returnedAt, returning}
+use Rattle.detail_lines.proofs.returned.put_returned.Statement.{statement}
+use Rattle.detail_lines.proofs.returned.put_returned.Tie as tie
+
+abbrev Inv-loop : tie.InvT-loop
+Inv-loop out₀ at text s first count most o₀ p₀ k₀ m₀ out o p k m = (p ≤ length s) × Left (allReturned (take m (returnedAt text s p k))) o out (allReturned (take most (returnedAt text s first count))) at out₀
+
+abbrev μ-loop : tie.MeasureT-loop
+μ-loop out₀ at text s first count most o₀ p₀ k₀ m₀ out o p k m = k
+
+loop-holds : tie.Need-loop-holds Inv-loop μ-loop
+loop-holds c = (omega arith, left-all _ (omega arith))
+
+same-length : tie.Need-same-length Inv-loop μ-loop
+same-length c = search (returning, needs)
+
+returns : tie.Need-returns Inv-loop μ-loop
+returns c = search (returning, needs)
+
+judge-detail-requires : tie.Need-judge-detail-requires Inv-loop μ-loop
+judge-detail-requires c κs = search (returning, needs)
+
+is-returned-requires : tie.Need-is-returned-requires Inv-loop μ-loop
+is-returned-requires c κs = search (returning, needs)
+
+array-copy-out-put-returned-rows : tie.Need-array-copy-out-put-returned-rows Inv-loop μ-loop
+array-copy-out-put-returned-rows c = search (returning, needs)
+
+array-copy-out-put-returned-rows-2 : tie.Need-array-copy-out-put-returned-rows-2 Inv-loop μ-loop
+array-copy-out-put-returned-rows-2 c = search (returning, needs)
+
+array-copy-out-put-returned-rows-3 : tie.Need-array-copy-out-put-returned-rows-3 Inv-loop μ-loop
+array-copy-out-put-returned-rows-3 c = search (returning, needs)
+
+put-returned-rows-requires : tie.Need-put-returned-rows-requires Inv-loop μ-loop
+put-returned-rows-requires c κs = search (returning, needs)
+
+sub-m : tie.Need-sub-m Inv-loop μ-loop
+sub-m c = search (returning, needs)
+
+sub-k : tie.Need-sub-k Inv-loop μ-loop
+sub-k c = search (returning, needs)
+
+loop-less : tie.Need-loop-less Inv-loop μ-loop
+loop-less c = search (returning, needs)
+
+loop-again : tie.Need-loop-again Inv-loop μ-loop
+loop-again c = search (returning, needs)
+
+sub-k-2 : tie.Need-sub-k-2 Inv-loop μ-loop
+sub-k-2 c = search (returning, needs)
+
+loop-less-2 : tie.Need-loop-less-2 Inv-loop μ-loop
+loop-less-2 c = search (returning, needs)
+
+loop-again-2 : tie.Need-loop-again-2 Inv-loop μ-loop
+loop-again-2 c = search (returning, needs)
+
+same-length-2 : tie.Need-same-length-2 Inv-loop μ-loop
+same-length-2 c = search (returning, needs)
+
+returns-2 : tie.Need-returns-2 Inv-loop μ-loop
+returns-2 c = search (returning, needs)
+
+same-length-3 : tie.Need-same-length-3 Inv-loop μ-loop
+same-length-3 c = search (returning, needs)
+
+returns-3 : tie.Need-returns-3 Inv-loop μ-loop
+returns-3 c = search (returning, needs)
+
+pub put-returned-spec : {M : Type 1} → statement M
+put-returned-spec =
+    tie.close
+    (tie.spec
+    Inv-loop
+    μ-loop
+    loop-holds
+    same-length
+    returns
+    judge-detail-requires
+    is-returned-requires
+    array-copy-out-put-returned-rows
+    array-copy-out-put-returned-rows-2
+    array-copy-out-put-returned-rows-3
+    put-returned-rows-requires
+    sub-m
+    sub-k
+    loop-less
+    loop-again
+    sub-k-2
+    loop-less-2
+    loop-again-2
+    same-length-2
+    returns-2
+    same-length-3
+    returns-3)

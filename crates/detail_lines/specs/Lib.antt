@@ -1,0 +1,4 @@
+pub mod Details
+pub mod Postings
+pub mod Rows
+pub mod Returned

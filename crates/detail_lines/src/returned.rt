@@ -1,0 +1,136 @@
+// The returned details of a message: counted, passed, and their rows written.
+use crate::rows::put_returned_rows;
+use verdict::Verdict;
+use verdict::judge_detail;
+ghost use mathlib.Core.Path.{_≡_};
+ghost use mathlib.Core.Bool.{true};
+ghost use Prim.Native.Nat.{_≤_};
+ghost use lib.ListN.{length, take};
+ghost use Rattle.rules.specs.Text.{isSome};
+ghost use Rattle.rules.specs.Register.{register};
+ghost use Rattle.rules.specs.Verdict.{isReturned};
+ghost use Rattle.rules.specs.Written.{allReturned};
+ghost use Rattle.laws.specs.Writing.{Wrote};
+ghost use Rattle.verdict.specs.Answers.{verdictOf};
+ghost use Rattle.detail_lines.specs.Returned.{returnedAt, ReturnedCount, Passed};
+
+// Does the verdict return the detail?
+fn is_returned(v: Verdict) -> bool
+    ensures { λ r. ⌜ r ≡ isReturned (verdictOf v) ⌝ }
+{
+    match v {
+        Verdict::Credited(_) => false,
+        Verdict::Returned(_) => true,
+    }
+}
+
+// How many of count details, from the place first on, are returned.
+pub fn count_returned(text: &[u8], s: &[u8], first: usize, count: usize) -> usize
+    requires { ⌜ isSome (register (now text)) ≡ true ⌝ }
+    requires { ⌜ first ≤ length (now s) ⌝ }
+    requires { ⌜ length (now s) ≤ 4096 ⌝ }
+    ensures { λ r. ⌜ ReturnedCount (now (text .entry)) (now (s .entry)) first count r ⌝ }
+{
+    let mut n: usize = 0;
+    let mut p = first;
+    let mut k = count;
+    while k > 0 {
+        let j = judge_detail(text, s, p);
+        if j.detail.ok {
+            let v = j.verdict;
+            if is_returned(v) {
+                n += 1;
+                p = j.detail.next;
+                k -= 1;
+            } else {
+                p = j.detail.next;
+                k -= 1;
+            }
+        } else {
+            return n;
+        }
+    }
+    n
+}
+
+// Where a walk over details goes on, and how many are left.
+pub struct Place {
+    pub at: usize,
+    pub left: usize,
+}
+
+// The place behind the first `most` returned details.
+pub fn pass_returned(text: &[u8], s: &[u8], first: usize, count: usize, most: usize) -> Place
+    requires { ⌜ isSome (register (now text)) ≡ true ⌝ }
+    requires { ⌜ first ≤ length (now s) ⌝ }
+    requires { ⌜ length (now s) ≤ 4096 ⌝ }
+    ensures { λ r. ⌜ Passed (now (text .entry)) (now (s .entry)) first count most (r .at) (r .left) ⌝ }
+{
+    let mut i = most;
+    let mut p = first;
+    let mut k = count;
+    while k > 0 {
+        if i == 0 {
+            return Place { at: p, left: k };
+        }
+        let j = judge_detail(text, s, p);
+        if j.detail.ok {
+            let v = j.verdict;
+            if is_returned(v) {
+                i -= 1;
+                p = j.detail.next;
+                k -= 1;
+            } else {
+                p = j.detail.next;
+                k -= 1;
+            }
+        } else {
+            return Place { at: p, left: 0 };
+        }
+    }
+    Place { at: p, left: 0 }
+}
+
+// The rows of the returned of count details, `most` of them at most.
+pub fn put_returned(
+    out: &mut [u8],
+    at: usize,
+    text: &[u8],
+    s: &[u8],
+    first: usize,
+    count: usize,
+    most: usize,
+) -> usize
+    requires { ⌜ isSome (register (now text)) ≡ true ⌝ }
+    requires { ⌜ first ≤ length (now s) ⌝ }
+    requires { ⌜ length (now s) ≤ 4096 ⌝ }
+    ensures { λ r. ⌜ Wrote (allReturned (take most (returnedAt (now (text .entry)) (now (s .entry)) first count))) at (now (out .entry)) r (now (out .exit)) ⌝ }
+{
+    let mut o = at;
+    let mut p = first;
+    let mut k = count;
+    let mut m = most;
+    while k > 0 {
+        if m == 0 {
+            return o;
+        }
+        let j = judge_detail(text, s, p);
+        if j.detail.ok {
+            let v = j.verdict;
+            if is_returned(v) {
+                let d = j.detail;
+                let spans = d.spans;
+                o = put_returned_rows(out, o, s, spans[7], spans[9], spans[14]);
+                m -= 1;
+                p = j.detail.next;
+                k -= 1;
+            } else {
+                p = j.detail.next;
+                k -= 1;
+            }
+        } else {
+            return o;
+        }
+    }
+    o
+}
