@@ -3,11 +3,12 @@ use mathlib.Core.Path.{_≡_, refl, sym, ap, _∙_}
 use mathlib.Core.Bool.{Bool, true, false, cond, not}
 use mathlib.Core.List.{List, [], _∷_, _++_}
 use mathlib.Core.Option.{Option, none, some}
-use Prim.Native.Nat.{ℕ, _+_, _≤_, _<_}
+use Prim.Native.Nat.{ℕ, _+_, _≤_, _<_, _^_}
 use borrow.Author.Tests.{le-leb, lt-leb, leb-false, ne-eqb, not-false}
-use lib.Dec.{leb, eqb}
+use lib.Dec.{leb, eqb, lit<}
 use lib.IntN.{ℤ, pos, subℕ}
 use native.Mathlib.Omega.{arith}
+use lib.Signed.{mag}
 use lib.ListN.{length, getD, take, drop}
 use Rattle.rules.specs.Text.{isSome, over}
 use Rattle.rules.specs.Messages.{Message, read}
@@ -34,8 +35,9 @@ use Rattle.conditions.specs.declared.message.OrderParts.{OrderParts}
 use Rattle.rules.specs.Lines.{framed}
 use Rattle.state.specs.Books.{Books, messageIn, amountIf}
 use Rattle.state.specs.declared.booking.Booking.{Booking}
-use Rattle.state.specs.Stops.{limitStops}
+use Rattle.state.specs.Stops.{limitStops, added-small, summed-small}
 use Rattle.card.specs.Answers.{Answers}
+use Rattle.card.specs.Minus.{difference-small}
 use Rattle.card.specs.Stops.{numbered, first-later, first-earlier}
 use Rattle.card.specs.Held.{held-decode, wrote-exact, Measured, measured, size-long, size-fits}
 
@@ -46,7 +48,7 @@ temporaryOf e = registerOf (e .register) .temporary
 module _ (s area out : List ℕ) where
   refusal : (k : ℕ) → firstOf (messageStops (length out) (holds area) s) ≡ k → eqb k 0 ≡ false → Answers (cardMessage s area out) k 0 (pos 0) area out
   unfolding cardMessage messageCall onAreas
-  refusal k e n = record { number = rw (e, n, n) refl; written = rw (e, n, n) refl; difference = rw (e, n, n) refl; area = rw (e, n, n) refl; output = rw (e, n, n) refl }
+  refusal k e n = record { number = rw (e, n, n) refl; written = rw (e, n, n) refl; difference = rw (e, n, n) refl; area = rw (e, n, n) refl; output = rw (e, n, n) refl; small = lit< tt }
 
   pub message-engine : isSome (holds area) ≡ false → Answers (cardMessage s area out) 10 0 (pos 0) area out
   unfolding firstOf messageStops
@@ -90,10 +92,10 @@ module _ (s area out : List ℕ) where
 
       pub message-accepted : {n : ℕ} {d : ℤ} {area' out' : List ℕ} → firstOf (limitStops e m) ≡ 0 → length (messageText e m) ≤ length out
           → n ≡ length (messageText e m) → d ≡ subℕ (after e m .transferred) (after e m .detailed)
-          → area' ≡ encode (afterMessage e m) ++ drop 6144 area → out' ≡ over (messageText e m) out
+          → area' ≡ encode (afterMessage e m) ++ drop 6144 area → out' ≡ over (messageText e m) out → mag d < 2 ^ 63
           → Answers (cardMessage s area out) 0 n d area' out'
       unfolding onAreas acceptedMessage stored
-      message-accepted l w p q a o = rw (accepted l w) record { number = refl; written = p; difference = q; area = a; output = o }
+      message-accepted l w p q a o m₁ = rw (accepted l w) record { number = refl; written = p; difference = q; area = a; output = o; small = m₁ }
 
 -- ---- as the code goes: the engine is what is read off the area, the message what is read off the bytes
 
@@ -103,6 +105,7 @@ pub record Sent (s a out : List ℕ) (n : ℕ) (z : ℤ) (a' out' : List ℕ) : 
   pub difference : z ≡ subℕ (after (decode a) (messageIn s) .transferred) (after (decode a) (messageIn s) .detailed)
   pub area : a' ≡ encode (afterMessage (decode a) (messageIn s)) ++ drop 6144 a
   pub output : out' ≡ over (messageText (decode a) (messageIn s)) out
+  pub small : mag z < 2 ^ 63
 
 module _ (s area : List ℕ) (h : isSome (holds area) ≡ true) (b : Booking) (k : Books s b) where
   engine : holds area ≡ some (decode area)
@@ -135,6 +138,7 @@ module _ (s area : List ℕ) (h : isSome (holds area) ≡ true) (b : Booking) (k
       difference = e ∙ rw (y .transferred, y .detailed, u, v, ← k .transferred, ← k .detailed, k .bank, k .date) refl;
       area = c ∙ rw (position-is, k .bank, k .reference, f, booked-after) refl;
       output = wrote-over w l;
+      small = rw e (difference-small (x .transferred + t) (x .detailed + d) (omega (arith, y .small, added-small b u (k .small))) (omega (arith, y .few, summed-small b v (k .small))));
     }
 
   -- ---- the ways out of a message that passed 1 to 8
@@ -158,7 +162,7 @@ module _ (s area : List ℕ) (h : isSome (holds area) ≡ true) (b : Booking) (k
 
       pub sent-made : {n₁ : ℕ} {z : ℤ} {a' out' : List ℕ} → r ≤ length out → length out < furthest → Sent s area out n₁ z a' out' → Answers (cardMessage s area out) 0 n₁ z a' out'
       sent-made m f c =
-          message-accepted s area out (decode area) engine (messageIn s) i (k .same) state-passes (sent-fits m f) (c .written) (c .difference) (c .area) (c .output)
+          message-accepted s area out (decode area) engine (messageIn s) i (k .same) state-passes (sent-fits m f) (c .written) (c .difference) (c .area) (c .output) (c .small)
 
 -- ---- the ways out of a message to an area that holds an engine
 

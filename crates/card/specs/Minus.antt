@@ -6,6 +6,7 @@ use native.Mathlib.Omega.{arith}
 use borrow.Author.Tests.{lt-ltb, le-ltb}
 use lib.Dec.{ltb}
 use lib.IntN.{ℤ, pos, negsuc, negℤ, subℕ, _-ℤ_, _+ℤ_}
+use lib.Signed.{mag}
 use mir.Val.{SFits, toZ, ofZ}
 use mir.Syntax.{w64}
 use mir.Facts.{toZ-pos, toZ-ofZ}
@@ -31,3 +32,11 @@ difference-fits a b h k = rw (toZ-pos w64 (small b a h), below (b - a) (b - suc 
 
 pub difference-down : (a b : ℕ) → b < 2 ^ 62 → a < b → toZ w64 (ofZ w64 (pos 0 -ℤ toZ w64 (b - a))) ≡ subℕ a b
 difference-down a b h k = toZ-ofZ (difference-fits a b h k) ∙ ap (λ (z : ℤ). pos 0 -ℤ z) (toZ-pos w64 (small b a h)) ∙ minus-lt a b k
+
+-- a difference of sums has room to spare
+pub difference-small : (a b : ℕ) → a < 2 ^ 62 → b < 2 ^ 62 → mag (subℕ a b) < 2 ^ 63
+difference-small a b h k = go (ltb a b)
+  where
+    go : (t : Bool) → mag (cond t (negsuc (b - suc a)) (pos (a - b))) < 2 ^ 63
+    go true = omega arith
+    go false = omega arith

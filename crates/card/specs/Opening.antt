@@ -5,7 +5,7 @@ use mathlib.Core.List.{List, [], _++_}
 use mathlib.Core.Option.{Option, none, some}
 use Prim.Native.Nat.{ℕ, _≤_, _<_}
 use borrow.Author.Tests.{le-leb, lt-leb}
-use lib.Dec.{leb, eqb}
+use lib.Dec.{leb, eqb, lit<}
 use lib.IntN.{ℤ, pos}
 use lib.ListN.{length, drop}
 use Rattle.rules.specs.Text.{isSome, over}
@@ -21,7 +21,7 @@ use Rattle.card.specs.Answers.{Answers}
 module _ (text : List ℕ) (day : ℕ) (area : List ℕ) where
   refusal : (k : ℕ) → firstOf (openStops (length area) text day) ≡ k → eqb k 0 ≡ false → Answers (cardOpen text day area) k 0 (pos 0) area []
   unfolding cardOpen openCall onAreas
-  refusal k e n = record { number = rw (e, n, n) refl; written = rw (e, n, n) refl; difference = rw (e, n, n) refl; area = rw (e, n, n) refl; output = rw (e, n, n) refl }
+  refusal k e n = record { number = rw (e, n, n) refl; written = rw (e, n, n) refl; difference = rw (e, n, n) refl; area = rw (e, n, n) refl; output = rw (e, n, n) refl; small = lit< tt }
 
   pub open-short : length area < 6144 → Answers (cardOpen text day area) 10 0 (pos 0) area []
   unfolding firstOf openStops
@@ -45,6 +45,7 @@ module _ (text : List ℕ) (day : ℕ) (area : List ℕ) where
         difference = rw (le-leb _ _ l, ← u, d, ← v, r) refl;
         area = rw (le-leb _ _ l, ← u, d, ← v, r) a;
         output = rw (le-leb _ _ l, ← u, d, ← v, r) refl;
+        small = lit< tt;
       }
 
 pub ruleset opening = (held-told, open-short, open-day, open-register, open-accepted)

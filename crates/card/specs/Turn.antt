@@ -3,10 +3,12 @@ use mathlib.Core.Path.{_≡_, refl, sym, ap, _∙_}
 use mathlib.Core.Bool.{Bool, true, false, cond, not}
 use mathlib.Core.List.{List, [], _∷_, _++_}
 use mathlib.Core.Option.{Option, none, some}
-use Prim.Native.Nat.{ℕ, _≤_, _<_}
+use Prim.Native.Nat.{ℕ, _≤_, _<_, _^_}
 use borrow.Author.Tests.{le-leb, lt-leb}
-use lib.Dec.{leb, eqb}
+use lib.Dec.{leb, eqb, lit<}
 use lib.IntN.{ℤ, pos, subℕ}
+use native.Mathlib.Omega.{arith}
+use lib.Signed.{mag}
 use lib.ListN.{length, drop}
 use Rattle.rules.specs.Text.{isSome, over}
 use Rattle.rules.specs.Dates.{exists}
@@ -22,11 +24,12 @@ use Rattle.steps.specs.Numbers.{NumbersOf}
 use Rattle.steps.specs.declared.parts.Numbers.{Numbers}
 use Rattle.card.specs.Held.{held-decode, wrote-exact, Measured, measured, size-long, size-fits}
 use Rattle.card.specs.Answers.{Answers}
+use Rattle.card.specs.Minus.{difference-small}
 
 module _ (day : ℕ) (area out : List ℕ) where
   refusal : (k : ℕ) → firstOf (turnStops (length out) (holds area) day) ≡ k → eqb k 0 ≡ false → Answers (cardTurn day area out) k 0 (pos 0) area out
   unfolding cardTurn turnCall onAreas
-  refusal k e n = record { number = rw (e, n, n) refl; written = rw (e, n, n) refl; difference = rw (e, n, n) refl; area = rw (e, n, n) refl; output = rw (e, n, n) refl }
+  refusal k e n = record { number = rw (e, n, n) refl; written = rw (e, n, n) refl; difference = rw (e, n, n) refl; area = rw (e, n, n) refl; output = rw (e, n, n) refl; small = lit< tt }
 
   pub turn-engine : isSome (holds area) ≡ false → Answers (cardTurn day area out) 10 0 (pos 0) area out
   unfolding firstOf turnStops
@@ -55,10 +58,10 @@ module _ (day : ℕ) (area out : List ℕ) where
 
     pub turn-accepted : {n : ℕ} {z : ℤ} {area' out' : List ℕ} → exists day ≡ true → e .day < day → length (turnText e day) ≤ length out
         → n ≡ length (turnText e day) → z ≡ subℕ (refunded (e .positions)) (collected (e .positions))
-        → area' ≡ encode (afterTurn e day) ++ drop 6144 area → out' ≡ over (turnText e day) out
+        → area' ≡ encode (afterTurn e day) ++ drop 6144 area → out' ≡ over (turnText e day) out → mag z < 2 ^ 63
         → Answers (cardTurn day area out) 0 n z area' out'
     unfolding onAreas acceptedTurn stored
-    turn-accepted d l w p q a o = rw (accepted d l w) record { number = refl; written = p; difference = q; area = a; output = o }
+    turn-accepted d l w p q a o m = rw (accepted d l w) record { number = refl; written = p; difference = q; area = a; output = o; small = m }
 
 -- ---- as the code goes: the engine is what is read off the area
 
@@ -68,6 +71,7 @@ pub record Turned (day : ℕ) (a out : List ℕ) (n : ℕ) (z : ℤ) (a' out' : 
   pub difference : z ≡ subℕ (refunded (decode a .positions)) (collected (decode a .positions))
   pub area : a' ≡ encode (afterTurn (decode a) day) ++ drop 6144 a
   pub output : out' ≡ over (turnText (decode a) day) out
+  pub small : mag z < 2 ^ 63
 
 -- its text written, its sums, and the area turned
 pub turned-done : (day : ℕ) {a out out' a' : List ℕ} {r : ℕ} {z : ℤ} (x : Sums) → length (turnText (decode a) day) ≤ length out → Wrote (turnText (decode a) day) 0 out r out'
@@ -77,6 +81,7 @@ turned-done day {a} x l w t d c = record {
   difference = d ∙ rw (t .refunded, t .collected) refl;
   area = c ∙ rw (t .count, turned-after (decode a) day) refl;
   output = wrote-over w l;
+  small = rw d (difference-small (x .refunded) (x .collected) (omega (arith, t .small)) (omega (arith, t .little)));
 }
 
 module _ (day : ℕ) (area out : List ℕ) (h : isSome (holds area) ≡ true) where
@@ -104,7 +109,7 @@ module _ (day : ℕ) (area out : List ℕ) (h : isSome (holds area) ≡ true) wh
         pub turn-made : {n₁ : ℕ} {z : ℤ} {area' out' : List ℕ} → r ≤ length out → length out < furthest → Turned day area out n₁ z area' out'
             → Answers (cardTurn day area out) 0 n₁ z area' out'
         turn-made k m c =
-            turn-accepted day area out (decode area) engine (sym u ∙ d) later (turn-fits k m) (c .written) (c .difference) (c .area) (c .output)
+            turn-accepted day area out (decode area) engine (sym u ∙ d) later (turn-fits k m) (c .written) (c .difference) (c .area) (c .output) (c .small)
 
 -- 10
 pub turn-no-engine : (day : ℕ) (area out : List ℕ) (t : Bool) → t ≡ isSome (holds area) → t ≡ false → Answers (cardTurn day area out) 10 0 (pos 0) area out

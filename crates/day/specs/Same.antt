@@ -26,6 +26,7 @@ pub record Same (a : Answer) (r : Result) (area out : List ℕ) : Type 0 where
   pub next : holds (r .area) ≡ a .next
   pub size : length (r .area) ≡ length area
   pub room : length (r .output) ≡ length out
+  pub fits : r .written ≤ length out
 
 over-length : (text out : List ℕ) → length text ≤ length out → length (over text out) ≡ length out
 unfolding over
@@ -40,7 +41,7 @@ on-zero a area out z = rw (eq-eqb _ _ z)
 module _ (k : ℕ) (area out : List ℕ) (n : eqb k 0 ≡ false) where
   same-refused : Same (refused k (holds area)) (onAreas (refused k (holds area)) area out) area out
   unfolding onAreas
-  same-refused = record { number = rw n; difference = rw n; text = rw n; next = rw n; size = rw n; room = rw n }
+  same-refused = record { number = rw n; difference = rw n; text = rw n; next = rw n; size = rw n; room = rw n; fits = rw n (omega arith) }
 
 -- accepted
 same-done : {r : Result} {area out text : List ℕ} {d : ℤ} {next : Engine} → r .number ≡ 0 → 6144 ≤ length area → length text ≤ length out → Done r area out text d next
@@ -52,6 +53,7 @@ same-done {out = out} {text = text} z l f w = record {
   next = done-holds w;
   size = done-length w l;
   room = ap length (w .output) ∙ over-length text out f;
+  fits = rw (w .written) f;
 }
 
 module _ (area : List ℕ) (l : 6144 ≤ length area) where

@@ -1,0 +1,90 @@
+-- What the card answered to a command, as document 01's calls on an engine say it, and how it is printed. Assumes nothing.
+use mathlib.Core.Path.{_≡_, refl, sym, ap, _∙_}
+use mathlib.Core.List.{List, [], _∷_, _++_}
+use Prim.Native.Nat.{ℕ, _+_, _-_, _≤_, _<_, _^_}
+use native.Mathlib.Omega.{arith}
+use lib.IntN.{ℤ}
+use lib.Signed.{mag}
+use lib.ListN.{length, take, drop}
+use mir.Val.{SFits, toZ, ofZ}
+use mir.Syntax.{w64}
+use mir.Facts.{toZ-ofZ}
+use Rattle.rules.specs.Text.{ascii, decimal}
+use Rattle.rules.specs.Calls.{Answer, openCall, messageCall, turnCall}
+use Rattle.rules.specs.Replay.{signed, printed}
+use Rattle.rules.specs.Area.{holds, Result, cardOpen, cardMessage, cardTurn}
+use Rattle.laws.specs.Parts.{cut, from, from-take}
+use Rattle.laws.specs.Writing.{Wrote, wrote-then}
+use Rattle.card.specs.Answers.{Answers}
+use Rattle.day.specs.Same.{Same, same-open, same-message, same-turn}
+use Rattle.day.specs.declared.call.Outcome.{Outcome}
+
+-- the outcome, and area and output then, are the answer's
+pub record Told (a : Answer) (o : Outcome) (area area' out out' : List ℕ) : Type 0 where
+  pub number : o .number ≡ a .number
+  pub difference : o .difference ≡ a .difference
+  pub text : take (o .written) out' ≡ a .text
+  pub next : holds area' ≡ a .next
+  pub size : length area' ≡ length area
+  pub room : length out' ≡ length out
+  pub fits : o .written ≤ length out'
+  pub small : mag (o .difference) < 2 ^ 63
+
+-- "It prints the number and the difference, then the output"
+unfoldable pub answerText : Outcome → List ℕ → List ℕ
+answerText o out = decimal (o .number) ++ ascii "," ++ signed (o .difference) ++ ascii "\r\n" ++ take (o .written) out
+
+pub answer-printed : {a : Answer} {o : Outcome} {area area' out out' : List ℕ} → Told a o area area' out out' → answerText o out' ≡ printed a
+unfolding answerText printed
+answer-printed t = rw (t .number, t .difference, t .text) refl
+
+pub answer-wrote : (a : Outcome) (out : List ℕ) → mag (a .difference) < 2 ^ 63 → {at m₁ m₂ m₃ m₄ r : ℕ} {o o₁ o₂ o₃ o₄ o₅ : List ℕ} → Wrote (decimal (a .number)) at o m₁ o₁ → Wrote (44 ∷ []) m₁ o₁ m₂ o₂
+    → Wrote (signed (toZ w64 (ofZ w64 (a .difference)))) m₂ o₂ m₃ o₃ → Wrote (ascii "\r\n") m₃ o₃ m₄ o₄ → Wrote (cut out 0 (a .written)) m₄ o₄ r o₅ → Wrote (answerText a out) at o r o₅
+unfolding answerText cut
+answer-wrote a out f u v w x y = wrote-then (wrote-then (wrote-then (wrote-then u v) (rw (toZ-ofZ record { sfits = f }) at w)) x) y
+
+part-is : (s : List ℕ) (a b : ℕ) → a ≤ b → cut s a b ≡ take (b - a) (drop a s)
+unfolding from
+part-is s a b h = let e : a + (b - a) ≡ b = omega arith in sym (rw e at (from-take s a (b - a)))
+
+module _ (area : List ℕ) (l : 6144 ≤ length area) {k n : ℕ} {d : ℤ} {area' : List ℕ} where
+  told : (a : Answer) (r : Result) {out out' : List ℕ} → Same a r area out → Answers r k n d area' out' → Told a (record { number = k; written = n; difference = toZ w64 (ofZ w64 d) }) area area' out out'
+  told a r {out} s w = record {
+    number = w .number ∙ s .number;
+    difference = toZ-ofZ record { sfits = w .small } ∙ w .difference ∙ s .difference;
+    text = rw (w .written, w .output) (s .text);
+    next = rw (w .area) (s .next);
+    size = rw (w .area) (s .size);
+    room = rw (w .output) (s .room);
+    fits = rw (w .written, w .output, s .room) (s .fits);
+    small = rw (toZ-ofZ record { sfits = w .small }) (w .small);
+  }
+
+  pub told-turn : (day : ℕ) (out : List ℕ) {out' : List ℕ} → Answers (cardTurn day area out) k n d area' out' → Told (turnCall (length out) (holds area) day) (record { number = k; written = n; difference = toZ w64 (ofZ w64 d) }) area area' out out'
+  told-turn day out w = told _ _ (same-turn area l out day) w
+
+  pub told-message : (input : List ℕ) (a b : ℕ) (out : List ℕ) {out' : List ℕ} → a ≤ b → Answers (cardMessage (take (b - a) (drop a input)) area out) k n d area' out' → Told (messageCall (length out) (holds area) (cut input a b)) (record { number = k; written = n; difference = toZ w64 (ofZ w64 d) }) area area' out out'
+  told-message input a b out h w = rw (part-is input a b h) (told _ _ (same-message area l out (take (b - a) (drop a input))) w)
+
+  -- opening writes nothing
+  opened-told : (text : List ℕ) (day : ℕ) (out : List ℕ) → Answers (cardOpen text day area) k n d area' [] → Told (openCall 6144 (holds area) text day) (record { number = k; written = n; difference = toZ w64 (ofZ w64 d) }) area area' out out
+  opened-told text day out w =
+      let s : Same (openCall 6144 (holds area) text day) (cardOpen text day area) area [] = same-open area l text day in
+      let y : cardOpen text day area .written ≡ 0 = omega (arith, s .fits) in
+      let z : n ≡ 0 = w .written ∙ y in record {
+        number = w .number ∙ s .number;
+        difference = toZ-ofZ record { sfits = w .small } ∙ w .difference ∙ s .difference;
+        text = rw z (rw y at (s .text));
+        next = rw (w .area) (s .next);
+        size = rw (w .area) (s .size);
+        room = refl;
+        fits = omega arith;
+        small = rw (toZ-ofZ record { sfits = w .small }) (w .small);
+      }
+
+  -- the text is a part of the input
+  pub told-open : (input : List ℕ) (a b day : ℕ) (out : List ℕ) → a ≤ b → Answers (cardOpen (take (b - a) (drop a input)) day area) k n d area' []
+      → Told (openCall 6144 (holds area) (cut input a b) day) (record { number = k; written = n; difference = toZ w64 (ofZ w64 d) }) area area' out out
+  told-open input a b day out h w = rw (part-is input a b h) (opened-told (take (b - a) (drop a input)) day out w)
+
+pub ruleset telling = (answer-wrote, told-turn, told-message, told-open)
