@@ -1,33 +1,25 @@
+-- The card's answer to an opening is that of the call on the engine; it writes nothing. Assumes nothing.
 use Rattle.day.specs.Told.{told-open}
 use Rattle.day.specs.Told.{telling}
 use borrow.Author.Needs.{needs}
 use Rattle.day.proofs.call.call_open.Statement.{statement}
 use Rattle.day.proofs.call.call_open.Tie as tie
-use Rattle.day.proofs.call.call_open.Reads as reads
-use Rattle.day.proofs.call.call_open.Lts as lts
-use Rattle.card.proofs.card_open.Reads as card-open-reads
 
--- src/call.rt:25:34
 sub-card-open : tie.Need-sub-card-open
 sub-card-open c = search (telling, needs)
 
--- src/call.rt:25:34
 part-card-open-start : tie.Need-part-card-open-start
 part-card-open-start c = search (telling, needs)
 
--- src/call.rt:25:34
 part-card-open-end : tie.Need-part-card-open-end
 part-card-open-end c = search (telling, needs)
 
--- src/call.rt:25:9
 card-open-requires : tie.Need-card-open-requires
 card-open-requires c κs = search (telling, needs)
 
--- src/call.rt:17:1
 same-length : tie.Need-same-length
 same-length c = search (telling, needs)
 
--- src/call.rt:17:1
 returns : tie.Need-returns
 returns c = told-open _ (c .before .before .before .before .before .before .before .before .before .before .pre .1 .1) _ _ _ _ _ (c .before .before .before .before .before .before .before .before .before .before .pre .0) (c .before .before .card-open .ensures)
 

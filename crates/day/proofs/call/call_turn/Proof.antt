@@ -1,25 +1,19 @@
+-- The card's answer to a turn is that of the call on the engine. Assumes nothing.
 use Rattle.day.specs.Told.{told-turn}
 use Rattle.day.specs.Told.{telling}
 use borrow.Author.Needs.{needs}
 use Rattle.day.proofs.call.call_turn.Statement.{statement}
 use Rattle.day.proofs.call.call_turn.Tie as tie
-use Rattle.day.proofs.call.call_turn.Reads as reads
-use Rattle.day.proofs.call.call_turn.Lts as lts
-use Rattle.card.proofs.card_turn.Reads as card-turn-reads
 
--- src/call.rt:40:9
 card-turn-requires : tie.Need-card-turn-requires
 card-turn-requires c κs = search (telling, needs)
 
--- src/call.rt:34:1
 same-length : tie.Need-same-length
 same-length c = search (telling, needs)
 
--- src/call.rt:34:1
 same-length-2 : tie.Need-same-length-2
 same-length-2 c = search (telling, needs)
 
--- src/call.rt:34:1
 returns : tie.Need-returns
 returns c = told-turn _ (c .before .before .before .before .before .before .before .before .before .before .before .pre) _ _ (c .before .before .before .before .card-turn .ensures)
 

@@ -1,0 +1,111 @@
+-- The replay of a day: the commands from a place of the input on, carried out one after the other. Assumes nothing.
+use mathlib.Core.Path.{_≡_, refl, sym, ap, _∙_, subst}
+use mathlib.Core.List.{List, [], _∷_, _++_}
+use mathlib.Core.Option.{Option, none, some}
+use mathlib.Core.Bool.{Bool, true, false}
+use Prim.Native.Nat.{ℕ, zero, suc, _+_, _-_, _≤_, _<_, _^_}
+use native.Mathlib.Omega.{arith}
+use lib.Signed.{mag}
+use lib.ListN.{length}
+use Rattle.rules.specs.Engine.{Engine}
+use Rattle.rules.specs.Calls.{Answer, openCall, messageCall, turnCall}
+use Rattle.rules.specs.Area.{holds}
+use Rattle.rules.specs.Replay as R
+use Rattle.rules.specs.Replay.{Commanded, command, called, printed, run, onward}
+use Rattle.laws.specs.Parts.{cut, from, from-all}
+use Rattle.laws.specs.Writing.{Wrote, Left, left-turn, left-none}
+use Rattle.commands.specs.Answers.{commandedOf, Placed, Commanding}
+use Rattle.commands.specs.declared.command.Command.{Command}
+use Rattle.commands.specs.declared.command.Command.the-variants.{Opens, Sends, Turns, End}
+use Rattle.day.specs.declared.call.Outcome.{Outcome}
+use Rattle.day.specs.Told.{Told, answerText, answer-printed}
+
+-- ---- one command
+
+-- the place behind a command
+unfoldable pub nextOf : Command → ℕ
+nextOf (Opens day a b) = b
+nextOf (Sends a b) = b
+nextOf (Turns day n) = n
+nextOf End = 0
+
+unfoldable pub isEnd : Command → Bool
+isEnd (Opens day a b) = false
+isEnd (Sends a b) = false
+isEnd (Turns day n) = false
+isEnd End = true
+
+-- the card's answer to a command
+unfoldable pub answerTo : List ℕ → Command → ℕ → Option Engine → Answer
+answerTo s (Opens day a b) room held = openCall 6144 held (cut s a b) day
+answerTo s (Sends a b) room held = messageCall room held (cut s a b)
+answerTo s (Turns day n) room held = turnCall room held day
+answerTo s End room held = turnCall room held 0
+
+module _ (s : List ℕ) (at k room : ℕ) (held : Option Engine) (h : 0 < k) where
+  run-next : run k room held (from s at) ≡ onward (command (from s at)) (λ c. printed (called room held (c .command)) ++ run (k - 1) room (called room held (c .command) .next) (c .others))
+  unfolding run
+  run-next = go k h
+    where
+      go : (k : ℕ) → 0 < k → run k room held (from s at) ≡ onward (command (from s at)) (λ c. printed (called room held (c .command)) ++ run (k - 1) room (called room held (c .command) .next) (c .others))
+      go zero l = absurd (omega arith)
+      go (suc k) l = let e : suc k - 1 ≡ k = omega arith in rw e refl
+
+  -- where there is none
+  run-ends : command (from s at) ≡ none → run k room held (from s at) ≡ []
+  unfolding onward
+  run-ends e = run-next ∙ rw e refl
+
+  -- where there is one
+  run-goes : (c : Command) → Commanding s (command (from s at)) c → isEnd c ≡ false → run k room held (from s at) ≡ printed (answerTo s c room held) ++ run (k - 1) room (answerTo s c room held .next) (from s (nextOf c))
+  unfolding onward isEnd answerTo nextOf commandedOf called
+  run-goes (Opens day a b) w e = run-next ∙ rw (← w .same) refl
+  run-goes (Sends a b) w e = run-next ∙ rw (← w .same) refl
+  run-goes (Turns day n) w e = run-next ∙ rw (← w .same) refl
+  run-goes End w e = absurd (let z : _≡_ {A = ℕ} 0 1 = cc in omega arith)
+
+  run-stops : (c : Command) → Commanding s (command (from s at)) c → isEnd c ≡ true → run k room held (from s at) ≡ []
+  unfolding isEnd commandedOf
+  run-stops (Opens day a b) w e = absurd (let z : _≡_ {A = ℕ} 0 1 = cc in omega arith)
+  run-stops (Sends a b) w e = absurd (let z : _≡_ {A = ℕ} 0 1 = cc in omega arith)
+  run-stops (Turns day n) w e = absurd (let z : _≡_ {A = ℕ} 0 1 = cc in omega arith)
+  run-stops End w e = run-ends (sym (w .same))
+
+pub next-within : (s : List ℕ) (x : Option Commanded) (c : Command) → Commanding s x c → nextOf c ≤ length s
+unfolding nextOf Placed
+next-within s x (Opens day a b) w = w .places .1
+next-within s x (Sends a b) w = w .places .1
+next-within s x (Turns day n) w = w .places
+next-within s x End w = omega arith
+
+-- ---- the loop
+
+-- at most k commands from at on are left to carry out and to print
+pub record Replaying (s : List ℕ) (at k o room : ℕ) (area out shown whole start : List ℕ) : Type 0 where
+  pub within : at ≤ length s
+  pub long : 6144 ≤ length area
+  pub size : length out ≡ room
+  pub left : Left (run k room (holds area) (from s at)) o shown whole 0 start
+
+pub replay-starts : (s area out start : List ℕ) → 6144 ≤ length area → length start ≤ 2 ^ 63 → Replaying s 0 (length s) 0 (length out) area out start (run (length s) (length out) (holds area) s) start
+replay-starts s area out start l f = record { within = omega arith; long = l; size = refl; left = rw from-all record { cursor = refl; output = refl; short = f } }
+
+module _ {s area out shown whole start : List ℕ} {at k o room : ℕ} (m : Replaying s at k o room area out shown whole start) where
+  pub replay-out : k ≤ 0 → Wrote whole 0 start o shown
+  unfolding run
+  replay-out h = let e : k ≡ 0 = omega arith in left-none (rw e at (m .left))
+
+  module _ (h : 0 < k) (c : Command) (w : Commanding s (command (from s at)) c) where
+    pub replay-ends : isEnd c ≡ true → Wrote whole 0 start o shown
+    replay-ends e = left-none (rw (run-stops s at k room (holds area) h c w e) at (m .left))
+
+    pub replay-goes : {r : Outcome} {area' out' shown' : List ℕ} {o' : ℕ} → isEnd c ≡ false → Told (answerTo s c (length out) (holds area)) r area area' out out'
+        → Wrote (answerText r out') o shown o' shown' → Replaying s (nextOf c) (k - 1) o' room area' out' shown' whole start
+    replay-goes {r} {area'} {out'} e t v =
+        let b : Left (answerText r out' ++ run (k - 1) room (holds area') (from s (nextOf c))) o shown whole 0 start =
+        rw (answer-printed t, t .next, m .size) (rw (run-goes s at k room (holds area) h c w e) at (m .left)) in record {
+          within = next-within s _ c w;
+          long = rw (t .size) (m .long);
+          size = t .room ∙ m .size;
+          left = left-turn b v;
+        }
