@@ -13,7 +13,7 @@ use lib.ListN.{length, getD, take, drop}
 use Rattle.rules.specs.Text.{isSome, over}
 use Rattle.rules.specs.Messages.{Message, read}
 use Rattle.rules.specs.Register.{registerOf}
-use Rattle.rules.specs.Engine.{Engine}
+use Rattle.rules.specs.Engine.{Engine, positionOf}
 use Rattle.rules.specs.Calls.{stop, firstOf, holdsOf, noRoom, overLimit, writes, added, inputStops, stateStops, messageStops, messageText, after, afterMessage, messageCall, bothOf, acceptedMessage, refused}
 use Rattle.rules.specs.Area.{cardMessage, onAreas, stored, encode, decode, holds}
 use Rattle.laws.specs.Parts.{cut}
@@ -107,6 +107,28 @@ pub record Sent (s a out : List ℕ) (n : ℕ) (z : ℤ) (a' out' : List ℕ) : 
   pub output : out' ≡ over (messageText (decode a) (messageIn s)) out
   pub small : mag z < 2 ^ 63
 
+-- z is the position's transferred minus detailed with the booking's amounts
+pub record Differs (a : List ℕ) (b : Booking) (z : ℤ) : Type 0 where
+  pub value : z
+      ≡ subℕ (positionOf (b .bank) (b .date) (decode a .positions) .transferred + amountIf (b .transfer) (b .amount))
+      (positionOf (b .bank) (b .date) (decode a .positions) .detailed + amountIf (not (b .transfer)) (b .amount))
+  pub small : mag z < 2 ^ 63
+
+pub differs-done : (area : List ℕ) (b : Booking) {t d : ℕ} {z : ℤ} (x : Totals) → b .amount ≤ 160000000000000000 → t ≡ amountIf (b .transfer) (b .amount) → d ≡ amountIf (not (b .transfer)) (b .amount)
+    → TotalsOf (decode area .positions) (b .bank) (b .date) x → z ≡ subℕ (x .transferred + t) (x .detailed + d) → Differs area b z
+differs-done area b {t} {d} x l u v y e = record {
+  value = e ∙ rw (y .transferred, y .detailed, u, v) refl;
+  small = rw e (difference-small (x .transferred + t) (x .detailed + d) (omega (arith, y .small, added-small b u l)) (omega (arith, y .few, summed-small b v l)));
+}
+
+-- sums of six bytes and a message's amounts
+pub sum-room : {v w : ℕ} → v < 281474976710656 → w ≤ 160000000000000000 → v + w < 2 ^ 62
+sum-room h k = omega arith
+
+-- the area holds the engine after the message
+pub record Booked (s a a' : List ℕ) : Type 0 where
+  pub area : a' ≡ encode (afterMessage (decode a) (messageIn s)) ++ drop 6144 a
+
 module _ (s area : List ℕ) (h : isSome (holds area) ≡ true) (b : Booking) (k : Books s b) where
   engine : holds area ≡ some (decode area)
   engine = held-decode area h
@@ -127,19 +149,21 @@ module _ (s area : List ℕ) (h : isSome (holds area) ≡ true) (b : Booking) (k
         let p15 : Passed (overLimit (decode area) (messageIn s)) _ = passed 14 _ _ (p14 .others) in
         rw position-is (booking-clear (decode area) (messageIn s) (held area (decode area) engine .good) (leb-false 64 _ (p13 .first)) (p14 .first) (p15 .first))
 
-    pub sent-done : {out out' a' : List ℕ} {r : ℕ} {z : ℤ} {w : ℕ} (x : Totals) → length (messageText (decode area) (messageIn s)) ≤ length out
-        → Wrote (messageText (decode area) (messageIn s)) 0 out r out' → TotalsOf (decode area .positions) (b .bank) (b .date) x
-        → z ≡ subℕ (x .transferred + t) (x .detailed + d) → w ≡ writes (decode area) (messageIn s)
-        → a' ≡ encode (bookedWith (decode area) (position (b .bank) (b .date) t d) (reference (b .bank) (cut s (b .start) (b .end))) w) ++ drop 6144 area
-        → Sent s area out r z a' out'
-    unfolding after
-    sent-done x l w y e f c = record {
-      written = wrote-exact w l;
-      difference = e ∙ rw (y .transferred, y .detailed, u, v, ← k .transferred, ← k .detailed, k .bank, k .date) refl;
-      area = c ∙ rw (position-is, k .bank, k .reference, f, booked-after) refl;
-      output = wrote-over w l;
-      small = rw e (difference-small (x .transferred + t) (x .detailed + d) (omega (arith, y .small, added-small b u (k .small))) (omega (arith, y .few, summed-small b v (k .small))));
-    }
+    -- the area with the message
+    pub booked-done : {a' : List ℕ} {w : ℕ} → w ≡ writes (decode area) (messageIn s)
+        → a' ≡ encode (bookedWith (decode area) (position (b .bank) (b .date) t d) (reference (b .bank) (cut s (b .start) (b .end))) w) ++ drop 6144 area → Booked s area a'
+    booked-done f c = record { area = c ∙ rw (position-is, k .bank, k .reference, f, booked-after) refl }
+
+  pub sent-done : {out out' a' : List ℕ} {r : ℕ} {z : ℤ} → length (messageText (decode area) (messageIn s)) ≤ length out
+      → Wrote (messageText (decode area) (messageIn s)) 0 out r out' → Differs area b z → Booked s area a' → Sent s area out r z a' out'
+  unfolding after
+  sent-done l w e c = record {
+    written = wrote-exact w l;
+    difference = e .value ∙ rw (← k .transferred, ← k .detailed, k .bank, k .date) refl;
+    area = c .area;
+    output = wrote-over w l;
+    small = e .small;
+  }
 
   -- ---- the ways out of a message that passed 1 to 8
 
@@ -195,4 +219,4 @@ module _ (s area : List ℕ) (h : isSome (holds area) ≡ true) (r : Checked) (c
 pub message-no-engine : (s area out : List ℕ) (t : Bool) → t ≡ isSome (holds area) → t ≡ false → Answers (cardMessage s area out) 10 0 (pos 0) area out
 message-no-engine s area out t u d = message-engine s area out (sym u ∙ d)
 
-pub ruleset sending = (held-told, measured, booking-of, sent-done, sent-state, sent-none, sent-room, sent-fits, sent-made, check-told, checked-refused, message-no-engine)
+pub ruleset sending = (held-told, measured, booking-of, added-small, summed-small, sum-room, differs-done, booked-done, sent-done, sent-state, sent-none, sent-room, sent-fits, sent-made, check-told, checked-refused, message-no-engine)
