@@ -1,0 +1,26 @@
+-- `message_text::message::position_after` meets its contract: each total is raised by what the message adds to it. Assumes nothing.
+use mathlib.Core.Bool.{not}
+use native.Mathlib.Omega.{arith}
+use borrow.Author.Needs.{needs}
+use Rattle.message_text.specs.Message.{amount-part}
+use Rattle.message_text.proofs.message.position_after.Statement.{statement}
+use Rattle.message_text.proofs.message.position_after.Tie as tie
+
+transferred-by-requires : tie.Need-transferred-by-requires
+transferred-by-requires c κs = search needs
+
+add-t4 : tie.Need-add-t4
+add-t4 c = omega (arith, amount-part ((c .before .before .args .b .transfer)) ((c .before .before .args .b .amount)))
+
+detailed-by-requires : tie.Need-detailed-by-requires
+detailed-by-requires c κs = search needs
+
+add-t6 : tie.Need-add-t6
+add-t6 c = omega (arith, amount-part (not ((c .before .before .before .before .args .b .transfer))) ((c .before .before .before .before .args .b .amount)))
+
+returns : tie.Need-returns
+returns c = search needs
+
+pub position-after-spec : {M : Type 1} → statement M
+position-after-spec =
+    tie.close (tie.spec transferred-by-requires add-t4 detailed-by-requires add-t6 returns)
