@@ -1,5 +1,5 @@
 -- An area that holds an engine, as a turn reads it: how many positions stand in it, the positions, and the temporary account. Assumes nothing.
-use mathlib.Core.Path.{_≡_, refl, subst, sym, ap, _∙_}
+use mathlib.Core.Path.{_≡_, refl, ap, _∙_}
 use mathlib.Core.Bool.{true}
 use mathlib.Core.List.{List, _++_}
 use Prim.Native.Nat.{ℕ, zero, suc, _+_, _-_, _≤_, _<_}
@@ -8,15 +8,12 @@ use lib.ListN.{length, getD, take, drop, length-take}
 use lib.Seq.{drop-cons, take-take}
 use Rattle.rules.specs.Text.{isSome, numberFrom}
 use Rattle.rules.specs.Register.{register, registerOf}
-use Rattle.rules.specs.Engine.{Engine}
 use Rattle.rules.specs.Written.{correctionPostings, corrections}
 use Rattle.rules.specs.Calls.{turnText}
 use Rattle.rules.specs.Area.{numberAt, decode, holds}
 use Rattle.laws.specs.Parts.{cut}
 use Rattle.laws.specs.Writing.{Wrote, wrote-then}
-use Rattle.area.specs.Facts.{there, There}
-use Rattle.area.specs.Limits.{limits, Limits}
-use Rattle.area.specs.Held.{held}
+use Rattle.area.specs.Decoded.{decoded, decoded-limits}
 use Rattle.register.specs.Places.{place, count}
 use Rattle.register.specs.Passed.{temporary-at, text-size}
 use Rattle.engine.specs.Positions.{valuesAt, positionsAt, values-are}
@@ -39,14 +36,8 @@ pub record Standing (area : List ℕ) (n : ℕ) : Type 0 where
   pub temporary : registerOf (decode area .register) .temporary ≡ take 22 (drop 2320 area)
 
 module _ (area : List ℕ) (h : isSome (holds area) ≡ true) where
-  t : There (holds area)
-  t = there (holds area) h
-
   pub standing-long : 6144 ≤ length area
-  standing-long = held area (t .value) (t .is) .long
-
-  within : Limits (decode area)
-  within = subst (λ (e : Engine). Limits e) (sym (held area (t .value) (t .is) .read)) (limits (t .value) (held area (t .value) (t .is) .good))
+  standing-long = decoded area h .long
 
   positions : decode area .positions ≡ positionsAt area 1552 (getD area 7 0)
   unfolding decode
@@ -61,12 +52,12 @@ module _ (area : List ℕ) (h : isSome (holds area) ≡ true) where
 
   temporary : registerOf (decode area .register) .temporary ≡ take 22 (drop 2320 area)
   unfolding decode
-  temporary = text-first (numberAt area 10 2) (drop 2320 area) (within .register)
+  temporary = text-first (numberAt area 10 2) (drop 2320 area) (decoded-limits area h .register)
 
   pub standing : (n : ℕ) → n ≡ getD area 7 0 → Standing area n
   standing n e = record {
     long = standing-long;
-    few = rw e (rw (positions, positions-length area 1552 (getD area 7 0)) at (within .few));
+    few = rw e (rw (positions, positions-length area 1552 (getD area 7 0)) at (decoded-limits area h .few));
     positions = rw e positions;
     temporary = temporary;
   }

@@ -1,0 +1,82 @@
+// Writes texts of worked days from their numbers: the posting lines of the listing in document 01, a turn that collects from one position and refunds another, and the rows around the
+// returned details of an MT199, of its only part and of its second one.
+use written::Book;
+use written::Position;
+
+// The output up to a place.
+fn say(out: &[u8], n: usize) {
+    if n <= out.len() {
+        io::write_all(1, &out[0..n]);
+    }
+}
+
+// Transfer, credit and return of the listing.
+fn try_postings() {
+    let mut out = [0u8; 256];
+    let book = Book {
+        day: 60302,
+        bank: text::read_be(b"AAAABGSF", 0, 8),
+        date: 60302,
+    };
+    let a = written::put_from_bank(&mut out, 0, book, b"BG80BNBG96611020345678", 10000);
+    let b = written::put_to_account(
+        &mut out,
+        a,
+        book,
+        b"BG80BNBG96611020345678",
+        b"BG56BNBG96613000000001",
+        6000,
+    );
+    let c = written::put_to_bank(&mut out, b, book, b"BG80BNBG96611020345678", 5400);
+    say(&out, c);
+}
+
+// A turn to 040607.
+fn try_turn() {
+    let mut out = [0u8; 1024];
+    let bank = text::read_be(b"ZHSRPL8S", 0, 8);
+    let p = Position {
+        bank,
+        date: 40305,
+        transferred: 0,
+        detailed: 106935,
+    };
+    let q = Position {
+        bank,
+        date: 40508,
+        transferred: 766367971,
+        detailed: 2,
+    };
+    let a = written::put_correction_posting(&mut out, 0, 40607, b"BG18BNBG96611633648985", p);
+    let b = written::put_correction_posting(&mut out, a, 40607, b"BG18BNBG96611633648985", q);
+    let c = written::put_correction(&mut out, b, 40607, b"BG18BNBG96611633648985", 1, p);
+    let d = written::put_correction(&mut out, c, 40607, b"BG18BNBG96611633648985", 2, q);
+    say(&out, d);
+}
+
+// The listing's MT199, without its returned detail.
+fn try_only_part() {
+    let mut out = [0u8; 256];
+    let bank = text::read_be(b"AAAABGSF", 0, 8);
+    let a = written::put_opened199(&mut out, 0, 60302, 0, 1, bank, 1);
+    let b = written::put_position79(&mut out, a, 60302, 10000, 11400);
+    let c = written::put_closed79(&mut out, b, 1, 1);
+    say(&out, c);
+}
+
+// The second part of an MT199 whose first is 000003.
+fn try_second_part() {
+    let mut out = [0u8; 256];
+    let bank = text::read_be(b"FBBMXFIK", 0, 8);
+    let a = written::put_opened199(&mut out, 0, 51108, 2, 4, bank, 2);
+    let b = written::put_position79(&mut out, a, 51108, 0, 39876122005479);
+    let c = written::put_closed79(&mut out, b, 2, 2);
+    say(&out, c);
+}
+
+fn main() {
+    try_postings();
+    try_turn();
+    try_only_part();
+    try_second_part();
+}
