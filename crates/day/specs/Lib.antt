@@ -1,3 +1,4 @@
 pub mod Same
 pub mod Told
 pub mod Replaying
+pub mod Zeros

@@ -13,7 +13,7 @@ use Rattle.rules.specs.Area.{holds}
 use Rattle.rules.specs.Replay as R
 use Rattle.rules.specs.Replay.{Commanded, command, called, printed, run, onward}
 use Rattle.laws.specs.Parts.{cut, from, from-all}
-use Rattle.laws.specs.Writing.{Wrote, Left, left-turn, left-none}
+use Rattle.laws.specs.Writing.{Wrote, wrote-length, Left, left-turn, left-none}
 use Rattle.commands.specs.Answers.{commandedOf, Placed, Commanding}
 use Rattle.commands.specs.declared.command.Command.{Command}
 use Rattle.commands.specs.declared.command.Command.the-variants.{Opens, Sends, Turns, End}
@@ -81,16 +81,18 @@ next-within s x End w = omega arith
 -- ---- the loop
 
 -- at most k commands from at on are left to carry out and to print
-pub record Replaying (s : List ℕ) (at k o room : ℕ) (area out shown whole start : List ℕ) : Type 0 where
+pub record Replaying (s : List ℕ) (at k o room span : ℕ) (area out shown whole start : List ℕ) : Type 0 where
   pub within : at ≤ length s
   pub long : 6144 ≤ length area
+  pub lent : length area ≡ span
   pub size : length out ≡ room
+  pub shows : length shown ≡ length start
   pub left : Left (run k room (holds area) (from s at)) o shown whole 0 start
 
-pub replay-starts : (s area out start : List ℕ) → 6144 ≤ length area → length start ≤ 2 ^ 63 → Replaying s 0 (length s) 0 (length out) area out start (run (length s) (length out) (holds area) s) start
-replay-starts s area out start l f = record { within = omega arith; long = l; size = refl; left = rw from-all record { cursor = refl; output = refl; short = f } }
+pub replay-starts : (s area out start : List ℕ) → 6144 ≤ length area → length start ≤ 2 ^ 63 → Replaying s 0 (length s) 0 (length out) (length area) area out start (run (length s) (length out) (holds area) s) start
+replay-starts s area out start l f = record { within = omega arith; long = l; lent = refl; size = refl; shows = refl; left = rw from-all record { cursor = refl; output = refl; short = f } }
 
-module _ {s area out shown whole start : List ℕ} {at k o room : ℕ} (m : Replaying s at k o room area out shown whole start) where
+module _ {s area out shown whole start : List ℕ} {at k o room span : ℕ} (m : Replaying s at k o room span area out shown whole start) where
   pub replay-out : k ≤ 0 → Wrote whole 0 start o shown
   unfolding run
   replay-out h = let e : k ≡ 0 = omega arith in left-none (rw e at (m .left))
@@ -100,12 +102,94 @@ module _ {s area out shown whole start : List ℕ} {at k o room : ℕ} (m : Repl
     replay-ends e = left-none (rw (run-stops s at k room (holds area) h c w e) at (m .left))
 
     pub replay-goes : {r : Outcome} {area' out' shown' : List ℕ} {o' : ℕ} → isEnd c ≡ false → Told (answerTo s c (length out) (holds area)) r area area' out out'
-        → Wrote (answerText r out') o shown o' shown' → Replaying s (nextOf c) (k - 1) o' room area' out' shown' whole start
+        → Wrote (answerText r out') o shown o' shown' → Replaying s (nextOf c) (k - 1) o' room span area' out' shown' whole start
     replay-goes {r} {area'} {out'} e t v =
         let b : Left (answerText r out' ++ run (k - 1) room (holds area') (from s (nextOf c))) o shown whole 0 start =
         rw (answer-printed t, t .next, m .size) (rw (run-goes s at k room (holds area) h c w e) at (m .left)) in record {
           within = next-within s _ c w;
           long = rw (t .size) (m .long);
+          lent = t .size ∙ m .lent;
           size = t .room ∙ m .size;
+          shows = wrote-length v ∙ m .shows;
           left = left-turn b v;
         }
+
+-- ---- by the case of a command
+
+module _ (s : List ℕ) (c : Command) {r : Outcome} {area area' out out' : List ℕ} where
+  pub perform-open : (day a b : ℕ) → c ≡ Opens day a b → Told (openCall 6144 (holds area) (cut s a b) day) r area area' out out' → Told (answerTo s c (length out) (holds area)) r area area' out out'
+  unfolding answerTo
+  perform-open day a b e t = rw e t
+
+  pub perform-message : (a b : ℕ) → c ≡ Sends a b → Told (messageCall (length out) (holds area) (cut s a b)) r area area' out out' → Told (answerTo s c (length out) (holds area)) r area area' out out'
+  unfolding answerTo
+  perform-message a b e t = rw e t
+
+  pub perform-turn : (day n : ℕ) → c ≡ Turns day n → Told (turnCall (length out) (holds area) day) r area area' out out' → Told (answerTo s c (length out) (holds area)) r area area' out out'
+  unfolding answerTo
+  perform-turn day n e t = rw e t
+
+  pub perform-end : c ≡ End → Told (turnCall (length out) (holds area) 0) r area area' out out' → Told (answerTo s c (length out) (holds area)) r area area' out out'
+  unfolding answerTo
+  perform-end e t = rw e t
+
+module _ (s : List ℕ) (c : Command) (p : Placed s c) where
+  pub opens-order : (day a b : ℕ) → c ≡ Opens day a b → a ≤ b
+  unfolding Placed
+  opens-order day a b e = (subst (Placed s) e p) .0
+
+  pub opens-room : (day a b : ℕ) → c ≡ Opens day a b → b ≤ length s
+  unfolding Placed
+  opens-room day a b e = (subst (Placed s) e p) .1
+
+  pub sends-order : (a b : ℕ) → c ≡ Sends a b → a ≤ b
+  unfolding Placed
+  sends-order a b e = (subst (Placed s) e p) .0
+
+  pub sends-room : (a b : ℕ) → c ≡ Sends a b → b ≤ length s
+  unfolding Placed
+  sends-room a b e = (subst (Placed s) e p) .1
+
+module _ (c : Command) where
+  pub end-opens : (day a b : ℕ) → c ≡ Opens day a b → false ≡ isEnd c
+  unfolding isEnd
+  end-opens day a b e = rw e refl
+
+  pub end-sends : (a b : ℕ) → c ≡ Sends a b → false ≡ isEnd c
+  unfolding isEnd
+  end-sends a b e = rw e refl
+
+  pub end-turns : (day n : ℕ) → c ≡ Turns day n → false ≡ isEnd c
+  unfolding isEnd
+  end-turns day n e = rw e refl
+
+  pub end-end : c ≡ End → true ≡ isEnd c
+  unfolding isEnd
+  end-end e = rw e refl
+
+  pub next-opens : (day a b : ℕ) → c ≡ Opens day a b → b ≡ nextOf c
+  unfolding nextOf
+  next-opens day a b e = rw e refl
+
+  pub next-sends : (a b : ℕ) → c ≡ Sends a b → b ≡ nextOf c
+  unfolding nextOf
+  next-sends a b e = rw e refl
+
+  pub next-turns : (day n : ℕ) → c ≡ Turns day n → n ≡ nextOf c
+  unfolding nextOf
+  next-turns day n e = rw e refl
+
+  pub next-end : c ≡ End → 0 ≡ nextOf c
+  unfolding nextOf
+  next-end e = rw e refl
+
+-- a loop's command that is told apart
+module _ {s area out shown whole start : List ℕ} {at k o room span : ℕ} (m : Replaying s at k o room span area out shown whole start) (h : 0 < k) (c : Command) (w : Commanding s (command (from s at)) c) (t : Bool) (u : t ≡ isEnd c) where
+  pub loop-ends : t ≡ true → Wrote whole 0 start o shown
+  loop-ends d = replay-ends m h c w (sym u ∙ d)
+
+  pub loop-goes : {r : Outcome} {area' out' shown' : List ℕ} {o' n : ℕ} → t ≡ false → Told (answerTo s c (length out) (holds area)) r area area' out out'
+      → Wrote (answerText r out') o shown o' shown' → n ≡ nextOf c → Replaying s n (k - 1) o' room span area' out' shown' whole start
+  loop-goes d a v e = rw e (replay-goes m h c w (sym u ∙ d) a v)
+
+pub ruleset replaying = (perform-open, perform-message, perform-turn, perform-end, opens-order, opens-room, sends-order, sends-room, end-opens, end-sends, end-turns, end-end, next-opens, next-sends, next-turns, next-end, replay-starts, replay-out, loop-ends, loop-goes)

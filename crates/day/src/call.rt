@@ -1,10 +1,13 @@
 // A command carried out by the card.
+use commands::Command;
 ghost use Prim.Native.Nat.{_≤_};
 ghost use lib.ListN.{length};
-ghost use Rattle.rules.specs.Calls.{openCall, turnCall};
+ghost use Rattle.rules.specs.Calls.{openCall, messageCall, turnCall};
 ghost use Rattle.rules.specs.Area.{holds};
 ghost use Rattle.laws.specs.Parts.{cut};
+ghost use Rattle.commands.specs.Answers.{Placed};
 ghost use Rattle.day.specs.Told.{Told};
+ghost use Rattle.day.specs.Replaying.{answerTo};
 
 // What a call answered.
 pub struct Outcome {
@@ -30,6 +33,23 @@ fn call_open(input: &[u8], a: usize, b: usize, day: u32, area: &mut [u8], out: &
     }
 }
 
+// The message that stands from a up to b.
+fn call_message(input: &[u8], a: usize, b: usize, area: &mut [u8], out: &mut [u8]) -> Outcome
+    requires { ⌜ a ≤ b ⌝ }
+    requires { ⌜ b ≤ length (now input) ⌝ }
+    requires { ⌜ 6144 ≤ length (now area) ⌝ }
+    ensures { λ r. ⌜ Told (messageCall (length (now (out .entry))) (holds (now (area .entry))) (cut (now (input .entry)) a b)) r (now (area .entry)) (now (area .exit)) (now (out .entry)) (now (out .exit)) ⌝ }
+{
+    let mut written: usize = 0;
+    let mut difference: i64 = 0;
+    let number = card::card_message(&input[a..b], area, out, &mut written, &mut difference);
+    Outcome {
+        number,
+        written,
+        difference,
+    }
+}
+
 // A turn to a day.
 fn call_turn(day: u32, area: &mut [u8], out: &mut [u8]) -> Outcome
     requires { ⌜ 6144 ≤ length (now area) ⌝ }
@@ -42,5 +62,19 @@ fn call_turn(day: u32, area: &mut [u8], out: &mut [u8]) -> Outcome
         number,
         written,
         difference,
+    }
+}
+
+// A command carried out. (Of the end nothing is asked: it is taken for a turn to no day.)
+pub fn perform(input: &[u8], c: Command, area: &mut [u8], out: &mut [u8]) -> Outcome
+    requires { ⌜ Placed (now input) c ⌝ }
+    requires { ⌜ 6144 ≤ length (now area) ⌝ }
+    ensures { λ r. ⌜ Told (answerTo (now (input .entry)) c (length (now (out .entry))) (holds (now (area .entry)))) r (now (area .entry)) (now (area .exit)) (now (out .entry)) (now (out .exit)) ⌝ }
+{
+    match c {
+        Command::Opens(day, a, b) => call_open(input, a, b, day, area, out),
+        Command::Sends(a, b) => call_message(input, a, b, area, out),
+        Command::Turns(day, _) => call_turn(day, area, out),
+        Command::End => call_turn(0, area, out),
     }
 }

@@ -1,0 +1,57 @@
+// The replay of a day.
+use crate::call::perform;
+use crate::print::put_answer;
+use commands::Command;
+use commands::read_command;
+ghost use mathlib.Core.Path.{_≡_};
+ghost use Prim.Native.Nat.{_≤_};
+ghost use lib.ListN.{length};
+ghost use Rattle.rules.specs.Replay.{run};
+ghost use Rattle.rules.specs.Area.{holds};
+ghost use Rattle.laws.specs.Writing.{Wrote};
+ghost use Rattle.day.specs.Replaying.{isEnd, nextOf};
+
+// Is there no command?
+fn is_end(c: Command) -> bool
+    ensures { λ r. ⌜ r ≡ isEnd c ⌝ }
+{
+    match c {
+        Command::Opens(_, _, _) => false,
+        Command::Sends(_, _) => false,
+        Command::Turns(_, _) => false,
+        Command::End => true,
+    }
+}
+
+// The place behind a command.
+fn next_of(c: Command) -> usize
+    ensures { λ r. ⌜ r ≡ nextOf c ⌝ }
+{
+    match c {
+        Command::Opens(_, _, b) => b,
+        Command::Sends(_, b) => b,
+        Command::Turns(_, n) => n,
+        Command::End => 0,
+    }
+}
+
+// Carries out the commands of the input one after the other and prints their answers, as far as `printed` reaches; answers how many bytes they are.
+pub fn replay_day(input: &[u8], area: &mut [u8], out: &mut [u8], printed: &mut [u8]) -> usize
+    requires { ⌜ 6144 ≤ length (now area) ⌝ }
+    ensures { λ r. ⌜ Wrote (run (length (now (input .entry))) (length (now (out .entry))) (holds (now (area .entry))) (now (input .entry))) 0 (now (printed .entry)) r (now (printed .exit)) ⌝ }
+{
+    let mut at: usize = 0;
+    let mut o: usize = 0;
+    let mut k = input.len();
+    while k > 0 {
+        let c = read_command(input, at);
+        if is_end(c) {
+            return o;
+        }
+        let a = perform(input, c, area, out);
+        o = put_answer(printed, o, a, out);
+        at = next_of(c);
+        k -= 1;
+    }
+    o
+}
