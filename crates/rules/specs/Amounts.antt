@@ -28,6 +28,7 @@ amount cs = cond (leb (length cs) 15 && isDigit (getD cs 0 0)) (levs 0 cs) none
 unfoldable pub written : List ℕ → ℕ → List ℕ
 written mark v = decimal (v / 100) ++ mark ++ fixed 2 (v % 100)
 
+-- an amount of a message, "one before the comma"
 abbrev pub withComma : ℕ → List ℕ
 withComma v = written (ascii ",") v
 

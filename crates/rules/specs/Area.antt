@@ -16,6 +16,7 @@ use Rattle.rules.specs.Calls.{Answer, openCall, messageCall, turnCall}
 --   1,552  32 positions of 24 bytes: bank (8), date (3), transferred (6), detailed (6), block (1)
 --   2,320  texts, 3,824 bytes: the register
 
+-- "zeros hold no engine": n of them
 unfoldable pub zeros : ℕ → List ℕ
 zeros n = replicate n 0
 
@@ -28,9 +29,11 @@ unfoldable pub joined : List (List ℕ) → List ℕ
 joined [] = []
 joined (x ∷ xs) = x ++ joined xs
 
+-- "references accepted today with their senders": one of them
 unfoldable pub referenceRecord : Reference → List ℕ
 referenceRecord r = bytes 8 (r .sender) ++ padded 16 (r .text)
 
+-- "open positions": one of them
 unfoldable pub positionRecord : Position → List ℕ
 positionRecord p = bytes 8 (p .bank) ++ bytes 3 (p .date) ++ bytes 6 (p .transferred) ++ bytes 6 (p .detailed) ++ bytes 1 0
 
@@ -38,11 +41,13 @@ positionRecord p = bytes 8 (p .bank) ++ bytes 3 (p .date) ++ bytes 6 (p .transfe
 abbrev pub mark : List ℕ
 mark = ascii "RC"
 
+-- day, outgoing number and the numbers of positions and references, behind the mark
 unfoldable pub header : Engine → List ℕ
 header e =
     (mark ++ bytes 3 (e .day) ++ bytes 2 (e .count) ++ bytes 1 (length (e .positions)) ++ bytes 1 (length (e .references)))
     ++ (bytes 1 0 ++ bytes 2 (length (e .register)) ++ bytes 4 0)
 
+-- "An engine is the register, day, open positions, references .., and outgoing number.": as it stands in 6,144 bytes
 unfoldable pub encode : Engine → List ℕ
 encode e =
     header e
@@ -65,6 +70,7 @@ untilZero (c ∷ cs) = let r = untilZero cs in cond (eqb c 0) [] (c ∷ r)
 unfoldable pub referenceIn : List ℕ → Reference
 referenceIn r = record { sender = numberAt r 0 8; text = untilZero (take 16 (drop 8 r)) }
 
+-- "One position per sender and centralisation date": of a record
 unfoldable pub positionIn : List ℕ → Position
 positionIn r = record { bank = numberAt r 0 8; date = numberAt r 8 3; transferred = numberAt r 11 6; detailed = numberAt r 17 6 }
 
@@ -73,6 +79,7 @@ unfoldable pub records : ℕ → List ℕ → List (List ℕ)
 records zero cs = []
 records (suc n) cs = take 24 cs ∷ records n (drop 24 cs)
 
+-- the engine that the bytes say, within the limits or not
 unfoldable pub decode : List ℕ → Engine
 decode a = record {
   register = take (numberAt a 10 2) (drop 2320 a);
@@ -112,8 +119,10 @@ onAreas a area out =
 unfoldable pub cardOpen : List ℕ → ℕ → List ℕ → Result
 cardOpen text day area = onAreas (openCall (length area) (holds area) text day) area []
 
+-- a message, with the engine area and the output lent to the call
 unfoldable pub cardMessage : List ℕ → List ℕ → List ℕ → Result
 cardMessage s area out = onAreas (messageCall (length out) (holds area) s) area out
 
+-- a turn, with the engine area and the output lent to the call
 unfoldable pub cardTurn : ℕ → List ℕ → List ℕ → Result
 cardTurn day area out = onAreas (turnCall (length out) (holds area) day) area out

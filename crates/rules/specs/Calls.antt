@@ -23,6 +23,7 @@ pub record Stop : Type 0 where
   pub number : ℕ
   pub holds : Bool
 
+-- a condition of "Stopped by .."
 abbrev pub stop : ℕ → Bool → Stop
 stop k b = record { number = k; holds = b }
 
@@ -61,6 +62,7 @@ openStops size text day =
 unfoldable pub opened : List ℕ → ℕ → Engine
 opened text day = record { register = text; day = day; positions = []; references = []; count = 0 }
 
+-- opening: accepted where no condition holds, and else refused by the first
 unfoldable pub openCall : ℕ → Option Engine → List ℕ → ℕ → Answer
 openCall size held text day =
     let k = firstOf (openStops size text day) in
@@ -83,6 +85,7 @@ badReference m =
 unfoldable pub badSum : List ℕ → ℕ → Bool
 badSum currency v = not (equal currency (ascii "BGN")) || eqb v 0
 
+-- 6, of 32A and of each 32B
 unfoldable pub badAmount : Message → Bool
 badAmount (mt103 t) = badSum (currency32A (t .rows)) (t .amount)
 badAmount (mt101 o) = any (λ (d : Detail). badSum (currency32B d) (d .amount)) (o .details)
@@ -109,6 +112,7 @@ misdated day (mt101 o) = not (leb (firstDate (o .details)) day)
 abbrev pub bankOf : Message → ℕ
 bankOf m = number (senderOf m)
 
+-- "this sender's field 20"
 abbrev pub ownReference : Message → Reference
 ownReference m = record { sender = bankOf m; text = referenceOf m }
 
@@ -132,9 +136,11 @@ overLimit e m = not (leb (after e m .transferred) limit) || not (leb (after e m 
 
 -- ---- message: what is written
 
+-- "A detail's verdict": of field 59
 abbrev pub verdictOf : Register → Detail → Verdict
 verdictOf r d = verdict r (account59 d)
 
+-- "each returned detail of this message"
 unfoldable pub returnedOf : Register → List Detail → List Detail
 returnedOf r [] = []
 returnedOf r (d ∷ ds) = let more = returnedOf r ds in cond (isReturned (verdictOf r d)) (d ∷ more) more
@@ -149,6 +155,7 @@ unfoldable pub detailPostings : Register → Book → List Detail → List ℕ
 detailPostings r b [] = []
 detailPostings r b (d ∷ ds) = detailPosting r b d (verdictOf r d) ++ detailPostings r b ds
 
+-- the posting lines of a message: a transfer's, or those of the details
 unfoldable pub postings : Register → Book → Message → List ℕ
 postings r b (mt103 t) = fromBank b (t .amount)
 postings r b (mt101 o) = detailPostings r b (o .details)
@@ -162,6 +169,7 @@ judged (mt101 o) p = true
 unfoldable pub writes : Engine → Message → ℕ
 writes e m = cond (judged m (after e m)) (partsOf (length (returnedOf (registerOf (e .register)) (detailsOf m)))) 0
 
+-- all that an accepted message makes the card write: posting lines, then the parts of the MT199
 unfoldable pub messageText : Engine → Message → List ℕ
 messageText e m =
     let r = registerOf (e .register) in
@@ -227,6 +235,7 @@ bothOf none m = refused 10 none
 bothOf (some e) none = refused 3 (some e)
 bothOf (some e) (some m) = acceptedMessage e m
 
+-- a message: accepted where no condition holds, and else refused by the first
 unfoldable pub messageCall : ℕ → Option Engine → List ℕ → Answer
 messageCall room held s = let k = firstOf (messageStops room held s) in cond (eqb k 0) (bothOf held (read s)) (refused k held)
 
@@ -238,6 +247,7 @@ turnText e day =
     let t = registerOf (e .register) .temporary in
     correctionPostings day t (e .positions) ++ corrections day t 0 (e .positions)
 
+-- 3 "a date that doesn't exist"; 11 "turn to no later day"; 16 "output shorter than this call's bytes"
 unfoldable pub turnStops : ℕ → Option Engine → ℕ → List Stop
 turnStops room held day =
     let e = Option·getD held (opened [] 0) in
@@ -247,10 +257,12 @@ turnStops room held day =
     ∷ stop 16 (not (leb (length (turnText e day)) room))
     ∷ []
 
+-- "refunded if positive": the sum over the positions with details
 unfoldable pub refunded : List Position → ℕ
 refunded [] = 0
 refunded (p ∷ ps) = let r = refunded ps in cond (hasDetails p) ((p .transferred - p .detailed) + r) r
 
+-- "collected if negative": the sum over the positions with details
 unfoldable pub collected : List Position → ℕ
 collected [] = 0
 collected (p ∷ ps) = let r = collected ps in cond (hasDetails p) ((p .detailed - p .transferred) + r) r
@@ -275,5 +287,6 @@ acceptedTurn (some e) day = record {
   next = some (afterTurn e day);
 }
 
+-- a turn: accepted where no condition holds, and else refused by the first
 unfoldable pub turnCall : ℕ → Option Engine → ℕ → Answer
 turnCall room held day = let k = firstOf (turnStops room held day) in cond (eqb k 0) (acceptedTurn held day) (refused k held)

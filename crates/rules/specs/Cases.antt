@@ -10,11 +10,13 @@ use Rattle.rules.specs.Dates.{date, exists, leapRow, monthLength}
 use Rattle.rules.specs.Amounts.{amount, levs, decimals}
 use Rattle.rules.specs.Accounts.{passes, ibanShape, control, remainder, numeral, withSign}
 
+-- what a marked text is tried as
 pub data Kind : Type 0 where
   iban : Kind
   sum : Kind
   day : Kind
 
+-- a marked case: its kind, its text, and what it means
 pub record Case : Type 0 where
   pub kind : Kind
   pub text : String
@@ -26,9 +28,11 @@ meaning iban cs = given (passes cs) 1
 meaning sum cs = amount cs
 meaning day cs = date cs
 
-abbrev case : Kind → String → Option ℕ → Case
+-- a row of the table
+abbrev pub case : Kind → String → Option ℕ → Case
 case k s o = record { kind = k; text = s; means = o }
 
+-- "Marked cases": IBANs that pass and fail, amounts, dates that exist and don't
 abbrev pub cases : List Case
 cases =
     case iban "BG33AAAA12311012345678" (some 1)

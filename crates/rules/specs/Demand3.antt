@@ -16,6 +16,7 @@ pub record Call : Type 0 where
   pub fed : Fed
   pub output : List ℕ
 
+-- what the call does to its areas
 unfoldable pub result : Fed → List ℕ → List ℕ → Result
 result (message s) area out = cardMessage s area out
 result (turn day) area out = cardTurn day area out

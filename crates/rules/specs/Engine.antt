@@ -43,9 +43,11 @@ isBank bank = leb bank 18446744073709551615 && isBic (bic bank)
 
 -- ---- positions, kept "by BIC in byte order and then date"
 
+-- "by BIC in byte order and then date"
 unfoldable pub earlier : Position → Position → Bool
 earlier p q = not (leb (q .bank) (p .bank)) || (eqb (p .bank) (q .bank) && not (leb (q .date) (p .date)))
 
+-- of one "sender and centralisation date"
 unfoldable pub alike : Position → Position → Bool
 alike p q = eqb (p .bank) (q .bank) && eqb (p .date) (q .date)
 
@@ -54,6 +56,7 @@ unfoldable pub positionOf : ℕ → ℕ → List Position → Position
 positionOf bank date [] = record { bank = bank; date = date; transferred = 0; detailed = 0 }
 positionOf bank date (p ∷ ps) = let r = positionOf bank date ps in cond (eqb (p .bank) bank && eqb (p .date) date) p r
 
+-- "32 positions open, none of them this one": is this one open?
 unfoldable pub isOpen : ℕ → ℕ → List Position → Bool
 isOpen bank date ps = any (λ (p : Position). eqb (p .bank) bank && eqb (p .date) date) ps
 
@@ -82,9 +85,11 @@ slashesFrom [] = false
 slashesFrom (c ∷ []) = eqb c 47
 slashesFrom (c ∷ d ∷ cs) = let r = slashesFrom (d ∷ cs) in cond (eqb c 47 && eqb d 47) true r
 
+-- "a reference (20, 21) that begins or ends with `/` or has `//`"
 unfoldable pub slashed : List ℕ → Bool
 slashed cs = eqb (getD cs 0 0) 47 || slashesFrom cs
 
+-- "references of one sender": the same one
 unfoldable pub sameReference : Reference → Reference → Bool
 sameReference r q = eqb (r .sender) (q .sender) && equal (r .text) (q .text)
 
@@ -94,6 +99,7 @@ sameReference r q = eqb (r .sender) (q .sender) && equal (r .text) (q .text)
 unfoldable pub goodPosition : ℕ → Position → Bool
 goodPosition day p = isBank (p .bank) && exists (p .date) && leb (p .date) day && leb (p .transferred) limit && leb (p .detailed) limit
 
+-- all positions are
 unfoldable pub goodPositions : ℕ → List Position → Bool
 goodPositions day [] = true
 goodPositions day (p ∷ ps) = let r = goodPositions day ps in cond (goodPosition day p) r false
@@ -108,6 +114,7 @@ ordered (p ∷ q ∷ ps) = let r = ordered (q ∷ ps) in cond (earlier p q) r fa
 unfoldable pub goodReference : Reference → Bool
 goodReference r = isBank (r .sender) && run isText 1 16 (r .text) && not (slashed (r .text))
 
+-- all references are
 unfoldable pub goodReferences : List Reference → Bool
 goodReferences [] = true
 goodReferences (r ∷ rs) = let q = goodReferences rs in cond (goodReference r) q false

@@ -37,9 +37,11 @@ pub record Row : Type 0 where
   pub rest : Rest
   pub may : Bool
 
+-- a line in the form of its row
 unfoldable pub fitsRow : Row → Line → Bool
 fitsRow r l = fits (r .head) (take (length (r .head)) l) && fitsRest (r .rest) (drop (length (r .head)) l)
 
+-- a row whose line is never left out
 abbrev pub row : String → Rest → List Row
 row s r = record { head = ascii s; rest = r; may = false } ∷ []
 
@@ -47,6 +49,7 @@ row s r = record { head = ascii s; rest = r; may = false } ∷ []
 abbrev pub textRow : List Row
 textRow = row "" text
 
+-- "1 to 3 T", "1 to 4 T": a T that may be left out
 abbrev pub moreRow : List Row
 moreRow = record { head = []; rest = text; may = true } ∷ []
 

@@ -58,6 +58,7 @@ unfoldable pub transferredOf : ℕ → List Position → ℕ
 transferredOf bank [] = 0
 transferredOf bank (p ∷ ps) = let r = transferredOf bank ps in cond (eqb (p .bank) bank) (p .transferred + r) r
 
+-- "detailed": of a bank's entries
 unfoldable pub detailedOf : ℕ → List Position → ℕ
 detailedOf bank [] = 0
 detailedOf bank (p ∷ ps) = let r = detailedOf bank ps in cond (eqb (p .bank) bank) (p .detailed + r) r
@@ -122,6 +123,7 @@ posted l = let ps = parted l in given (isPosting ps) (postedParts ps)
 abbrev pub Kind : Type 0
 Kind = Fed → Posted → Bool
 
+-- "from a message"
 unfoldable pub isMessage : Fed → Bool
 isMessage (message s) = true
 isMessage (turn day) = false
@@ -130,6 +132,7 @@ isMessage (turn day) = false
 unfoldable pub isTransfer : ℕ → Kind
 isTransfer bank f q = equal (q .bank) (bic bank) && equal (q .debit) (bic bank) && equal (q .day) (q .date)
 
+-- "else a collection"
 unfoldable pub isCollection : ℕ → Kind
 isCollection bank f q = equal (q .bank) (bic bank) && equal (q .debit) (bic bank) && not (equal (q .day) (q .date))
 
@@ -137,6 +140,7 @@ isCollection bank f q = equal (q .bank) (bic bank) && equal (q .debit) (bic bank
 unfoldable pub isReturn : ℕ → Kind
 isReturn bank f q = equal (q .bank) (bic bank) && equal (q .credit) (bic bank) && isMessage f
 
+-- "a refund from a turn"
 unfoldable pub isRefund : ℕ → Kind
 isRefund bank f q = equal (q .bank) (bic bank) && equal (q .credit) (bic bank) && not (isMessage f)
 
@@ -145,10 +149,12 @@ unfoldable pub isCredit : List ℕ → ℕ → Kind
 isCredit temporary bank f q =
     equal (q .bank) (bic bank) && not (equal (q .debit) (bic bank)) && not (equal (q .credit) (bic bank)) && equal (q .debit) temporary
 
+-- the amount of a posting line of a kind
 unfoldable pub amountIf : Kind → Fed → Option Posted → ℕ
 amountIf kind f none = 0
 amountIf kind f (some q) = cond (kind f q) (q .amount) 0
 
+-- "added up from the posting lines" of one call
 unfoldable pub sumOfLines : Kind → Fed → List Line → ℕ
 sumOfLines kind f [] = 0
 sumOfLines kind f (l ∷ ls) = amountIf kind f (posted l) + sumOfLines kind f ls
@@ -160,6 +166,7 @@ sumOf kind (e ∷ es) = sumOfLines kind (e .fed) (Option·getD (lines (e .bytes)
 
 -- ---- after a turn
 
+-- "From each accepted turn"
 unfoldable pub isTurn : Fed → Bool
 isTurn (message s) = false
 isTurn (turn day) = true
@@ -169,10 +176,12 @@ unfoldable pub afterTurn : Bool → List Event → Bool
 afterTurn b [] = b
 afterTurn b (e ∷ es) = let on = afterTurn (isTurn (e .fed)) es in let same = afterTurn b es in cond (eqb (e .number) 0) on same
 
+-- a message, if there is one
 unfoldable pub listed : Option Message → List Message
 listed none = []
 listed (some m) = m ∷ []
 
+-- the message that a call was handed
 unfoldable pub messageOf : Fed → List Message
 messageOf (message s) = listed (read s)
 messageOf (turn day) = []
@@ -182,6 +191,7 @@ unfoldable pub accepted : List Event → List Message
 accepted [] = []
 accepted (e ∷ es) = let r = accepted es in cond (eqb (e .number) 0) (messageOf (e .fed) ++ r) r
 
+-- "its details" for a centralisation date
 unfoldable pub isDetails : ℕ → ℕ → Message → Bool
 isDetails bank date (mt103 t) = false
 isDetails bank date (mt101 o) = eqb (bankOf (mt101 o)) bank && eqb (dateOf (mt101 o)) date

@@ -53,6 +53,7 @@ closes [] = false
 closes (l ∷ []) = equal l (ascii "-")
 closes (l ∷ m ∷ ls) = closes (m ∷ ls)
 
+-- "lines ended by CR LF, last line `-`"
 abbrev pub inLines : Option (List Line) → Bool
 inLines none = false
 inLines (some ls) = closes ls
@@ -69,15 +70,18 @@ opening s = fits (ascii "nnn,aaaaaacc,aaaaaacc\r\n") (take 23 s)
 unfoldable pub framed : List ℕ → Bool
 framed s = leb (length s) 4096 && inLines (lines s) && opening s
 
--- the parts of the first line, and the lines behind it
+-- "`type,sender,receiver`": three digits
 unfoldable pub type : List ℕ → List ℕ
 type s = take 3 s
 
+-- the first BIC
 unfoldable pub sender : List ℕ → List ℕ
 sender s = take 8 (drop 4 s)
 
+-- the second BIC, "receiver BNBGBGSD"
 unfoldable pub receiver : List ℕ → List ℕ
 receiver s = take 8 (drop 13 s)
 
+-- the lines behind the first
 unfoldable pub body : List ℕ → List ℕ
 body s = drop 23 s

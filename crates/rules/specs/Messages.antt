@@ -75,6 +75,7 @@ account59 d = drop 5 (lineOf (d .rows) 9)
 abbrev pub baerefDate : Detail → List ℕ
 baerefDate d = take 6 (drop 6 (lineOf (d .rows) 14))
 
+-- "`BAEREF`, date, N": its N
 abbrev pub baerefName : Detail → List ℕ
 baerefName d = drop 12 (lineOf (d .rows) 14)
 
@@ -91,6 +92,7 @@ pub record Detailed : Type 0 where
   pub detail : Detail
   pub others : List ℕ
 
+-- the first detail, in form and with dates that exist
 unfoldable pub detailed : List ℕ → Option Detailed
 detailed cs = then (rowed detailRows cs) (λ r. then (detailOf (r .rows)) (λ d. some record { detail = d; others = r .others }))
 
@@ -110,16 +112,19 @@ pub record Order : Type 0 where
   pub rows : List Line
   pub details : List Detail
 
+-- "a reader of MT103 and MT101"
 pub data Message : Type 0 where
   mt103 : Transfer → Message
   mt101 : Order → Message
 
+-- an MT103, from its bytes
 unfoldable pub readTransfer : List ℕ → Option Message
 readTransfer s =
     then (rowed transferRows (body s)) (λ r.
     then (transferOf (sender s) (r .rows)) (λ t.
     given (closing (r .others)) (mt103 t)))
 
+-- an MT101, from its bytes
 unfoldable pub readOrder : List ℕ → Option Message
 readOrder s =
     then (rowed orderRows (body s)) (λ r.
@@ -132,18 +137,22 @@ read s = cond (equal (type s) (ascii "103")) (readTransfer s) (readOrder s)
 
 -- ---- what both have
 
+-- "sender"
 unfoldable pub senderOf : Message → List ℕ
 senderOf (mt103 t) = t .sender
 senderOf (mt101 o) = o .sender
 
+-- "field 20"
 unfoldable pub referenceOf : Message → List ℕ
 referenceOf (mt103 t) = field20 (t .rows)
 referenceOf (mt101 o) = field20 (o .rows)
 
+-- the details, of which an MT103 has none
 unfoldable pub detailsOf : Message → List Detail
 detailsOf (mt103 t) = []
 detailsOf (mt101 o) = o .details
 
+-- "`CENTRB`, date": of the first detail
 unfoldable pub firstDate : List Detail → ℕ
 firstDate [] = 0
 firstDate (d ∷ ds) = d .date
@@ -158,6 +167,7 @@ unfoldable pub transferredBy : Message → ℕ
 transferredBy (mt103 t) = t .amount
 transferredBy (mt101 o) = 0
 
+-- "all its 32B amounts"
 unfoldable pub sumOf : List Detail → ℕ
 sumOf [] = 0
 sumOf (d ∷ ds) = d .amount + sumOf ds

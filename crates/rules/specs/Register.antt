@@ -15,6 +15,7 @@ pub record Account : Type 0 where
   pub low : ℕ
   pub high : ℕ
 
+-- "a first line with the temporary account's IBAN, then 0 to 40 lines"
 pub record Register : Type 0 where
   pub temporary : List ℕ
   pub accounts : List Account
@@ -27,10 +28,12 @@ accountLine l =
     given (fits (ascii "cccccccccccccccccccccc,nnnnnn,nnnnnn") l && passes (take 22 l) && leb low high)
     record { iban = take 22 l; low = low; high = high }))
 
+-- all account lines
 unfoldable pub accountLines : List Line → Option (List Account)
 accountLines [] = some []
 accountLines (l ∷ ls) = then (accountLine l) (λ a. Option·map (λ more. a ∷ more) (accountLines ls))
 
+-- the IBANs of all lines
 abbrev pub ibans : Register → List (List ℕ)
 ibans r = r .temporary ∷ map (λ (a : Account). a .iban) (r .accounts)
 
@@ -51,5 +54,6 @@ register cs = then (lines cs) ofLines
 abbrev pub emptyRegister : Register
 emptyRegister = record { temporary = []; accounts = [] }
 
+-- the register that an engine keeps as its text
 unfoldable pub registerOf : List ℕ → Register
 registerOf cs = Option·getD (register cs) emptyRegister

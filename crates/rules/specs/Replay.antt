@@ -47,6 +47,7 @@ commandOf l cs =
 unfoldable pub command : List ℕ → Option Commanded
 command cs = then (line cs) (λ t. commandOf (t .line) (t .others))
 
+-- "the difference", with its sign where it is below 0
 unfoldable pub signed : ℤ → List ℕ
 signed (pos n) = decimal n
 signed (negsuc n) = ascii "-" ++ decimal (suc n)
@@ -55,6 +56,7 @@ signed (negsuc n) = ascii "-" ++ decimal (suc n)
 unfoldable pub printed : Answer → List ℕ
 printed a = decimal (a .number) ++ ascii "," ++ signed (a .difference) ++ ascii "\r\n" ++ a .text
 
+-- the call that a command makes
 unfoldable pub called : ℕ → Option Engine → Command → Answer
 called room held (opens day text) = openCall 6144 held text day
 called room held (sends s) = messageCall room held s

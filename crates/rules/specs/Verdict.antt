@@ -26,9 +26,11 @@ unfoldable pub found : List ℕ → ℕ → List Account → Option ℕ
 found iban n [] = none
 found iban n (a ∷ more) = let r = found iban (n + 1) more in cond (equal (a .iban) iban) (some n) r
 
+-- behind the last account line
 abbrev pub noAccount : Account
 noAccount = record { iban = []; low = 0; high = 0 }
 
+-- "the register line found"
 abbrev pub accountAt : Register → ℕ → Account
 accountAt r i = getD (r .accounts) i noAccount
 

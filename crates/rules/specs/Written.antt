@@ -62,6 +62,7 @@ size a b = (a - b) + (b - a)
 unfoldable pub returnedRows : Detail → List ℕ
 returnedRows d = (branch d ++ ascii "/" ++ baerefDate d ++ ascii "/" ++ baerefName d ++ ascii "\r\n") ++ (account59 d ++ ascii "\r\n")
 
+-- the rows of some returned details
 unfoldable pub allReturned : List Detail → List ℕ
 allReturned [] = []
 allReturned (d ∷ ds) = returnedRows d ++ allReturned ds
@@ -139,11 +140,13 @@ corrected p = hasDetails p && not (eqb (p .transferred) (p .detailed))
 unfoldable pub isRefund : Position → Bool
 isRefund p = leb (p .detailed) (p .transferred)
 
+-- the posting line of a correction
 unfoldable pub correctionPosting : ℕ → List ℕ → Position → List ℕ
 correctionPosting day temporary p =
     let b : Book = record { day = day; temporary = temporary; bank = p .bank; date = p .date } in
     cond (isRefund p) (toBank b (p .transferred - p .detailed)) (fromBank b (p .detailed - p .transferred))
 
+-- the message of a correction: MT205 or MT204
 unfoldable pub correction : ℕ → List ℕ → ℕ → Position → List ℕ
 correction day temporary n p =
     cond (isRefund p) (mt205 day n p (p .transferred - p .detailed)) (mt204 day temporary n p (p .detailed - p .transferred))
