@@ -4,12 +4,12 @@ use forms::behind;
 use forms::read_detail;
 use references::same_parts;
 ghost use mathlib.Core.Path.{_≡_};
-ghost use Prim.Native.Nat.{_≤_};
-ghost use lib.ListN.{length};
+ghost use Prim.Native.Nat.{_+_, _<_, _≤_};
+ghost use lib.ListN.{length, getD, drop};
 ghost use Rattle.rules.specs.Text.{equal, any, twice};
 ghost use Rattle.laws.specs.Parts.{from};
-ghost use Rattle.forms.specs.Spans.{spanOf, SpanIn};
-ghost use Rattle.conditions.specs.Walk.{walked, hasReference, alike};
+ghost use Rattle.forms.specs.Spans.{spanOf, noSpan, SpanIn, held};
+ghost use Rattle.conditions.specs.Walk.{walked, alike, Kept, Collected};
 
 // Have the two parts the same bytes?
 fn same_spans(s: &[u8], p: Span, q: Span) -> bool
@@ -27,25 +27,64 @@ fn same_spans(s: &[u8], p: Span, q: Span) -> bool
     )
 }
 
-// Has one of the n details from `at` on the bytes of p as its field 21?
-fn again(s: &[u8], at: usize, n: usize, p: Span) -> bool
+// The places of the fields 21 of details, and how many there are.
+pub struct References {
+    pub spans: [Span; 16],
+    pub count: usize,
+}
+
+// Those of the n details from `at` on.
+fn references_of(s: &[u8], at: usize, n: usize) -> References
     requires { ⌜ at ≤ length (now s) ⌝ }
     requires { ⌜ length (now s) ≤ 4096 ⌝ }
-    requires { ⌜ SpanIn (now s) p ⌝ }
-    ensures { λ r. ⌜ r ≡ any (hasReference (spanOf (now (s .entry)) p)) (walked n (from (now (s .entry)) at)) ⌝ }
+    requires { ⌜ n ≤ 16 ⌝ }
+    ensures { λ r. ⌜ Collected (now (s .entry)) at n r ⌝ }
 {
+    let mut spans = [Span { start: 0, end: 0 }; 16];
     let mut pos = at;
     let mut i: usize = 0;
     while i < n {
         let d = read_detail(s, pos);
         if d.ok {
-            if same_spans(s, p, behind(d.spans[0], 4)) {
-                return true;
-            }
+            spans[i] = behind(d.spans[0], 4);
             pos = d.next;
             i += 1;
         } else {
-            return false;
+            return References { spans, count: i };
+        }
+    }
+    References { spans, count: i }
+}
+
+// Has one behind the reference i its bytes?
+fn again(s: &[u8], r: References, i: usize) -> bool
+    requires { ⌜ Kept (now s) r ⌝ }
+    requires { ⌜ i < r .count ⌝ }
+    ensures { λ t. ⌜ t ≡ any (equal (spanOf (now (s .entry)) (getD (r .spans) i noSpan))) (drop (i + 1) (held (now (s .entry)) (r .spans) (r .count))) ⌝ }
+{
+    let p = r.spans[i];
+    let mut j = i + 1;
+    while j < r.count {
+        if same_spans(s, p, r.spans[j]) {
+            return true;
+        } else {
+            j += 1;
+        }
+    }
+    false
+}
+
+// Have two of them the same bytes?
+fn one_twice(s: &[u8], r: References) -> bool
+    requires { ⌜ Kept (now s) r ⌝ }
+    ensures { λ t. ⌜ t ≡ twice equal (held (now (s .entry)) (r .spans) (r .count)) ⌝ }
+{
+    let mut i: usize = 0;
+    while i < r.count {
+        if again(s, r, i) {
+            return true;
+        } else {
+            i += 1;
         }
     }
     false
@@ -55,21 +94,8 @@ fn again(s: &[u8], at: usize, n: usize, p: Span) -> bool
 pub fn appears_twice(s: &[u8], at: usize, n: usize) -> bool
     requires { ⌜ at ≤ length (now s) ⌝ }
     requires { ⌜ length (now s) ≤ 4096 ⌝ }
+    requires { ⌜ n ≤ 16 ⌝ }
     ensures { λ r. ⌜ r ≡ twice alike (walked n (from (now (s .entry)) at)) ⌝ }
 {
-    let mut pos = at;
-    let mut i: usize = 0;
-    while i < n {
-        let d = read_detail(s, pos);
-        if d.ok {
-            pos = d.next;
-            i += 1;
-            if again(s, pos, n - i, behind(d.spans[0], 4)) {
-                return true;
-            }
-        } else {
-            return false;
-        }
-    }
-    false
+    one_twice(s, references_of(s, at, n))
 }
