@@ -8,7 +8,7 @@ use Rattle.rules.specs.Amounts.{withComma}
 use Rattle.rules.specs.Text.{ascii}
 use Rattle.rules.specs.Written.{posting, field, size, reference, linked}
 use Rattle.laws.specs.Writing.{Wrote, furthest}
-use Rattle.laws.specs.Pieces.{wrote-nothing, wrote-beyond}
+use Rattle.laws.specs.Pieces.{wrote-nothing, wrote-within, wrote-beyond}
 
 -- a posting line shows nothing of the temporary account but as a party
 pub posting-parties : {debit debit' credit credit' out out' : List ℕ} (t t' : List ℕ) (day bank date v : ℕ) {at r : ℕ}
@@ -29,3 +29,8 @@ module _ {a b at r : ℕ} {out out' : List ℕ} where
 pub linked-first : (day n part : ℕ) {at : ℕ} {out : List ℕ} → part < 2 → length out ≤ furthest → Wrote (linked day n part) at out at out
 unfolding linked
 linked-first day n part h k = wrote-beyond (field (ascii ":21:") (reference day (n + 1))) [] 2 part h (wrote-nothing k)
+
+-- every other part has part 1's reference in it
+pub linked-later : (day n part : ℕ) {at r : ℕ} {out out' : List ℕ} → 2 ≤ part → Wrote (field (ascii ":21:") (reference day (n + 1))) at out r out' → Wrote (linked day n part) at out r out'
+unfolding linked
+linked-later day n part h w = wrote-within (field (ascii ":21:") (reference day (n + 1))) [] 2 part h w

@@ -1,6 +1,6 @@
 -- `message_text::texts::put_transfer_text` meets its contract: the posting line, and behind it the MT199 of a position with details. Assumes nothing.
 use borrow.Author.Needs.{needs}
-use Rattle.message_text.specs.Texts.{texts}
+use Rattle.message_text.specs.Texts.{texts, transfer-alone}
 use Rattle.message_text.proofs.texts.put_transfer_text.Statement.{statement}
 use Rattle.message_text.proofs.texts.put_transfer_text.Tie as tie
 
@@ -20,7 +20,7 @@ same-length : tie.Need-same-length
 same-length c = search (texts, needs)
 
 returns : tie.Need-returns
-returns c = search (texts, needs)
+returns c = transfer-alone _ _ _ _ (c .before .before .before .before .before .before .before .before .before .pre .0) _ (c .before .before .before .before .put-from-bank .ensures) (c .if1 .taken)
 
 put-verdicts-requires : tie.Need-put-verdicts-requires
 put-verdicts-requires c κs = (search needs, (search needs, (search needs, (search needs, search needs))))

@@ -34,7 +34,7 @@ same-length c = search needs
 
 returns : tie.Need-returns
 unfolding field72
-returns c = search wrote-5
+returns c = wrote-5 (c .before .before .before .before .before .before .before .before .before .before .before .before .before .before .before .before .before .before .before .before .before .put-baeref .ensures) (c .before .before .before .before .before .before .before .before .before .before .before .before .before .before .before .before .put-date-field .ensures) (c .before .before .before .before .before .before .before .before .before .before .before .put-bytes .ensures) (c .before .before .before .before .before .before .put-amount-field .ensures) (c .before .before .put-detailed-row .ensures)
 
 pub put-field72-spec : {M : Type 1} → statement M
 put-field72-spec =

@@ -1,13 +1,12 @@
 -- `written::verdicts::put_linked` meets its contract: part 1 writes nothing, every other part its field 21. Assumes nothing.
+use native.Mathlib.Omega.{arith}
 use borrow.Author.Needs.{needs}
-use Rattle.rules.specs.Written.{linked}
-use Rattle.laws.specs.Pieces.{wrote-within}
-use Rattle.written.specs.Texts.{linked-first}
+use Rattle.written.specs.Texts.{linked-first, linked-later}
 use Rattle.written.proofs.verdicts.put_linked.Statement.{statement}
 use Rattle.written.proofs.verdicts.put_linked.Tie as tie
 
 returns : tie.Need-returns
-returns c = linked-first _ _ _ (search needs) (search needs)
+returns c = linked-first _ _ _ (omega arith) (search needs)
 
 slice-aggregate-put-reference-field : tie.Need-slice-aggregate-put-reference-field
 slice-aggregate-put-reference-field c = search needs
@@ -22,8 +21,7 @@ same-length : tie.Need-same-length
 same-length c = search needs
 
 returns-2 : tie.Need-returns-2
-unfolding linked
-returns-2 c = search (wrote-within, needs)
+returns-2 c = linked-later _ _ _ (omega arith) (c .before .before .put-reference-field .ensures)
 
 pub put-linked-spec : {M : Type 1} → statement M
 put-linked-spec =
