@@ -1,0 +1,27 @@
+-- `conditions::tally::after` meets its contract: each number of the tally is what the call before it tells, and the count grows by one. Assumes nothing.
+use borrow.Author.Needs.{needs}
+use Rattle.conditions.proofs.tally.after.Statement.{statement}
+use Rattle.conditions.proofs.tally.after.Tie as tie
+
+day-of-requires : tie.Need-day-of-requires
+day-of-requires c κs = search needs
+
+raised-requires : tie.Need-raised-requires
+raised-requires c κs = search needs
+
+detail-stop-requires : tie.Need-detail-stop-requires
+detail-stop-requires c κs = search needs
+
+least-requires : tie.Need-least-requires
+least-requires c κs = search needs
+
+add-t8 : tie.Need-add-t8
+add-t8 c = search needs
+
+returns : tie.Need-returns
+returns c = search needs
+
+pub after-spec : {M : Type 1} → statement M
+after-spec =
+    tie.close
+    (tie.spec day-of-requires raised-requires detail-stop-requires least-requires add-t8 returns)
