@@ -1,26 +1,28 @@
 -- The table of rows as the code holds it, and that it is document 01's.
-use mathlib.Core.Path.{_≡_, refl}
+use mathlib.Core.Path.{_≡_, refl, sym, ap, _∙_}
 use mathlib.Core.Bool.{Bool, true, false, cond}
 use mathlib.Core.List.{List, [], _∷_, _++_, map}
-use Prim.Native.Nat.{ℕ, zero, suc, _+_, _-_, _≤_, _<_}
+use Prim.Native.Nat.{ℕ, zero, suc, _+_, _-_, _*_, _/_, _%_, _^_, _≤_, _<_}
 use native.Mathlib.Omega.{arith}
+use native.Mathlib.Nat.{add-zero}
 use native.Mathlib.Numerals.{add-one}
-use lib.Dec.{leb}
+use lib.Dec.{leb, eqb}
 use lib.ListN.{length, getD, take, drop}
 use lib.Seq.{drop-cons}
-use borrow.Author.Tests.{leb-true}
-use Rattle.rules.specs.Text.{ascii}
+use borrow.Author.Tests.{leb-true, eqb-true, eqb-false}
+use Rattle.rules.specs.Text.{ascii, numberFrom, number, fitsSign, fits}
 use Rattle.rules.specs.Forms as F
 use Rattle.rules.specs.Forms.{nothing, text, reference, account, name, sum, transferRows, detailRows}
 use Rattle.laws.specs.Parts.{cut}
+use Rattle.laws.specs.Reading.{fits-pairs, pairs-more, pairs-bad, pairs-end}
 use Rattle.laws.specs.Tests.{cond-right}
 use Rattle.forms.specs.declared.table.Rest.{Rest}
 use Rattle.forms.specs.declared.table.Rest.the-variants.{Nothing, Text, Reference, Account, Name, Sum}
 use Rattle.forms.specs.declared.table.Row.{Row}
 
--- the patterns of all rows, one behind the other
+-- the patterns of all rows, one behind the other, and blanks up to a whole number of eights
 unfoldable pub heads : List ℕ
-heads = ascii ":20::23B:CRED:32A:nnnnnnaaa:50K:/:52D:aaaannnn:57D:aaaannnn:59:/:71A:aaa:72:/DTYPE/PORD/BAEREF/nnnnnn/CENTRB/:21::32B:aaa:50H:/ccccccccccccccccccccccPAYnnnnnn:70:CENTRBnnnnnnBAEREFnnnnnn"
+heads = ascii ":20::23B:CRED:32A:nnnnnnaaa:50K:/:52D:aaaannnn:57D:aaaannnn:59:/:71A:aaa:72:/DTYPE/PORD/BAEREF/nnnnnn/CENTRB/:21::32B:aaa:50H:/ccccccccccccccccccccccPAYnnnnnn:70:CENTRBnnnnnnBAEREFnnnnnn      "
 
 abbrev row : ℕ → ℕ → Rest → Bool → Row
 row b n r m = record { 0 = b; 1 = n; 2 = r; 3 = m }
@@ -119,9 +121,84 @@ pub codes-room : (k : ℕ) → getD codes k noRow .0 + getD codes k noRow .1 ≤
 unfolding codes
 codes-room = roomy-at codes refl
 
-pub heads-length : length heads ≡ 186
+-- a row by its number
+pub row-is : {k : ℕ} {r : Row} (i : ℕ) → k ≡ i → r ≡ getD codes i noRow → RowAt k r
+row-is i e h = record { same = h ∙ ap (λ (j : ℕ). getD codes j noRow) (sym e); room = rw h (codes-room i) }
+
+-- a number is none of the first n
+abbrev pub Past : ℕ → ℕ → Type 0
+Past k zero = Unit
+Past k (suc n) = Past k n × (k ≡ n → ⊥)
+
+past-le : (k n : ℕ) → Past k n → n ≤ k
+past-le k zero h = omega arith
+past-le k (suc n) h = let l : n ≤ k = past-le k n (h .0) in omega (arith, h .1)
+
+-- the last row, which is none of those before it
+pub row-last : {k : ℕ} {r : Row} → k < 40 → Past k 39 → r ≡ getD codes 39 noRow → RowAt k r
+row-last {k} h p e = row-is 39 (let l : 39 ≤ k = past-le k 39 p in omega arith) e
+
+pub heads-length : length heads ≡ 192
 unfolding heads
 heads-length = refl
+
+-- ---- the heads as numbers of eight signs each
+
+unfoldable pub wordAt : ℕ → ℕ
+wordAt j = number (cut heads (j * 8) (j * 8 + 8))
+
+-- the arm of a number, and the last one
+pub word-is : {k v : ℕ} (i : ℕ) → k ≡ i → v ≡ wordAt i → v ≡ wordAt k
+word-is i e h = h ∙ ap wordAt (sym e)
+
+pub word-last : {k v : ℕ} → k < 24 → Past k 23 → v ≡ wordAt 23 → v ≡ wordAt k
+word-last {k} h p e = word-is 23 (let l : 23 ≤ k = past-le k 23 p in omega arith) e
+
+-- a sign in its number
+abbrev pub signIn : ℕ → ℕ → ℕ
+signIn w j = w / 2 ^ (56 - j * 8) % 256
+
+abbrev agree : ℕ → Bool
+agree zero = true
+agree (suc n) = let q = agree n in cond (eqb (signIn (wordAt (n / 8)) (n % 8)) (getD heads n 0)) q false
+
+agree-at : (n : ℕ) → agree n ≡ true → (i : ℕ) → i < n → signIn (wordAt (i / 8)) (i % 8) ≡ getD heads i 0
+agree-at zero h i l = absurd (omega arith)
+agree-at (suc n) h i l = go (eqb i n) refl (agree-at n (cond-right (eqb (signIn (wordAt (n / 8)) (n % 8)) (getD heads n 0)) (agree n) h) i)
+  where
+    now : (b : Bool) → eqb (signIn (wordAt (n / 8)) (n % 8)) (getD heads n 0) ≡ b → cond b (agree n) false ≡ true → signIn (wordAt (n / 8)) (n % 8) ≡ getD heads n 0
+    now true e g = eqb-true _ _ e
+    now false e g = absurd (let z : _≡_ {A = ℕ} 0 1 = cc in omega arith)
+
+    go : (b : Bool) → eqb i n ≡ b → (i < n → signIn (wordAt (i / 8)) (i % 8) ≡ getD heads i 0) → signIn (wordAt (i / 8)) (i % 8) ≡ getD heads i 0
+    go true e f = rw (eqb-true i n e) (now _ refl h)
+    go false e f = f (omega (arith, eqb-false i n e))
+
+heads-agree : agree 192 ≡ true
+unfolding heads wordAt cut numberFrom
+heads-agree = refl
+
+-- each sign stands in its number
+pub sign-told : (i w : ℕ) → i < 192 → w ≡ wordAt (i / 8) → signIn w (i % 8) ≡ getD heads i 0
+sign-told i w l e = rw e (agree-at 192 heads-agree i l)
+
+-- ---- bytes held against the heads, sign by sign
+
+module _ (b : ℕ) (s : List ℕ) (a n k : ℕ) (x : Bool) (inv : fits (cut heads (b + k) (b + n)) (cut s (a + k) (a + n)) ≡ x) where
+  module _ (h : k < n) (l : b + n ≤ 186) (m : a + n ≤ length s) (v : ℕ) (e : v ≡ getD heads (b + k) 0) (q : Bool) (u : q ≡ fitsSign v (getD s (a + k) 0)) where
+    sign-held : q ≡ fitsSign (getD heads (b + k) 0) (getD s (a + k) 0)
+    sign-held = rw (← e) u
+
+    pub head-more : q ≡ true → fits (cut heads (b + (k + 1)) (b + n)) (cut s (a + (k + 1)) (a + n)) ≡ x
+    head-more d = pairs-more fits fitsSign fits-pairs heads s b a n k x inv h (omega (arith, heads-length)) m q sign-held d
+
+    pub head-bad : q ≡ false → false ≡ x
+    head-bad d = pairs-bad fits fitsSign fits-pairs heads s b a n k x inv h (omega (arith, heads-length)) m q sign-held d
+
+  pub head-end : k ≤ n → n ≤ k → true ≡ x
+  head-end h l = pairs-end fits fitsSign fits-pairs heads s b a n k x inv h l
+
+pub ruleset signs = (add-zero, sign-told, head-more, head-bad, head-end)
 
 -- ---- some of its rows
 

@@ -1,18 +1,66 @@
--- `forms::table::head_fits` meets its contract: the code's heads are the definition's. Assumes nothing.
-use Rattle.forms.specs.Table.{heads}
+-- `forms::table::head_fits` meets its contract. The loop's invariant: what is left fits where the whole does. Assumes nothing.
+use mathlib.Core.Path.{_≡_}
+use Prim.Native.Nat.{_≤_, _+_, _-_}
+use Rattle.rules.specs.Text.{fits}
+use Rattle.laws.specs.Parts.{cut}
+use Rattle.forms.specs.Table.{heads, signs}
 use borrow.Author.Needs.{needs}
 use Rattle.forms.proofs.table.head_fits.Statement.{statement}
 use Rattle.forms.proofs.table.head_fits.Tie as tie
 
-slice-aggregate-fits-part : tie.Need-slice-aggregate-fits-part
-slice-aggregate-fits-part c = search needs
+abbrev Inv-loop : tie.InvT-loop
+Inv-loop b s a n k₀ k = (k ≤ n) × (fits (cut heads (b + k) (b + n)) (cut s (a + k) (a + n)) ≡ fits (cut heads b (b + n)) (cut s a (a + n)))
 
-fits-part-requires : tie.Need-fits-part-requires
-fits-part-requires c κs = search needs
+abbrev μ-loop : tie.MeasureT-loop
+μ-loop b s a n k₀ k = n - k
 
-returns : tie.Need-returns
-unfolding heads
-returns c = search needs
+loop-holds : tie.Need-loop-holds Inv-loop μ-loop
+loop-holds c = search (signs, needs)
+
+add-sign-at : tie.Need-add-sign-at Inv-loop μ-loop
+add-sign-at c = search (signs, needs)
+
+sign-at-requires : tie.Need-sign-at-requires Inv-loop μ-loop
+sign-at-requires c κs = search (signs, needs)
+
+add-fits-sign : tie.Need-add-fits-sign Inv-loop μ-loop
+add-fits-sign c = search (signs, needs)
+
+shared-slice-read-fits-sign : tie.Need-shared-slice-read-fits-sign Inv-loop μ-loop
+shared-slice-read-fits-sign c = search (signs, needs)
+
+fits-sign-requires : tie.Need-fits-sign-requires Inv-loop μ-loop
+fits-sign-requires c κs = search (signs, needs)
+
+add-k : tie.Need-add-k Inv-loop μ-loop
+add-k c = search (signs, needs)
+
+loop-less : tie.Need-loop-less Inv-loop μ-loop
+loop-less c = search (signs, needs)
+
+loop-again : tie.Need-loop-again Inv-loop μ-loop
+loop-again c = search (signs, needs)
+
+returns : tie.Need-returns Inv-loop μ-loop
+returns c = search (signs, needs)
+
+returns-2 : tie.Need-returns-2 Inv-loop μ-loop
+returns-2 c = search (signs, needs)
 
 pub head-fits-spec : {M : Type 1} → statement M
-head-fits-spec = tie.close (tie.spec slice-aggregate-fits-part fits-part-requires returns)
+head-fits-spec =
+    tie.close
+    (tie.spec
+    Inv-loop
+    μ-loop
+    loop-holds
+    add-sign-at
+    sign-at-requires
+    add-fits-sign
+    shared-slice-read-fits-sign
+    fits-sign-requires
+    add-k
+    loop-less
+    loop-again
+    returns
+    returns-2)
