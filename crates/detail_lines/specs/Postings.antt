@@ -16,7 +16,6 @@ use Rattle.rules.specs.Written.{Book, toAccount, toBank}
 use Rattle.rules.specs.Calls.{detailPosting, detailPostings}
 use Rattle.laws.specs.Parts.{cut, from, from-take}
 use Rattle.laws.specs.Writing.{Wrote, Left, left-turn, left-none, left-length}
-use Rattle.forms.specs.Details.{detailHeld}
 use Rattle.register.specs.Passed.{temporary-at, iban-at, LinePlace}
 use Rattle.verdict.specs.Answers.{verdictOf}
 use Rattle.verdict.specs.Judging.{found-below}
@@ -90,21 +89,21 @@ module _ (text : List ℕ) (h : isSome (register text) ≡ true) (b : W.Book) (v
 
 module _ (text s : List ℕ) (b : Book) (p k : ℕ) {o at : ℕ} {out whole start : List ℕ} (l : Left (detailPostings (registerOf text) b (walked k (from s p))) o out whole at start) where
   module _ (h : 0 < k) (j : J.Judged) (w : JudgedAt text s p j) where
-    credits-step : j .detail .ok ≡ true
-        → detailPostings (registerOf text) b (walked k (from s p)) ≡ verdictPosting (registerOf text) b (j .detail .amount) (verdictOf (j .verdict)) ++ detailPostings (registerOf text) b (walked (k - 1) (from s (j .detail .next)))
+    credits-step : j .ok ≡ true
+        → detailPostings (registerOf text) b (walked k (from s p)) ≡ verdictPosting (registerOf text) b (j .amount) (verdictOf (j .verdict)) ++ detailPostings (registerOf text) b (walked (k - 1) (from s (j .next)))
     unfolding detailPostings
     credits-step e =
-        let d : Detail = detailHeld s (j .detail) in
-        rw (walked-next s p (j .detail) (w .detail) k h e, w .verdict)
-        (ap (λ (l : List ℕ). l ++ detailPostings (registerOf text) b (walked (k - 1) (from s (j .detail .next)))) (detail-amount (registerOf text) b d (verdict (registerOf text) (account59 d))))
+        let d : Detail = w .detail in
+        rw (walked-next text s p j w k h e, w .verdict, w .amount)
+        (ap (λ (l : List ℕ). l ++ detailPostings (registerOf text) b (walked (k - 1) (from s (j .next)))) (detail-amount (registerOf text) b d (verdict (registerOf text) (account59 d))))
 
-    pub credits-more : j .detail .ok ≡ true → {o' : ℕ} {out' : List ℕ} → Wrote (verdictPosting (registerOf text) b (j .detail .amount) (verdictOf (j .verdict))) o out o' out'
-        → Left (detailPostings (registerOf text) b (walked (k - 1) (from s (j .detail .next)))) o' out' whole at start
+    pub credits-more : j .ok ≡ true → {o' : ℕ} {out' : List ℕ} → Wrote (verdictPosting (registerOf text) b (j .amount) (verdictOf (j .verdict))) o out o' out'
+        → Left (detailPostings (registerOf text) b (walked (k - 1) (from s (j .next)))) o' out' whole at start
     credits-more e u = left-turn (rw (credits-step e) at l) u
 
-    pub credits-stop : j .detail .ok ≡ false → Wrote whole at start o out
+    pub credits-stop : j .ok ≡ false → Wrote whole at start o out
     unfolding detailPostings
-    credits-stop e = left-none (rw (walked-stop s p (j .detail) (w .detail) k h e) at l)
+    credits-stop e = left-none (rw (walked-stop text s p j w k h e) at l)
 
   pub credits-end : k ≤ 0 → Wrote whole at start o out
   unfolding detailPostings

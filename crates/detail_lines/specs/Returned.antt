@@ -4,7 +4,7 @@ use mathlib.Core.Bool.{Bool, true, false, cond}
 use mathlib.Core.List.{List, [], _∷_, _++_}
 use Prim.Native.Nat.{ℕ, zero, suc, _+_, _-_, _≤_, _<_}
 use native.Mathlib.Omega.{arith}
-use lib.ListN.{length, getD, take, drop}
+use lib.ListN.{length, take, drop}
 use lib.Seq.{take-nil}
 use Rattle.rules.specs.Messages.{Detail}
 use Rattle.rules.specs.Register.{registerOf}
@@ -13,10 +13,8 @@ use Rattle.rules.specs.Written.{returnedRows, allReturned}
 use Rattle.rules.specs.Calls.{returnedOf}
 use Rattle.laws.specs.Parts.{from}
 use Rattle.laws.specs.Writing.{Wrote, Left, left-turn, left-none, left-length}
-use Rattle.forms.specs.Spans.{noSpan, within-at}
-use Rattle.forms.specs.Details.{detailHeld}
 use Rattle.verdict.specs.Answers.{verdictOf}
-use Rattle.verdict.specs.Details.{JudgedAt}
+use Rattle.verdict.specs.Details.{JudgedAt, line-inside}
 use Rattle.verdict.specs.declared.Verdict.{Verdict}
 use Rattle.verdict.specs.declared.Verdict.the-variants.{Credited, Returned}
 use Rattle.verdict.specs.declared.detail.Judged as J
@@ -47,19 +45,19 @@ module _ (text s : List ℕ) (p k : ℕ) where
   returned-end h = rw (walked-none k (from s p) h)
 
   module _ (h : 0 < k) (j : J.Judged) (w : JudgedAt text s p j) where
-    returned-stop : j .detail .ok ≡ false → returnedAt text s p k ≡ []
+    returned-stop : j .ok ≡ false → returnedAt text s p k ≡ []
     unfolding returnedAt returnedOf
-    returned-stop e = rw (walked-stop s p (j .detail) (w .detail) k h e)
+    returned-stop e = rw (walked-stop text s p j w k h e)
 
-    module _ (e : j .detail .ok ≡ true) (b : Bool) (u : b ≡ isReturned (verdictOf (j .verdict))) where
-      returned-step : returnedAt text s p k ≡ cond b (detailHeld s (j .detail) ∷ returnedAt text s (j .detail .next) (k - 1)) (returnedAt text s (j .detail .next) (k - 1))
+    module _ (e : j .ok ≡ true) (b : Bool) (u : b ≡ isReturned (verdictOf (j .verdict))) where
+      returned-step : returnedAt text s p k ≡ cond b (w .detail ∷ returnedAt text s (j .next) (k - 1)) (returnedAt text s (j .next) (k - 1))
       unfolding returnedAt returnedOf
-      returned-step = rw (walked-next s p (j .detail) (w .detail) k h e, u, w .verdict)
+      returned-step = rw (walked-next text s p j w k h e, u, w .verdict)
 
-      returned-one : b ≡ true → returnedAt text s p k ≡ detailHeld s (j .detail) ∷ returnedAt text s (j .detail .next) (k - 1)
+      returned-one : b ≡ true → returnedAt text s p k ≡ w .detail ∷ returnedAt text s (j .next) (k - 1)
       returned-one d = returned-step ∙ rw d
 
-      returned-none : b ≡ false → returnedAt text s p k ≡ returnedAt text s (j .detail .next) (k - 1)
+      returned-none : b ≡ false → returnedAt text s p k ≡ returnedAt text s (j .next) (k - 1)
       returned-none d = returned-step ∙ rw d
 
 -- ---- how many they are
@@ -83,15 +81,15 @@ module _ (text s : List ℕ) (p k n first count : ℕ) (l : Counting text s p k 
   counting-end h = record { value = omega (arith, l .same, ap length (returned-end text s p k h)); most = omega (arith, l .room) }
 
   module _ (h : 0 < k) (j : J.Judged) (w : JudgedAt text s p j) where
-    pub counting-stop : j .detail .ok ≡ false → ReturnedCount text s first count n
+    pub counting-stop : j .ok ≡ false → ReturnedCount text s first count n
     counting-stop e = record { value = omega (arith, l .same, ap length (returned-stop text s p k h j w e)); most = omega (arith, l .room) }
 
-    module _ (e : j .detail .ok ≡ true) (b : Bool) (u : b ≡ isReturned (verdictOf (j .verdict))) where
-      pub counting-more : b ≡ true → Counting text s (j .detail .next) (k - 1) (n + 1) first count
-      counting-more d = record { within = w .detail .next; same = omega (arith, l .same, ap length (returned-one text s p k h j w e b u d)); room = omega (arith, l .room) }
+    module _ (e : j .ok ≡ true) (b : Bool) (u : b ≡ isReturned (verdictOf (j .verdict))) where
+      pub counting-more : b ≡ true → Counting text s (j .next) (k - 1) (n + 1) first count
+      counting-more d = record { within = w .next; same = omega (arith, l .same, ap length (returned-one text s p k h j w e b u d)); room = omega (arith, l .room) }
 
-      pub counting-pass : b ≡ false → Counting text s (j .detail .next) (k - 1) n first count
-      counting-pass d = record { within = w .detail .next; same = omega (arith, l .same, ap length (returned-none text s p k h j w e b u d)); room = omega (arith, l .room) }
+      pub counting-pass : b ≡ false → Counting text s (j .next) (k - 1) n first count
+      counting-pass d = record { within = w .next; same = omega (arith, l .same, ap length (returned-none text s p k h j w e b u d)); room = omega (arith, l .room) }
 
 -- ---- past the first of them
 
@@ -133,20 +131,20 @@ module _ (text s : List ℕ) (p k i first count all : ℕ) (l : Passing text s p
   passing-end h = nothing-left (returned-end text s p k h)
 
   module _ (h : 0 < k) (j : J.Judged) (w : JudgedAt text s p j) where
-    pub passing-stop : j .detail .ok ≡ false → Passed text s first count all p 0
+    pub passing-stop : j .ok ≡ false → Passed text s first count all p 0
     passing-stop e = nothing-left (returned-stop text s p k h j w e)
 
-    module _ (e : j .detail .ok ≡ true) (b : Bool) (u : b ≡ isReturned (verdictOf (j .verdict))) where
-      pub passing-more : b ≡ true → (i ≡ 0 → ⊥) → Passing text s (j .detail .next) (k - 1) (i - 1) first count all
+    module _ (e : j .ok ≡ true) (b : Bool) (u : b ≡ isReturned (verdictOf (j .verdict))) where
+      pub passing-more : b ≡ true → (i ≡ 0 → ⊥) → Passing text s (j .next) (k - 1) (i - 1) first count all
       passing-more d n = record {
-        within = w .detail .next;
+        within = w .next;
         fewer = omega (arith, l .fewer);
-        same = sym (drop-one (detailHeld s (j .detail)) (returnedAt text s (j .detail .next) (k - 1)) i (omega (arith, n)))
+        same = sym (drop-one (w .detail) (returnedAt text s (j .next) (k - 1)) i (omega (arith, n)))
             ∙ ap (λ (ds : List Detail). drop i ds) (sym (returned-one text s p k h j w e b u d)) ∙ l .same;
       }
 
-      pub passing-on : b ≡ false → Passing text s (j .detail .next) (k - 1) i first count all
-      passing-on d = record { within = w .detail .next; fewer = omega (arith, l .fewer); same = ap (λ (ds : List Detail). drop i ds) (sym (returned-none text s p k h j w e b u d)) ∙ l .same }
+      pub passing-on : b ≡ false → Passing text s (j .next) (k - 1) i first count all
+      passing-on d = record { within = w .next; fewer = omega (arith, l .fewer); same = ap (λ (ds : List Detail). drop i ds) (sym (returned-none text s p k h j w e b u d)) ∙ l .same }
 
 -- ---- their rows, m of them at most
 
@@ -166,21 +164,21 @@ module _ (text s : List ℕ) (p k m : ℕ) {o at : ℕ} {out whole start : List 
   rows-end h = no-row (rw (returned-end text s p k h) (take-nil m))
 
   module _ (h : 0 < k) (j : J.Judged) (w : JudgedAt text s p j) where
-    pub rows-stop : j .detail .ok ≡ false → Wrote whole at start o out
+    pub rows-stop : j .ok ≡ false → Wrote whole at start o out
     rows-stop e = no-row (rw (returned-stop text s p k h j w e) (take-nil m))
 
-    module _ (e : j .detail .ok ≡ true) (b : Bool) (u : b ≡ isReturned (verdictOf (j .verdict))) where
+    module _ (e : j .ok ≡ true) (b : Bool) (u : b ≡ isReturned (verdictOf (j .verdict))) where
       rows-step : b ≡ true → (m ≡ 0 → ⊥)
-          → allReturned (take m (returnedAt text s p k)) ≡ returnedRows (detailHeld s (j .detail)) ++ allReturned (take (m - 1) (returnedAt text s (j .detail .next) (k - 1)))
+          → allReturned (take m (returnedAt text s p k)) ≡ returnedRows (w .detail) ++ allReturned (take (m - 1) (returnedAt text s (j .next) (k - 1)))
       unfolding allReturned
-      rows-step d n = rw (returned-one text s p k h j w e b u d, take-one (detailHeld s (j .detail)) (returnedAt text s (j .detail .next) (k - 1)) m n)
+      rows-step d n = rw (returned-one text s p k h j w e b u d, take-one (w .detail) (returnedAt text s (j .next) (k - 1)) m n)
 
       pub rows-more : b ≡ true → (m ≡ 0 → ⊥) → {o' : ℕ} {out' : List ℕ}
-          → Wrote (rowsOf s (getD (j .detail .spans) 7 noSpan) (getD (j .detail .spans) 9 noSpan) (getD (j .detail .spans) 14 noSpan)) o out o' out'
-          → Left (allReturned (take (m - 1) (returnedAt text s (j .detail .next) (k - 1)))) o' out' whole at start
-      rows-more d n v = left-turn (rw (rows-step d n) at l) (rw (rows-held s (j .detail)) at v)
+          → Wrote (rowsOf s (j .branch) (j .account) (j .baeref)) o out o' out'
+          → Left (allReturned (take (m - 1) (returnedAt text s (j .next) (k - 1)))) o' out' whole at start
+      rows-more d n v = left-turn (rw (rows-step d n) at l) (rw (rows-held s (w .detail) _ _ _ (w .branch) (w .account) (w .baeref)) at v)
 
-      pub rows-pass : b ≡ false → Left (allReturned (take m (returnedAt text s (j .detail .next) (k - 1)))) o out whole at start
+      pub rows-pass : b ≡ false → Left (allReturned (take m (returnedAt text s (j .next) (k - 1)))) o out whole at start
       rows-pass d = rw (returned-none text s p k h j w e b u d) at l
 
-pub ruleset returning = (left-length, within-at, credit-stays, return-goes, counting-start, counting-end, counting-stop, counting-more, counting-pass, passing-start, passing-done, passing-end, passing-stop, passing-more, passing-on, rows-full, rows-end, rows-stop, rows-more, rows-pass)
+pub ruleset returning = (left-length, line-inside, credit-stays, return-goes, counting-start, counting-end, counting-stop, counting-more, counting-pass, passing-start, passing-done, passing-end, passing-stop, passing-more, passing-on, rows-full, rows-end, rows-stop, rows-more, rows-pass)

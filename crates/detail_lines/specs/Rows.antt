@@ -3,17 +3,17 @@ use mathlib.Core.Path.{_≡_}
 use mathlib.Core.List.{List, _++_}
 use Prim.Native.Nat.{ℕ, _+_, _-_, _≤_, _<_}
 use native.Mathlib.Omega.{arith}
-use lib.ListN.{getD, take, drop}
+use lib.ListN.{take, drop}
 use lib.Seq.{take-all}
 use Rattle.rules.specs.Text.{ascii}
+use Rattle.rules.specs.Messages.{Detail}
 use Rattle.rules.specs.Written.{returnedRows}
 use Rattle.laws.specs.Parts.{cut, cut-take, cut-length}
 use Rattle.laws.specs.Writing.{Wrote}
-use Rattle.forms.specs.Spans.{spanOf, noSpan, SpanIn, held-line}
+use Rattle.forms.specs.Spans.{spanOf, SpanIn}
 use Rattle.forms.specs.Fields.{Behind, behind-in, behind-bytes}
-use Rattle.forms.specs.Details.{detailHeld}
 use Rattle.forms.specs.declared.rows.Span.{Span}
-use Rattle.forms.specs.declared.detail.Detail as F
+use Rattle.verdict.specs.Details.{LineOf}
 
 -- ---- what stands behind the first k bytes of a line, or n bytes of it
 
@@ -44,6 +44,6 @@ rowFront s branch baeref = take 8 (drop 5 (spanOf s branch)) ++ ascii "/" ++ tak
 abbrev pub rowsOf : List ℕ → Span → Span → Span → List ℕ
 rowsOf s branch account baeref = (rowFront s branch baeref ++ drop 12 (spanOf s baeref) ++ ascii "\r\n") ++ (drop 5 (spanOf s account) ++ ascii "\r\n")
 
-pub rows-held : (s : List ℕ) (d : F.Detail) → rowsOf s (getD (d .spans) 7 noSpan) (getD (d .spans) 9 noSpan) (getD (d .spans) 14 noSpan) ≡ returnedRows (detailHeld s d)
+pub rows-held : (s : List ℕ) (d : Detail) (branch account baeref : Span) → LineOf s d 7 branch → LineOf s d 9 account → LineOf s d 14 baeref → rowsOf s branch account baeref ≡ returnedRows d
 unfolding returnedRows
-rows-held s d = rw (held-line s (d .spans) 17 7 (omega arith), held-line s (d .spans) 17 9 (omega arith), held-line s (d .spans) 17 14 (omega arith))
+rows-held s d branch account baeref h k l = rw (h .bytes, k .bytes, l .bytes)

@@ -62,10 +62,10 @@ pub fn put_detail_postings(
     let mut k = count;
     while k > 0 {
         let j = judge_detail(text, s, p);
-        if j.detail.ok {
+        if j.ok {
             let v = j.verdict;
-            o = put_verdict_posting(out, o, book, text, v, j.detail.amount);
-            p = j.detail.next;
+            o = put_verdict_posting(out, o, book, text, v, j.amount);
+            p = j.next;
             k -= 1;
         } else {
             return o;

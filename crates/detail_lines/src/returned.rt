@@ -36,14 +36,14 @@ pub fn count_returned(text: &[u8], s: &[u8], first: usize, count: usize) -> usiz
     let mut k = count;
     while k > 0 {
         let j = judge_detail(text, s, p);
-        if j.detail.ok {
+        if j.ok {
             let v = j.verdict;
             if is_returned(v) {
                 n += 1;
-                p = j.detail.next;
+                p = j.next;
                 k -= 1;
             } else {
-                p = j.detail.next;
+                p = j.next;
                 k -= 1;
             }
         } else {
@@ -74,14 +74,14 @@ pub fn pass_returned(text: &[u8], s: &[u8], first: usize, count: usize, most: us
             return Place { at: p, left: k };
         }
         let j = judge_detail(text, s, p);
-        if j.detail.ok {
+        if j.ok {
             let v = j.verdict;
             if is_returned(v) {
                 i -= 1;
-                p = j.detail.next;
+                p = j.next;
                 k -= 1;
             } else {
-                p = j.detail.next;
+                p = j.next;
                 k -= 1;
             }
         } else {
@@ -115,17 +115,15 @@ pub fn put_returned(
             return o;
         }
         let j = judge_detail(text, s, p);
-        if j.detail.ok {
+        if j.ok {
             let v = j.verdict;
             if is_returned(v) {
-                let d = j.detail;
-                let spans = d.spans;
-                o = put_returned_rows(out, o, s, spans[7], spans[9], spans[14]);
+                o = put_returned_rows(out, o, s, j.branch, j.account, j.baeref);
                 m -= 1;
-                p = j.detail.next;
+                p = j.next;
                 k -= 1;
             } else {
-                p = j.detail.next;
+                p = j.next;
                 k -= 1;
             }
         } else {

@@ -1,7 +1,6 @@
 // A detail of an MT101 with its verdict.
 use crate::Verdict;
 use crate::judge;
-use forms::Detail;
 use forms::Span;
 ghost use mathlib.Core.Path.{_≡_};
 ghost use mathlib.Core.Bool.{true};
@@ -14,9 +13,14 @@ ghost use Rattle.forms.specs.Spans.{spanOf, SpanIn};
 ghost use Rattle.verdict.specs.Answers.{verdictOf};
 ghost use Rattle.verdict.specs.Details.{JudgedAt};
 
-// A detail and its verdict.
+// A detail and its verdict: where the text goes on behind it, its amount, and the lines of 52D, 59 and BAEREF.
 pub struct Judged {
-    pub detail: Detail,
+    pub ok: bool,
+    pub next: usize,
+    pub amount: u64,
+    pub branch: Span,
+    pub account: Span,
+    pub baeref: Span,
     pub verdict: Verdict,
 }
 
@@ -36,9 +40,17 @@ pub fn judge_detail(text: &[u8], s: &[u8], at: usize) -> Judged
     requires { ⌜ length (now s) ≤ 4096 ⌝ }
     ensures { λ r. ⌜ JudgedAt (now (text .entry)) (now (s .entry)) at r ⌝ }
 {
-    let detail = forms::read_detail(s, at);
-    let spans = detail.spans;
-    let account = forms::behind(spans[9], 5);
-    let verdict = judge_part(text, s, account);
-    Judged { detail, verdict }
+    let d = forms::read_detail(s, at);
+    let spans = d.spans;
+    let account = spans[9];
+    let verdict = judge_part(text, s, forms::behind(account, 5));
+    Judged {
+        ok: d.ok,
+        next: d.next,
+        amount: d.amount,
+        branch: spans[7],
+        account,
+        baeref: spans[14],
+        verdict,
+    }
 }

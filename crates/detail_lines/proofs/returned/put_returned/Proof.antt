@@ -31,15 +31,6 @@ judge-detail-requires c κs = search (returning, needs)
 is-returned-requires : tie.Need-is-returned-requires Inv-loop μ-loop
 is-returned-requires c κs = search (returning, needs)
 
-array-copy-out-put-returned-rows : tie.Need-array-copy-out-put-returned-rows Inv-loop μ-loop
-array-copy-out-put-returned-rows c = search (returning, needs)
-
-array-copy-out-put-returned-rows-2 : tie.Need-array-copy-out-put-returned-rows-2 Inv-loop μ-loop
-array-copy-out-put-returned-rows-2 c = search (returning, needs)
-
-array-copy-out-put-returned-rows-3 : tie.Need-array-copy-out-put-returned-rows-3 Inv-loop μ-loop
-array-copy-out-put-returned-rows-3 c = search (returning, needs)
-
 put-returned-rows-requires : tie.Need-put-returned-rows-requires Inv-loop μ-loop
 put-returned-rows-requires c κs = search (returning, needs)
 
@@ -87,9 +78,6 @@ put-returned-spec =
     returns
     judge-detail-requires
     is-returned-requires
-    array-copy-out-put-returned-rows
-    array-copy-out-put-returned-rows-2
-    array-copy-out-put-returned-rows-3
     put-returned-rows-requires
     sub-m
     sub-k
