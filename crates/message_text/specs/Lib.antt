@@ -1,3 +1,3 @@
 pub mod Parts
-pub mod Texts
+pub mod Postings
 pub mod Message

@@ -1,20 +1,20 @@
 -- The text of a message that is booked, off its bytes and the area. Assumes nothing.
-use mathlib.Core.Path.{_≡_, subst, sym, ap, _∙_}
-use mathlib.Core.Bool.{Bool, true, false, not, cond}
-use mathlib.Core.List.{List}
+use mathlib.Core.Path.{_≡_, refl, sym, ap, _∙_}
+use mathlib.Core.Bool.{Bool, true, false, not}
+use mathlib.Core.List.{List, append-nil}
 use Prim.Native.Nat.{ℕ, _+_, _-_, _≤_, _<_}
 use native.Mathlib.Omega.{arith}
+use lib.Dec.{leb}
 use lib.ListN.{length, take, drop}
-use borrow.Author.Tests.{le-leb}
 use Rattle.rules.specs.Text.{isSome}
-use Rattle.rules.specs.Messages.{detailsOf}
+use Rattle.rules.specs.Messages.{dateOf}
 use Rattle.rules.specs.Register.{register, registerOf}
-use Rattle.rules.specs.Engine.{Position, hasDetails}
-use Rattle.rules.specs.Written.{partsOf}
-use Rattle.rules.specs.Calls.{returnedOf, judged, after, messageText, writes}
+use Rattle.rules.specs.Engine.{hasDetails}
+use Rattle.rules.specs.Written.{partsOf, verdicts}
+use Rattle.rules.specs.Calls.{bankOf, judged, after, postings, messageText, writes}
 use Rattle.rules.specs.Area.{decode, holds}
 use Rattle.laws.specs.Parts.{cut, from, from-take}
-use Rattle.laws.specs.Writing.{Wrote}
+use Rattle.laws.specs.Writing.{Wrote, wrote-then}
 use Rattle.area.specs.Limits.{date-small}
 use Rattle.area.specs.Decoded.{decoded-limits, decoded-short}
 use Rattle.register.specs.Places.{place, count}
@@ -24,14 +24,13 @@ use Rattle.engine.specs.Held.{RegisterEnd}
 use Rattle.engine.specs.declared.find.Totals.{Totals}
 use Rattle.steps.specs.Numbers.{NumbersOf}
 use Rattle.steps.specs.declared.parts.Numbers.{Numbers}
-use Rattle.state.specs.Books.{Books, IsTransfer, IsOrder, KindOf, messageIn, amountIf}
+use Rattle.state.specs.Books.{Books, messageIn, amountIf}
 use Rattle.state.specs.declared.booking.Booking.{Booking}
 use Rattle.written.specs.Values.{positionOf}
 use Rattle.written.specs.declared.Position as W
-use Rattle.conditions.specs.Walk.{walked, walked-all}
 use Rattle.detail_lines.specs.Returned.{returnedAt, ReturnedCount}
 use Rattle.message_text.specs.Parts.{PartsOf}
-use Rattle.message_text.specs.Texts.{orderText, transferText, order-text, transfer-text}
+use Rattle.message_text.specs.Postings.{bookFor, transfer-is, order-is, details-within, details-few, returned-held}
 use Rattle.message_text.specs.declared.message.Header.{Header}
 
 -- ---- what the area says
@@ -88,57 +87,52 @@ pub amount-part : (t : Bool) (v : ℕ) → amountIf t v ≤ v
 amount-part true v = omega arith
 amount-part false v = omega arith
 
--- ---- an MT103 and an MT101
+-- ---- does an MT199 follow?
 
-module _ (s : List ℕ) (b : Booking) (k : Books s b) where
-  transfer-is : b .transfer ≡ true → IsTransfer (messageIn s) (b .amount)
-  transfer-is e = subst (KindOf s b) e (k .kind)
+abbrev pub verdictFollows : Bool → ℕ → Bool
+verdictFollows true detailed = leb 1 detailed
+verdictFollows false detailed = true
 
-  module _ (e : b .transfer ≡ false) where
-    order-is : IsOrder s (messageIn s) (b .first) (b .count)
-    order-is = subst (KindOf s b) e (k .kind)
+pub transfer-follows : (t : Bool) (detailed : ℕ) → t ≡ true → leb 1 detailed ≡ verdictFollows t detailed
+transfer-follows t detailed e = rw e
 
-    order-details : walked (b .count) (from s (b .first)) ≡ order-is .order .details
-    order-details = ap (λ (n : ℕ). walked n (from s (b .first))) (order-is .counted) ∙ walked-all 4096 (from s (b .first)) (order-is .order .details) (order-is .read)
+follows-is : (s : List ℕ) (b : Booking) → Books s b → (p : W.Position) → judged (messageIn s) (positionOf p) ≡ verdictFollows (b .transfer) (p .detailed)
+unfolding judged hasDetails
+follows-is s b k p = go (b .transfer) refl
+  where
+    go : (t : Bool) → b .transfer ≡ t → judged (messageIn s) (positionOf p) ≡ verdictFollows t (p .detailed)
+    go true e = rw (transfer-is s b k e .same)
+    go false e = rw (order-is s b k e .same)
 
-    -- where an order's details begin, and how many there are
-    pub order-first : b .first ≤ length s
-    order-first = order-is .within
+-- ---- the text, and how many messages it is
 
-    pub order-few : b .count ≤ 16
-    order-few = order-is .few
-
-module _ (a s : List ℕ) (b : Booking) (k : Books s b) (x : Totals) (y : TotalsOf (decode a .positions) (b .bank) (b .date) x) (p : W.Position) (q : AfterOf b x p) where
+module _ (a s : List ℕ) (b : Booking) (k : Books s b) (x : Totals) (y : TotalsOf (decode a .positions) (b .bank) (b .date) x) (p : W.Position) (q : AfterOf b x p) (v : Bool) (f : v ≡ verdictFollows (b .transfer) (p .detailed)) where
   after-is : positionOf p ≡ after (decode a) (messageIn s)
   unfolding after
   after-is = rw (q .bank, q .date, q .transferred, q .detailed, y .transferred, y .detailed, ← k .transferred, ← k .detailed, k .bank, k .date)
 
-  module _ (h : Header) (d : HeaderOf a h) {at r : ℕ} {out out' : List ℕ} where
-    pub transfer-message : b .transfer ≡ true → Wrote (transferText (h .day) (h .count) (textIn a (h .end)) (positionOf p) (b .amount)) at out r out' → Wrote (messageText (decode a) (messageIn s)) at out r out'
-    transfer-message e w = rw (← transfer-text (decode a) (messageIn s) (transfer-is s b k e .transfer) (transfer-is s b k e .same)) (rw (d .day, d .count, d .text, after-is, ← transfer-is s b k e .sum) at w)
+  judged-is : judged (messageIn s) (after (decode a) (messageIn s)) ≡ v
+  judged-is = rw (← after-is) (follows-is s b k p) ∙ sym f
 
-    pub order-message : b .transfer ≡ false → Wrote (orderText (h .day) (h .count) (textIn a (h .end)) (positionOf p) (walked (b .count) (from s (b .first)))) at out r out' → Wrote (messageText (decode a) (messageIn s)) at out r out'
-    order-message e w = rw (← order-text (decode a) (messageIn s) (order-is s b k e .order) (order-is s b k e .same)) (rw (d .day, d .count, d .text, after-is, order-details s b k e) at w)
+  pub writes-none : v ≡ false → 0 ≡ writes (decode a) (messageIn s)
+  unfolding writes
+  writes-none e = rw (judged-is, e)
 
-  -- ---- how many messages are written
+  module _ (h : Header) (d : HeaderOf a h) where
+    pub writes-parts : v ≡ true → {n : ℕ} → ReturnedCount (textIn a (h .end)) s (b .first) (b .count) n → {r : ℕ} → PartsOf n r → r ≡ writes (decode a) (messageIn s)
+    unfolding writes
+    writes-parts e c u = u .value ∙ ap partsOf (c .value) ∙ rw (judged-is, e, ← d .text, returned-held s b k (textIn a (h .end)))
 
-  judged-transfer : (e : b .transfer ≡ true) → writes (decode a) (messageIn s) ≡ cond (hasDetails (positionOf p)) 1 0
-  unfolding writes judged detailsOf returnedOf partsOf
-  judged-transfer e = rw (after-is, transfer-is s b k e .same)
+    module _ {at m : ℕ} {out out₁ : List ℕ} (w : Wrote (postings (registerOf (textIn a (h .end))) (bookFor (h .day) (textIn a (h .end)) (positionOf p)) (messageIn s)) at out m out₁) where
+      lines-first : Wrote (postings (registerOf (decode a .register)) (record { day = decode a .day; temporary = registerOf (decode a .register) .temporary; bank = bankOf (messageIn s); date = dateOf (messageIn s) }) (messageIn s)) at out m out₁
+      lines-first = rw (← k .bank, ← k .date, ← q .bank, ← q .date, ← d .day, ← d .text) w
 
-  pub writes-none : b .transfer ≡ true → p .detailed ≡ 0 → 0 ≡ writes (decode a) (messageIn s)
-  unfolding hasDetails
-  writes-none e z = sym (judged-transfer e ∙ rw z)
+      pub message-plain : v ≡ false → Wrote (messageText (decode a) (messageIn s)) at out m out₁
+      unfolding messageText
+      message-plain e = rw (judged-is, e, append-nil) lines-first
 
-  pub writes-one : b .transfer ≡ true → (p .detailed ≡ 0 → ⊥) → 1 ≡ writes (decode a) (messageIn s)
-  unfolding hasDetails
-  writes-one e z = sym (judged-transfer e ∙ rw (le-leb 1 (p .detailed) (omega (arith, z))))
+      pub message-judged : v ≡ true → {r : ℕ} {out₂ : List ℕ} → Wrote (verdicts (h .day) (h .count) (positionOf p) (returnedAt (textIn a (h .end)) s (b .first) (b .count))) m out₁ r out₂ → Wrote (messageText (decode a) (messageIn s)) at out r out₂
+      unfolding messageText
+      message-judged e u = rw (judged-is, e) (wrote-then lines-first (rw (d .day, d .count, after-is, returned-held s b k (textIn a (h .end)), d .text) at u))
 
-module _ (a s : List ℕ) (b : Booking) (k : Books s b) (e : b .transfer ≡ false) (h : Header) (d : HeaderOf a h) where
-  judged-order : writes (decode a) (messageIn s) ≡ partsOf (length (returnedOf (registerOf (decode a .register)) (order-is s b k e .order .details)))
-  unfolding writes judged detailsOf
-  judged-order = rw (order-is s b k e .same)
-
-  pub writes-parts : {n : ℕ} → ReturnedCount (textIn a (h .end)) s (b .first) (b .count) n → {r : ℕ} → PartsOf n r → r ≡ writes (decode a) (messageIn s)
-  unfolding returnedAt
-  writes-parts c q = q .value ∙ ap partsOf (c .value) ∙ rw (d .text, order-details s b k e) (sym judged-order)
+pub ruleset messages = (transfer-follows, details-within, details-few, writes-none, writes-parts, message-plain, message-judged)

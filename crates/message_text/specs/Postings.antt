@@ -1,23 +1,24 @@
--- The text of an MT103 and of an MT101, by what is written for them: posting lines, then the MT199. Assumes nothing.
-use mathlib.Core.Path.{_≡_}
-use mathlib.Core.Bool.{true, cond}
-use mathlib.Core.List.{List, [], _++_, append-nil}
-use Prim.Native.Nat.{ℕ, _+_}
+-- The posting lines of a message that is booked, off the places in its bytes. Assumes nothing.
+use mathlib.Core.Path.{_≡_, refl, subst, ap, _∙_}
+use mathlib.Core.Bool.{Bool, true, false}
+use mathlib.Core.List.{List, []}
+use Prim.Native.Nat.{ℕ, _≤_}
 use native.Mathlib.Omega.{arith}
-use lib.ListN.{take}
-use borrow.Author.Tests.{le-leb}
+use lib.ListN.{length, take}
 use Rattle.rules.specs.Text.{isSome}
-use Rattle.rules.specs.Messages.{Message, Transfer, Order, Detail, mt103, mt101, detailsOf}
+use Rattle.rules.specs.Messages.{Detail, detailsOf}
 use Rattle.rules.specs.Register.{register, registerOf}
-use Rattle.rules.specs.Engine.{Position, Engine, hasDetails}
-use Rattle.rules.specs.Written.{Book, fromBank, verdicts}
-use Rattle.rules.specs.Calls.{returnedOf, detailPostings, postings, judged, after, messageText}
+use Rattle.rules.specs.Engine.{Position}
+use Rattle.rules.specs.Written.{Book, fromBank}
+use Rattle.rules.specs.Calls.{returnedOf, detailPostings, postings}
 use Rattle.laws.specs.Parts.{cut, from}
-use Rattle.laws.specs.Writing.{Wrote, wrote-then}
+use Rattle.laws.specs.Writing.{Wrote}
 use Rattle.register.specs.Passed.{temporary-at}
+use Rattle.state.specs.Books.{Books, IsTransfer, IsOrder, KindOf, messageIn}
+use Rattle.state.specs.declared.booking.Booking.{Booking}
 use Rattle.written.specs.Values.{positionOf, bookOf}
 use Rattle.written.specs.declared.Position as W
-use Rattle.conditions.specs.Walk.{walked}
+use Rattle.conditions.specs.Walk.{walked, walked-all}
 use Rattle.detail_lines.specs.Postings.{bookBy}
 use Rattle.detail_lines.specs.Returned.{returnedAt}
 
@@ -25,44 +26,51 @@ use Rattle.detail_lines.specs.Returned.{returnedAt}
 abbrev pub bookFor : ℕ → List ℕ → Position → Book
 bookFor day text p = record { day = day; temporary = registerOf text .temporary; bank = p .bank; date = p .date }
 
--- for an MT101 that leaves its position so
-unfoldable pub orderText : ℕ → ℕ → List ℕ → Position → List Detail → List ℕ
-orderText day n text p ds = detailPostings (registerOf text) (bookFor day text p) ds ++ verdicts day n p (returnedOf (registerOf text) ds)
+-- ---- the details of a booked message, by their place and their number; a transfer has none
 
--- for an MT103 of so much
-unfoldable pub transferText : ℕ → ℕ → List ℕ → Position → ℕ → List ℕ
-transferText day n text p v = fromBank (bookFor day text p) v ++ cond (hasDetails p) (verdicts day n p []) []
+module _ (s : List ℕ) (b : Booking) (k : Books s b) where
+  pub transfer-is : b .transfer ≡ true → IsTransfer s (messageIn s) (b .amount) (b .first) (b .count)
+  transfer-is e = subst (KindOf s b) e (k .kind)
 
--- ---- they are the message's
+  pub order-is : b .transfer ≡ false → IsOrder s (messageIn s) (b .first) (b .count)
+  order-is e = subst (KindOf s b) e (k .kind)
 
-module _ (e : Engine) (m : Message) where
-  pub order-text : (o : Order) → m ≡ mt101 o → orderText (e .day) (e .count) (e .register) (after e m) (o .details) ≡ messageText e m
-  unfolding orderText messageText postings judged after detailsOf
-  order-text o h = rw h
+  -- either kind
+  kinds : {A : Type 0} → (b .transfer ≡ true → A) → (b .transfer ≡ false → A) → A
+  kinds {A} f g = go (b .transfer) refl
+    where
+      go : (t : Bool) → b .transfer ≡ t → A
+      go true e = f e
+      go false e = g e
 
-  pub transfer-text : (t : Transfer) → m ≡ mt103 t → transferText (e .day) (e .count) (e .register) (after e m) (t .amount) ≡ messageText e m
-  unfolding transferText messageText postings judged after detailsOf returnedOf
-  transfer-text t h = rw h
+  pub details-within : b .first ≤ length s
+  details-within = kinds (λ e. transfer-is e .within) (λ e. order-is e .within)
 
--- ---- as they are written
+  pub details-few : b .count ≤ 16
+  details-few = kinds (λ e. omega (arith, transfer-is e .none)) (λ e. order-is e .few)
 
-module _ (day n : ℕ) (p : W.Position) (text : List ℕ) {at m : ℕ} {out out₁ : List ℕ} where
-  pub order-wrote : (s : List ℕ) (first count : ℕ) → Wrote (detailPostings (registerOf text) (bookBy text (record { day = day; bank = p .bank; date = p .date })) (walked count (from s first))) at out m out₁
-      → {r : ℕ} {out₂ : List ℕ} → Wrote (verdicts day n (positionOf p) (returnedAt text s first count)) m out₁ r out₂ → Wrote (orderText day n text (positionOf p) (walked count (from s first))) at out r out₂
-  unfolding orderText returnedAt
-  order-wrote s first count v w = wrote-then v w
+  pub details-held : walked (b .count) (from s (b .first)) ≡ detailsOf (messageIn s)
+  unfolding detailsOf walked
+  details-held = kinds (λ e. rw (transfer-is e .none, transfer-is e .same))
+      (λ e. rw (order-is e .same) (ap (λ (n : ℕ). walked n (from s (b .first))) (order-is e .counted) ∙ walked-all 4096 (from s (b .first)) (order-is e .order .details) (order-is e .read)))
 
-  module _ (h : isSome (register text) ≡ true) (v : ℕ) (w : Wrote (fromBank (bookOf (take 22 text) (record { day = day; bank = p .bank; date = p .date })) v) at out m out₁) where
-    first-line : Wrote (fromBank (bookFor day text (positionOf p)) v) at out m out₁
-    unfolding cut
-    first-line = rw (temporary-at text h) w
+  pub returned-held : (text : List ℕ) → returnedAt text s (b .first) (b .count) ≡ returnedOf (registerOf text) (detailsOf (messageIn s))
+  unfolding returnedAt
+  returned-held text = rw details-held
 
-    pub transfer-alone : p .detailed ≡ 0 → Wrote (transferText day n text (positionOf p) v) at out m out₁
-    unfolding transferText hasDetails
-    transfer-alone e = rw (e, append-nil) first-line
+-- ---- their posting lines
 
-    pub transfer-judged : (p .detailed ≡ 0 → ⊥) → (s : List ℕ) {r : ℕ} {out₂ : List ℕ} → Wrote (verdicts day n (positionOf p) (returnedAt text s 0 0)) m out₁ r out₂ → Wrote (transferText day n text (positionOf p) v) at out r out₂
-    unfolding transferText hasDetails returnedAt returnedOf walked
-    transfer-judged d s x = rw (le-leb 1 (p .detailed) (omega (arith, d))) (wrote-then first-line x)
+module _ (s : List ℕ) (b : Booking) (k : Books s b) (day : ℕ) (p : W.Position) (text : List ℕ) {at r : ℕ} {out out' : List ℕ} where
+  pub transfer-posting : isSome (register text) ≡ true → b .transfer ≡ true → Wrote (fromBank (bookOf (take 22 text) (record { day = day; bank = p .bank; date = p .date })) (b .amount)) at out r out'
+      → Wrote (postings (registerOf text) (bookFor day text (positionOf p)) (messageIn s)) at out r out'
+  unfolding postings cut
+  transfer-posting h e w = rw (transfer-is s b k e .same, transfer-is s b k e .sum) (rw (temporary-at text h) w)
 
-pub ruleset texts = (order-wrote, transfer-alone, transfer-judged)
+  pub order-postings : b .transfer ≡ false → Wrote (detailPostings (registerOf text) (bookBy text (record { day = day; bank = p .bank; date = p .date })) (walked (b .count) (from s (b .first)))) at out r out'
+      → Wrote (postings (registerOf text) (bookFor day text (positionOf p)) (messageIn s)) at out r out'
+  unfolding postings detailsOf
+  order-postings e w =
+      let h : walked (b .count) (from s (b .first)) ≡ order-is s b k e .order .details = rw (order-is s b k e .same) at (details-held s b k) in
+      rw (order-is s b k e .same) (rw h at w)
+
+pub ruleset posted = (details-within, details-few, transfer-posting, order-postings)

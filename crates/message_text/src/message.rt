@@ -1,7 +1,7 @@
 // The text of a message that is booked, and how many messages it is.
-use crate::texts::put_order_text;
-use crate::texts::put_transfer_text;
+use crate::postings::put_postings;
 use crate::verdicts::parts_of;
+use crate::verdicts::put_verdicts;
 use detail_lines::count_returned;
 use engine::Totals;
 use engine::register_end;
@@ -19,7 +19,7 @@ ghost use Rattle.rules.specs.Area.{decode, holds};
 ghost use Rattle.laws.specs.Writing.{Wrote};
 ghost use Rattle.engine.specs.Find.{TotalsOf};
 ghost use Rattle.state.specs.Books.{Books, messageIn};
-ghost use Rattle.message_text.specs.Message.{HeaderOf, AfterOf};
+ghost use Rattle.message_text.specs.Message.{HeaderOf, AfterOf, verdictFollows};
 
 // Day and outgoing count of the engine in the area, and where its register's text ends.
 pub struct Header {
@@ -57,6 +57,16 @@ fn position_after(b: Booking, x: Totals) -> Position
     }
 }
 
+// Does an MT199 follow? It follows an MT101, and an MT103 whose position has details.
+fn has_verdict(b: Booking, p: Position) -> bool
+    ensures { λ r. ⌜ r ≡ verdictFollows (b .transfer) (p .detailed) ⌝ }
+{
+    if b.transfer {
+        return 1 <= p.detailed;
+    }
+    true
+}
+
 // The whole text of a message; x are the totals of its position before it.
 pub fn put_message_text(
     out: &mut [u8],
@@ -74,20 +84,21 @@ pub fn put_message_text(
     let h = header_of(area);
     let p = position_after(b, x);
     let end = h.end;
-    if b.transfer {
-        return put_transfer_text(out, at, h.day, h.count, p, &area[2320..end], b.amount);
+    let a = put_postings(out, at, h.day, p, &area[2320..end], s, b);
+    if has_verdict(b, p) {
+        return put_verdicts(
+            out,
+            a,
+            h.day,
+            h.count,
+            p,
+            &area[2320..end],
+            s,
+            b.first,
+            b.count,
+        );
     }
-    put_order_text(
-        out,
-        at,
-        h.day,
-        h.count,
-        p,
-        &area[2320..end],
-        s,
-        b.first,
-        b.count,
-    )
+    a
 }
 
 // How many messages that is.
@@ -97,14 +108,11 @@ pub fn message_writes(s: &[u8], area: &[u8], b: Booking, x: Totals) -> u32
     requires { ⌜ TotalsOf (decode (now area) .positions) (b .bank) (b .date) x ⌝ }
     ensures { λ r. ⌜ r ≡ writes (decode (now (area .entry))) (messageIn (now (s .entry))) ⌝ }
 {
-    if b.transfer {
-        let p = position_after(b, x);
-        if p.detailed == 0 {
-            return 0;
-        }
-        return 1;
+    let p = position_after(b, x);
+    if has_verdict(b, p) {
+        let h = header_of(area);
+        let end = h.end;
+        return parts_of(count_returned(&area[2320..end], s, b.first, b.count));
     }
-    let h = header_of(area);
-    let end = h.end;
-    parts_of(count_returned(&area[2320..end], s, b.first, b.count))
+    0
 }

@@ -45,11 +45,13 @@ abbrev pub misdatedBy : Bool → ℕ → ℕ → Bool
 misdatedBy true date day = not (eqb date day)
 misdatedBy false date day = not (leb date day)
 
--- an MT103 of this amount
-pub record IsTransfer (m : Message) (amount : ℕ) : Type 0 where
+-- an MT103 of this amount, without details
+pub record IsTransfer (s : List ℕ) (m : Message) (amount first count : ℕ) : Type 0 where
   pub transfer : Transfer
   pub same : m ≡ mt103 transfer
   pub sum : transfer .amount ≡ amount
+  pub within : first ≤ length s
+  pub none : count ≡ 0
 
 -- an MT101 whose details stand from a place on
 pub record IsOrder (s : List ℕ) (m : Message) (first count : ℕ) : Type 0 where
@@ -61,7 +63,7 @@ pub record IsOrder (s : List ℕ) (m : Message) (first count : ℕ) : Type 0 whe
   pub few : count ≤ 16
 
 abbrev pub KindOf : List ℕ → Booking → Bool → Type 0
-KindOf s b true = IsTransfer (messageIn s) (b .amount)
+KindOf s b true = IsTransfer s (messageIn s) (b .amount) (b .first) (b .count)
 KindOf s b false = IsOrder s (messageIn s) (b .first) (b .count)
 
 pub record Books (s : List ℕ) (b : Booking) : Type 0 where
@@ -130,7 +132,7 @@ module _ (s : List ℕ) where
           detailed = rw w refl;
           dated = λ day. rw w refl;
           small = omega (arith, h .small);
-          kind = record { transfer = _; same = w; sum = refl };
+          kind = record { transfer = _; same = w; sum = refl; within = omega arith; none = refl };
         }
 
   module _ (p : OrderParts) (h : OrderRead s (read s) p) where

@@ -1,51 +1,55 @@
--- `message_text::message::put_message_text` meets its contract: the kind of message picks the text, which is that of its position as the message leaves it. Assumes nothing.
+-- `message_text::message::put_message_text` meets its contract: the posting lines, and the MT199 where one follows. Assumes nothing.
 use native.Mathlib.Omega.{arith}
 use borrow.Author.Needs.{needs}
-use Rattle.message_text.specs.Message.{transfer-message, order-message, order-first, order-few}
+use Rattle.message_text.specs.Message.{message-judged, messages}
+use Rattle.message_text.specs.Postings.{details-within, details-few}
 use Rattle.message_text.proofs.message.put_message_text.Statement.{statement}
 use Rattle.message_text.proofs.message.put_message_text.Tie as tie
 
 header-of-requires : tie.Need-header-of-requires
-header-of-requires c κs = search needs
+header-of-requires c κs = search (messages, needs)
 
 position-after-requires : tie.Need-position-after-requires
-position-after-requires c κs = search needs
+position-after-requires c κs = search (messages, needs)
 
-sub-put-transfer-text : tie.Need-sub-put-transfer-text
-sub-put-transfer-text c = search needs
+sub-put-postings : tie.Need-sub-put-postings
+sub-put-postings c = search (messages, needs)
 
-part-put-transfer-text-start : tie.Need-part-put-transfer-text-start
-part-put-transfer-text-start c = search needs
+part-put-postings-start : tie.Need-part-put-postings-start
+part-put-postings-start c = search (messages, needs)
 
-part-put-transfer-text-end : tie.Need-part-put-transfer-text-end
-part-put-transfer-text-end c = search needs
+part-put-postings-end : tie.Need-part-put-postings-end
+part-put-postings-end c = search (messages, needs)
 
-put-transfer-text-requires : tie.Need-put-transfer-text-requires
-put-transfer-text-requires c κs = ((c .before .before .before .before .header-of .ensures .passes), ((c .before .before .before .before .header-of .ensures .enough), ((c .before .before .before .before .header-of .ensures .short), omega (arith, (c .before .before .before .before .header-of .ensures .small)))))
+put-postings-requires : tie.Need-put-postings-requires
+put-postings-requires c κs = search (messages, needs)
+
+has-verdict-requires : tie.Need-has-verdict-requires
+has-verdict-requires c κs = search (messages, needs)
+
+sub-put-verdicts : tie.Need-sub-put-verdicts
+sub-put-verdicts c = search (messages, needs)
+
+part-put-verdicts-start : tie.Need-part-put-verdicts-start
+part-put-verdicts-start c = search (messages, needs)
+
+part-put-verdicts-end : tie.Need-part-put-verdicts-end
+part-put-verdicts-end c = search (messages, needs)
+
+put-verdicts-requires : tie.Need-put-verdicts-requires
+put-verdicts-requires c κs = (((c .before .before .before .before .before .before .before .before .before .before .header-of .ensures .passes)), (details-within _ _ ((c .before .before .before .before .before .before .before .before .before .before .before .before .before .before .pre .1 .0)), (((c .before .before .before .before .before .before .before .before .before .before .before .before .before .before .pre .1 .0 .size)), (omega (arith, ((c .before .before .before .before .before .before .before .before .before .before .header-of .ensures .small))), omega (arith, details-few _ _ ((c .before .before .before .before .before .before .before .before .before .before .before .before .before .before .pre .1 .0)))))))
 
 same-length : tie.Need-same-length
-same-length c = search needs
+same-length c = search (messages, needs)
 
 returns : tie.Need-returns
-returns c = transfer-message _ _ _ (c .before .before .before .before .before .before .before .before .before .before .before .pre .1 .0) _ (c .before .before .before .before .before .before .before .before .before .before .before .pre .1 .1) _ (c .before .before .before .before .before .before .position-after .ensures) _ (c .before .before .before .before .before .before .before .header-of .ensures) (c .before .before .before .before .before .if1 .taken) (c .before .before .put-transfer-text .ensures)
-
-sub-put-order-text : tie.Need-sub-put-order-text
-sub-put-order-text c = search needs
-
-part-put-order-text-start : tie.Need-part-put-order-text-start
-part-put-order-text-start c = search needs
-
-part-put-order-text-end : tie.Need-part-put-order-text-end
-part-put-order-text-end c = search needs
-
-put-order-text-requires : tie.Need-put-order-text-requires
-put-order-text-requires c κs = ((c .before .before .before .before .header-of .ensures .passes), ((c .before .before .before .before .header-of .ensures .enough), (order-first _ _ (c .before .before .before .before .before .before .before .before .pre .1 .0) (c .before .before .if1 .left), ((c .before .before .before .before .before .before .before .before .pre .1 .0 .size), (omega (arith, (c .before .before .before .before .header-of .ensures .small)), omega (arith, order-few _ _ (c .before .before .before .before .before .before .before .before .pre .1 .0) (c .before .before .if1 .left)))))))
+returns c = message-judged _ _ _ ((c .before .before .before .before .before .before .before .before .before .before .before .before .before .before .before .before .before .pre .1 .0)) _ ((c .before .before .before .before .before .before .before .before .before .before .before .before .before .before .before .before .before .pre .1 .1)) _ ((c .before .before .before .before .before .before .before .before .before .before .before .before .position-after .ensures)) _ ((c .before .before .before .before .before .before .has-verdict .ensures)) _ ((c .before .before .before .before .before .before .before .before .before .before .before .before .before .header-of .ensures)) ((c .before .before .before .before .before .before .before .before .before .put-postings .ensures)) ((c .before .before .before .before .before .if1 .taken)) ((c .before .before .put-verdicts .ensures))
 
 same-length-2 : tie.Need-same-length-2
-same-length-2 c = search needs
+same-length-2 c = search (messages, needs)
 
 returns-2 : tie.Need-returns-2
-returns-2 c = order-message _ _ _ (c .before .before .before .before .before .before .before .before .before .before .before .pre .1 .0) _ (c .before .before .before .before .before .before .before .before .before .before .before .pre .1 .1) _ (c .before .before .before .before .before .before .position-after .ensures) _ (c .before .before .before .before .before .before .before .header-of .ensures) (c .before .before .before .before .before .if1 .left) (c .before .before .put-order-text .ensures)
+returns-2 c = search (messages, needs)
 
 pub put-message-text-spec : {M : Type 1} → statement M
 put-message-text-spec =
@@ -53,15 +57,16 @@ put-message-text-spec =
     (tie.spec
     header-of-requires
     position-after-requires
-    sub-put-transfer-text
-    part-put-transfer-text-start
-    part-put-transfer-text-end
-    put-transfer-text-requires
+    sub-put-postings
+    part-put-postings-start
+    part-put-postings-end
+    put-postings-requires
+    has-verdict-requires
+    sub-put-verdicts
+    part-put-verdicts-start
+    part-put-verdicts-end
+    put-verdicts-requires
     same-length
     returns
-    sub-put-order-text
-    part-put-order-text-start
-    part-put-order-text-end
-    put-order-text-requires
     same-length-2
     returns-2)
