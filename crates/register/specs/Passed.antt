@@ -47,9 +47,6 @@ module _ (s : List ℕ) (h : isSome (register s) ≡ true) where
   pub text-count : count s ≤ 40
   text-count = in-count s by-places
 
-  pub text-short : length s ≤ 1544
-  text-short = let e : length s ≡ place (count s) = text-size in let k : count s ≤ 40 = text-count in omega arith
-
   -- the temporary account
   pub temporary-at : registerOf s .temporary ≡ cut s 0 22
   unfolding registerIn

@@ -53,7 +53,7 @@ ledgerFrom ledger (e ∷ es) = let after = ledgerFrom (fedWith (e .fed) ledger) 
 abbrev pub ledgerOf : List Event → List Position
 ledgerOf es = ledgerFrom [] es
 
--- both totals of a bank's entries
+-- "transferred": of a bank's entries
 unfoldable pub transferredOf : ℕ → List Position → ℕ
 transferredOf bank [] = 0
 transferredOf bank (p ∷ ps) = let r = transferredOf bank ps in cond (eqb (p .bank) bank) (p .transferred + r) r

@@ -15,6 +15,7 @@ use Rattle.rules.specs.Area.{numberAt, referenceRecord, positionRecord, header,
 use Rattle.laws.specs.Digits.{places-length}
 use Rattle.laws.specs.Parts.{cut, cut-length}
 use Rattle.laws.specs.Laid.{laid}
+use Rattle.laws.specs.Pieces.{wrote-5}
 use Rattle.laws.specs.Writing.{Wrote}
 use Rattle.laws.specs.Sections.{Each.no-record, Each.and-record, inserted, replaced, each-map, each-append, map-appended, padded-length}
 use Rattle.laws.specs.Standing.{Stands, moved}
@@ -25,7 +26,6 @@ use Rattle.area.specs.Held.{Held}
 use Rattle.area.specs.Sections.{referencePart, positionPart, textPart, Of, held-sections, positions-stand}
 use Rattle.area.specs.Positions.{ordered-sorted, booked-few, found-same}
 use Rattle.steps.specs.declared.parts.Numbers.{Numbers}
-use Rattle.steps.specs.Texts.{wrote-five}
 use Rattle.steps.specs.Header.{numbers}
 use Rattle.steps.specs.Changes.{section, inserted-length, replaced-length, section-appended, section-replaced, section-inserted, stands-back, stands-other}
 use Rattle.steps.specs.Next.{holding, position-wide, references-each, positions-length, positions-section, Fits, assembled}
@@ -82,7 +82,7 @@ pub record Positions (ps : List Position) (a : List ℕ) (k : ℕ) (b : List ℕ
 pub position-wrote : (bank date t d : ℕ) {at m₁ m₂ m₃ m₄ r : ℕ} {out o₁ o₂ o₃ o₄ out' : List ℕ} → Wrote (bytes 8 bank) at out m₁ o₁ → Wrote (bytes 3 date) m₁ o₁ m₂ o₂ → Wrote (bytes 6 t) m₂ o₂ m₃ o₃
     → Wrote (bytes 6 d) m₃ o₃ m₄ o₄ → Wrote (bytes 1 0) m₄ o₄ r out' → Wrote (positionRecord (position bank date t d)) at out r out'
 unfolding positionRecord
-position-wrote bank date t d u v w x y = wrote-five (bytes 8 bank) (bytes 3 date) (bytes 6 t) (bytes 6 d) (bytes 1 0) u v w x y
+position-wrote bank date t d u v w x y = wrote-5 u v w x y
 
 -- both totals of the record at a place can be raised
 pub record Raises (a : List ℕ) (at t d : ℕ) : Type 0 where

@@ -7,8 +7,8 @@ use Rattle.rules.specs.Text.{bytes}
 use Rattle.rules.specs.Engine.{Engine}
 use Rattle.rules.specs.Area.{mark, header}
 use Rattle.laws.specs.Digits.{places-length}
+use Rattle.laws.specs.Pieces.{wrote-5}
 use Rattle.laws.specs.Writing.{Wrote}
-use Rattle.steps.specs.Texts.{wrote-five}
 
 -- mark, day, outgoing count, how many positions, how many references
 unfoldable pub numbers : ℕ → ℕ → ℕ → ℕ → List ℕ
@@ -31,4 +31,4 @@ numbers-length day count positions references = simp (length-append, places-leng
 pub numbers-wrote : (day count positions references : ℕ) {at m₁ m₂ m₃ m₄ r : ℕ} {out o₁ o₂ o₃ o₄ out' : List ℕ} → Wrote mark at out m₁ o₁ → Wrote (bytes 3 day) m₁ o₁ m₂ o₂ → Wrote (bytes 2 count) m₂ o₂ m₃ o₃
     → Wrote (bytes 1 positions) m₃ o₃ m₄ o₄ → Wrote (bytes 1 references) m₄ o₄ r out' → Wrote (numbers day count positions references) at out r out'
 unfolding numbers
-numbers-wrote day count positions references u v w x y = wrote-five mark (bytes 3 day) (bytes 2 count) (bytes 1 positions) (bytes 1 references) u v w x y
+numbers-wrote day count positions references u v w x y = wrote-5 u v w x y

@@ -11,10 +11,11 @@ use Rattle.rules.specs.Calls.{opened}
 use Rattle.rules.specs.Area.{zeros, padded, joined, header, encode}
 use Rattle.laws.specs.Digits.{places-length}
 use Rattle.laws.specs.Parts.{cut}
+use Rattle.laws.specs.Pieces.{wrote-5}
 use Rattle.laws.specs.Writing.{Wrote, wrote-over}
 use Rattle.laws.specs.Sections.{zeros-length, padded-length}
 use Rattle.area.specs.Registers.{register-length}
-use Rattle.steps.specs.Texts.{wrote-five, padded-all}
+use Rattle.steps.specs.Texts.{padded-all}
 use Rattle.steps.specs.Header.{numbers, lengths}
 
 -- a register has room
@@ -28,7 +29,7 @@ openedParts text day = numbers day 0 0 0 ++ lengths (length text) ++ zeros 1536 
 pub opened-wrote : (text : List ℕ) (day : ℕ) {m₁ m₂ m₃ m₄ r : ℕ} {out o₁ o₂ o₃ o₄ out' : List ℕ} → Wrote (numbers day 0 0 0) 0 out m₁ o₁ → Wrote (lengths (length text)) m₁ o₁ m₂ o₂ → Wrote (zeros 1536) m₂ o₂ m₃ o₃
     → Wrote (zeros 768) m₃ o₃ m₄ o₄ → Wrote (padded 3824 (cut text 0 (length text))) m₄ o₄ r out' → Wrote (openedParts text day) 0 out r out'
 unfolding openedParts
-opened-wrote text day u v w x y = wrote-five (numbers day 0 0 0) (lengths (length text)) (zeros 1536) (zeros 768) (padded 3824 text) u v w x (padded-all 3824 text y)
+opened-wrote text day u v w x y = wrote-5 u v w x (padded-all 3824 text y)
 
 opened-parts : (text : List ℕ) (day : ℕ) → encode (opened text day) ≡ openedParts text day
 unfolding encode header opened padded joined openedParts numbers lengths
