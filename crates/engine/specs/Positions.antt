@@ -1,16 +1,17 @@
 -- The records of an area, one behind the other, each read off its 24 bytes; its positions. Assumes nothing.
 use mathlib.Core.Path.{_≡_, refl, sym, ap, _∙_}
 use mathlib.Core.List.{List, [], _∷_, map}
-use Prim.Native.Nat.{ℕ, zero, suc, _+_, _-_, _^_, _≤_, _<_}
+use Prim.Native.Nat.{ℕ, zero, suc, _+_, _-_, _≤_, _<_}
 use native.Mathlib.Nat.{add-zero}
 use native.Mathlib.Omega.{arith}
 use lib.Dec.{lit≤}
-use lib.ListN.{length, getD, take, drop}
+use lib.ListN.{take, drop}
 use Rattle.rules.specs.Text.{number}
 use Rattle.rules.specs.Engine.{Position}
 use Rattle.rules.specs.Area.{numberAt, positionIn, records}
-use Rattle.laws.specs.Parts.{cut, from, cut-drop, cut-take, cut-length, from-take, from-drop}
-use Rattle.laws.specs.Numbers.{bytes-within, within-cut, number-small}
+use Rattle.laws.specs.Parts.{cut, from, cut-drop, cut-take, from-take, from-drop}
+use Rattle.area.specs.Records.{cut-is}
+use Rattle.text.specs.Numbers.{NumberAt}
 use Rattle.written.specs.Values.{positionOf}
 use Rattle.written.specs.declared.Position as W
 
@@ -46,18 +47,6 @@ positionAt area p = valueAt positionIn area p
 abbrev pub positionsAt : List ℕ → ℕ → ℕ → List Position
 positionsAt area p k = valuesAt positionIn area p k
 
--- ---- a number of k bytes at a place
-
--- r is that number
-pub record NumberAt (area : List ℕ) (a k r : ℕ) : Type 0 where
-  pub value : r ≡ number (cut area a (a + k))
-  pub small : r < 256 ^ k
-
-pub number-bound : (area : List ℕ) (a k r : ℕ) → ((i : ℕ) → getD area i 0 < 256) → a + k ≤ length area → r ≡ number (cut area a (a + k)) → NumberAt area a k r
-number-bound area a k r h l e =
-    let n : length (cut area a (a + k)) ≡ k = cut-length area a (a + k) l ∙ omega arith in
-    record { value = e; small = rw e (rw n at (number-small (within-cut a (a + k) (bytes-within area h)))) }
-
 -- ---- the position that was read
 
 -- q is the position at p, its totals of six bytes
@@ -69,7 +58,7 @@ pub record PositionAt (area : List ℕ) (p : ℕ) (q : W.Position) : Type 0 wher
 module _ (area : List ℕ) (p : ℕ) where
   -- a number of the record
   pub in-record : (i w : ℕ) {r : ℕ} → i + w ≤ 24 → NumberAt area (p + i) w r → r ≡ numberAt (cut area p (p + 24)) i w
-  in-record i w h n = n .value ∙ sym (ap number (ap (take w) (cut-drop area p (p + 24) i) ∙ cut-take area (p + i) (p + 24) w (omega arith)))
+  in-record i w h n = n .value ∙ sym (ap number (ap (take w) (cut-drop area p (p + 24) i) ∙ cut-take area (p + i) (p + 24) w (omega arith) ∙ cut-is area (p + i) w))
 
   pub position-read : {bank date transferred detailed : ℕ} → NumberAt area p 8 bank → NumberAt area (p + 8) 3 date → NumberAt area (p + 11) 6 transferred → NumberAt area (p + 17) 6 detailed
       → PositionAt area p (record { bank = bank; date = date; transferred = transferred; detailed = detailed })

@@ -1,6 +1,6 @@
 -- A bank's reference held against those of an area: its bytes against a text that ends at the first zero. Assumes nothing.
 use mathlib.Core.Path.{_≡_, refl, sym, ap, _∙_}
-use mathlib.Core.Bool.{Bool, true, false, _&&_, cond}
+use mathlib.Core.Bool.{Bool, true, false, cond}
 use mathlib.Core.List.{List, [], _∷_}
 use Prim.Native.Nat.{ℕ, _+_, _-_, _*_, _≤_, _<_}
 use native.Mathlib.Nat.{add-zero}
@@ -8,12 +8,13 @@ use native.Mathlib.Omega.{arith}
 use borrow.Author.Tests.{eq-eqb, ne-eqb, leb-true}
 use lib.Dec.{leb, eqb, lit≤}
 use lib.ListN.{length, getD, take, drop}
-use Rattle.rules.specs.Text.{between, isText, every, equal, any, number}
+use Rattle.rules.specs.Text.{isText, every, equal, any}
 use Rattle.rules.specs.Engine.{Reference, sameReference}
-use Rattle.rules.specs.Area.{numberAt, untilZero, referenceIn}
+use Rattle.rules.specs.Area.{untilZero, referenceIn}
 use Rattle.laws.specs.Parts.{cut, cut-step, cut-done, cut-drop, cut-take}
 use Rattle.laws.specs.Tests.{cond-right, and-left}
-use Rattle.engine.specs.Positions.{valueAt, valuesAt, values-next, values-none, NumberAt, in-record}
+use Rattle.text.specs.Numbers.{NumberAt}
+use Rattle.engine.specs.Positions.{valueAt, valuesAt, values-next, values-none, in-record}
 
 -- a bank's reference
 abbrev pub ofBank : ℕ → List ℕ → Reference

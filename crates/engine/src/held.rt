@@ -1,8 +1,8 @@
 // An area that holds an engine: what is looked up in it, by the numbers of its header.
 use crate::find::Totals;
 use crate::find::find_position;
-use crate::positions::number_at;
 use crate::reference::reference_used;
+use text::number_at;
 ghost use mathlib.Core.Path.{_≡_};
 ghost use mathlib.Core.Bool.{true};
 ghost use Prim.Native.Nat.{_-_, _≤_};

@@ -9,6 +9,5 @@ pub use find::find_position;
 pub use held::is_used;
 pub use held::register_end;
 pub use held::totals_of;
-pub use positions::number_at;
 pub use positions::position_at;
 pub use reference::reference_used;

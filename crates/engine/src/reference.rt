@@ -1,5 +1,5 @@
 // References accepted today.
-use crate::positions::number_at;
+use text::number_at;
 ghost use mathlib.Core.Path.{_≡_};
 ghost use mathlib.Core.Bool.{true};
 ghost use mathlib.Core.List.{[]};

@@ -1,12 +1,12 @@
 -- The posting lines of a message that is booked, off the places in its bytes. Assumes nothing.
 use mathlib.Core.Path.{_≡_, refl, subst, ap, _∙_}
 use mathlib.Core.Bool.{Bool, true, false}
-use mathlib.Core.List.{List, []}
+use mathlib.Core.List.{List}
 use Prim.Native.Nat.{ℕ, _≤_}
 use native.Mathlib.Omega.{arith}
 use lib.ListN.{length, take}
 use Rattle.rules.specs.Text.{isSome}
-use Rattle.rules.specs.Messages.{Detail, detailsOf}
+use Rattle.rules.specs.Messages.{detailsOf}
 use Rattle.rules.specs.Register.{register, registerOf}
 use Rattle.rules.specs.Engine.{Position}
 use Rattle.rules.specs.Written.{Book, fromBank}

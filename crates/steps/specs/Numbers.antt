@@ -17,10 +17,6 @@ use Rattle.area.specs.Checked.{records-length}
 use Rattle.steps.specs.declared.parts.Numbers.{Numbers}
 use Rattle.steps.specs.Next.{holding}
 
--- a number by its place and width, as it is read
-pub number-cut : (a : List ℕ) (at w r : ℕ) → r ≡ number (cut a at (at + w)) → r ≡ numberAt a at w
-number-cut a at w r h = h ∙ ap number (cut-is a at w)
-
 -- a number within a record of k bytes
 pub number-within : (a : List ℕ) (at k j w : ℕ) → j + w ≤ k → number (take w (drop j (take k (drop at a)))) ≡ numberAt a (at + j) w
 number-within a at k j w h =

@@ -1,10 +1,10 @@
 // A message booked in an area: its position raised or put in its place, its reference behind the others, the header's numbers.
-use crate::parts::number_at;
 use crate::parts::numbers_of;
 use crate::parts::put_numbers;
 use crate::parts::put_padded;
 use crate::placing::is_at;
 use crate::placing::place_of;
+use text::number_at;
 ghost use mathlib.Core.Path.{_≡_};
 ghost use mathlib.Core.Bool.{true};
 ghost use mathlib.Core.List.{_++_};

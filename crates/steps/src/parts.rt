@@ -1,23 +1,15 @@
 // Parts of an area that more than one step reads or writes.
+use text::number_at;
 ghost use mathlib.Core.Path.{_≡_};
 ghost use mathlib.Core.Bool.{true};
-ghost use Prim.Native.Nat.{_+_, _-_, _≤_};
+ghost use Prim.Native.Nat.{_-_, _≤_};
 ghost use lib.ListN.{length};
 ghost use Rattle.rules.specs.Text.{isSome};
-ghost use Rattle.rules.specs.Area.{padded, numberAt, holds};
+ghost use Rattle.rules.specs.Area.{padded, holds};
 ghost use Rattle.laws.specs.Parts.{cut};
 ghost use Rattle.laws.specs.Writing.{Wrote};
 ghost use Rattle.steps.specs.Header.{numbers};
 ghost use Rattle.steps.specs.Numbers.{NumbersOf};
-
-// The number in w bytes from at.
-pub fn number_at(area: &[u8], at: usize, w: usize) -> u64
-    requires { ⌜ at + w ≤ length (now area) ⌝ }
-    requires { ⌜ w ≤ 8 ⌝ }
-    ensures { λ r. ⌜ r ≡ numberAt (now (area .entry)) at w ⌝ }
-{
-    text::read_be(area, at, at + w)
-}
 
 // The header's numbers: day, outgoing count, how many positions, how many references.
 pub struct Numbers {

@@ -1,5 +1,5 @@
 // The place of a bank's position of a date among those of an area, which stand by BIC in byte order and then date.
-use crate::parts::number_at;
+use text::number_at;
 ghost use mathlib.Core.Path.{_≡_};
 ghost use Prim.Native.Nat.{_+_, _≤_};
 ghost use lib.ListN.{length, drop};

@@ -1,7 +1,7 @@
 // A turn made in an area: positions with details are removed, references and outgoing number start anew.
-use crate::parts::number_at;
 use crate::parts::numbers_of;
 use crate::parts::put_numbers;
+use text::number_at;
 ghost use mathlib.Core.Path.{_≡_};
 ghost use mathlib.Core.Bool.{true};
 ghost use mathlib.Core.List.{_++_};

@@ -17,6 +17,7 @@ pub use classes::is_text;
 pub use classes::run_in;
 pub use numbers::Num;
 pub use numbers::less;
+pub use numbers::number_at;
 pub use numbers::read_be;
 pub use numbers::read_digits;
 pub use numbers::wide;

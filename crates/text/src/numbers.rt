@@ -2,12 +2,13 @@
 use crate::classes::is_digit;
 ghost use mathlib.Core.Path.{_≡_};
 ghost use mathlib.Core.Bool.{true};
-ghost use Prim.Native.Nat.{_-_, _<_, _≤_};
+ghost use Prim.Native.Nat.{_+_, _-_, _<_, _≤_};
 ghost use lib.ListN.{length};
 ghost use Rattle.rules.specs.Text.{isDigit, digits, number};
 ghost use Rattle.laws.specs.Parts.{cut};
 ghost use Rattle.laws.specs.Reading.{power, Placed};
 ghost use Rattle.text.specs.Answers.{Small, numOf};
+ghost use Rattle.text.specs.Numbers.{NumberAt};
 
 // A number that was read, or none.
 pub enum Num {
@@ -84,4 +85,13 @@ pub fn read_be(s: &[u8], a: usize, b: usize) -> u64
         i += 1;
     }
     v
+}
+
+// The number of the w bytes at a place.
+pub fn number_at(s: &[u8], at: usize, w: usize) -> u64
+    requires { ⌜ at + w ≤ length (now s) ⌝ }
+    requires { ⌜ w ≤ 8 ⌝ }
+    ensures { λ r. ⌜ NumberAt (now (s .entry)) at w r ⌝ }
+{
+    read_be(s, at, at + w)
 }

@@ -1,9 +1,9 @@
 -- A slice holds bytes, so a number of few of them is small. Assumes nothing.
 use native.Mathlib.Omega.{arith}
-use Rattle.engine.specs.Positions.{number-bound}
+use Rattle.text.specs.Numbers.{number-bound}
 use borrow.Author.Needs.{needs}
-use Rattle.engine.proofs.positions.number_at.Statement.{statement}
-use Rattle.engine.proofs.positions.number_at.Tie as tie
+use Rattle.text.proofs.numbers.number_at.Statement.{statement}
+use Rattle.text.proofs.numbers.number_at.Tie as tie
 
 add-read-be : tie.Need-add-read-be
 add-read-be c = search needs
