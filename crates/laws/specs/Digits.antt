@@ -42,6 +42,10 @@ divided v by q h e = record {
   small = mod-lt v h;
 }
 
+-- the place behind them
+pub ahead-places : (base null k v at r : ℕ) → r ≡ ahead at k → r ≡ ahead at (length (places base null k v))
+ahead-places base null k v at r e = rw places-length e
+
 -- ---- a loop that writes k places of v, the last first: the first m are left, and they are those of the number rest
 
 pub record Placing (base null m rest at : ℕ) (out : List ℕ) (k v : ℕ) (start : List ℕ) : Type 0 where

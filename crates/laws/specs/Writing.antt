@@ -12,7 +12,7 @@ use lib.ListN.{length, getD, set, length-append}
 use lib.Seq.{slice-cons, slice-empty}
 use Rattle.rules.specs.Text.{over}
 use Rattle.rules.specs.Area.{zeros}
-use Rattle.laws.specs.Parts.{cut}
+use Rattle.laws.specs.Parts.{cut, cut-length}
 use Rattle.laws.specs.Laid.{laid, laid-append, laid-length, laid-behind, over-laid}
 
 -- the furthest place: every output is shorter
@@ -68,8 +68,12 @@ pub laid-none : (at : ℕ) (out : List ℕ) → out ≡ laid [] at out
 unfolding laid
 laid-none at out = refl
 
-pub laid-outside : (b at : ℕ) (out : List ℕ) → length out ≤ at → out ≡ laid (b ∷ []) at out
-laid-outside b at out h = sym (laid-behind (b ∷ []) at out h)
+pub laid-outside : (bs : List ℕ) (at : ℕ) (out : List ℕ) → length out ≤ at → out ≡ laid bs at out
+laid-outside bs at out h = sym (laid-behind bs at out h)
+
+-- the place behind a part
+pub ahead-part : (s : List ℕ) (a b at r : ℕ) → b ≤ length s → r ≡ ahead at (b - a) → r ≡ ahead at (length (cut s a b))
+ahead-part s a b at r h e = rw (cut-length s a b h) e
 
 pub laid-inside : (b at : ℕ) (out : List ℕ) → set out at b ≡ laid (b ∷ []) at out
 unfolding laid

@@ -50,6 +50,9 @@ pub fn put_part(out: &mut [u8], at: usize, src: &[u8], a: usize, b: usize) -> us
     requires { ⌜ (a ≤ b) × (b ≤ length (now src)) ⌝ }
     ensures { λ r. ⌜ Wrote (cut (now (src .entry)) a b) at (now (out .entry)) r (now (out .exit)) ⌝ }
 {
+    if at >= out.len() {
+        return step(at, b - a);
+    }
     let mut o = at;
     let mut i = a;
     while i < b {
@@ -106,6 +109,9 @@ fn put_places(out: &mut [u8], at: usize, base: u32, null: u8, k: usize, v: u64) 
     requires { ⌜ (0 < base) × (null + base ≤ 256) ⌝ }
     ensures { λ r. ⌜ Wrote (places base null k v) at (now (out .entry)) r (now (out .exit)) ⌝ }
 {
+    if at >= out.len() {
+        return step(at, k);
+    }
     let mut m = k;
     let mut rest = v;
     while m > 0 {

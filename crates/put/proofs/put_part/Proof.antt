@@ -1,8 +1,10 @@
--- A part of a slice: what is left of it is what is left to write. Assumes nothing.
+-- A part of a slice: what is left of it is what is left to write; behind the output nothing is written. Assumes nothing.
 use Prim.Native.Nat.{_≤_, _-_}
-use borrow.Author.Needs.{needs}
 use Rattle.laws.specs.Parts.{cut}
 use Rattle.laws.specs.Writing.{Left}
+use Rattle.laws.specs.Pieces.{left-all}
+use native.Mathlib.Omega.{arith}
+use borrow.Author.Needs.{needs}
 use Rattle.laws.specs.Sets.{writing}
 use Rattle.put.proofs.put_part.Statement.{statement}
 use Rattle.put.proofs.put_part.Tie as tie
@@ -13,8 +15,17 @@ Inv-loop out₀ at src a b o₀ i₀ out o i = (i ≤ b) × Left (cut src i b) o
 abbrev μ-loop : tie.MeasureT-loop
 μ-loop out₀ at src a b o₀ i₀ out o i = b - i
 
+sub-step : tie.Need-sub-step Inv-loop μ-loop
+sub-step c = search (writing, needs)
+
+step-requires : tie.Need-step-requires Inv-loop μ-loop
+step-requires c κs = search (writing, needs)
+
+returns : tie.Need-returns Inv-loop μ-loop
+returns c = search (writing, needs)
+
 loop-holds : tie.Need-loop-holds Inv-loop μ-loop
-loop-holds c = search (writing, needs)
+loop-holds c = (omega arith, left-all _ (omega arith))
 
 shared-slice-read-put-byte : tie.Need-shared-slice-read-put-byte Inv-loop μ-loop
 shared-slice-read-put-byte c = search (writing, needs)
@@ -34,8 +45,8 @@ loop-again c = search (writing, needs)
 same-length : tie.Need-same-length Inv-loop μ-loop
 same-length c = search (writing, needs)
 
-returns : tie.Need-returns Inv-loop μ-loop
-returns c = search (writing, needs)
+returns-2 : tie.Need-returns-2 Inv-loop μ-loop
+returns-2 c = search (writing, needs)
 
 pub put-part-spec : {M : Type 1} → statement M
 put-part-spec =
@@ -43,6 +54,9 @@ put-part-spec =
     (tie.spec
     Inv-loop
     μ-loop
+    sub-step
+    step-requires
+    returns
     loop-holds
     shared-slice-read-put-byte
     put-byte-requires
@@ -50,4 +64,4 @@ put-part-spec =
     loop-less
     loop-again
     same-length
-    returns)
+    returns-2)
