@@ -1,4 +1,4 @@
--- The returned details of a message, as the code's loops count them, pass them and write them. What is left of the walk gives the answer. Assumes nothing.
+-- The returned details of a message, as the code's loops count them and write them. What is left of the walk gives the answer. Assumes nothing.
 use mathlib.Core.Path.{_≡_, refl, sym, ap, _∙_}
 use mathlib.Core.Bool.{Bool, true, false, cond}
 use mathlib.Core.List.{List, [], _∷_, _++_}
@@ -20,6 +20,7 @@ use Rattle.verdict.specs.declared.Verdict.the-variants.{Credited, Returned}
 use Rattle.verdict.specs.declared.detail.Judged as J
 use Rattle.conditions.specs.Walk.{walked}
 use Rattle.detail_lines.specs.Details.{walked-next, walked-stop, walked-none}
+use Rattle.detail_lines.specs.declared.returned.Place.{Place}
 use Rattle.detail_lines.specs.Rows.{rowsOf, rows-held}
 
 -- ---- is it returned?
@@ -180,5 +181,11 @@ module _ (text s : List ℕ) (p k m : ℕ) {o at : ℕ} {out whole start : List 
 
       pub rows-pass : b ≡ false → Left (allReturned (take m (returnedAt text s (j .next) (k - 1)))) o out whole at start
       rows-pass d = rw (returned-none text s p k h j w e b u d) at l
+
+-- ---- both: the rows of the first `most` of them, and what is behind those
+
+pub record RowsPut (text s : List ℕ) (first count most at : ℕ) (out : List ℕ) (r : Place) (out' : List ℕ) : Type 0 where
+  pub wrote : Wrote (allReturned (take most (returnedAt text s first count))) at out (r .out) out'
+  pub passed : Passed text s first count most (r .at) (r .left)
 
 pub ruleset returning = (left-length, line-inside, credit-stays, return-goes, counting-start, counting-end, counting-stop, counting-more, counting-pass, passing-start, passing-done, passing-end, passing-stop, passing-more, passing-on, rows-full, rows-end, rows-stop, rows-more, rows-pass)

@@ -1,18 +1,16 @@
-// The returned details of a message: counted, passed, and their rows written.
+// The returned details of a message: counted, and their rows written.
 use crate::rows::put_returned_rows;
 use verdict::Verdict;
 use verdict::judge_detail;
 ghost use mathlib.Core.Path.{_≡_};
 ghost use mathlib.Core.Bool.{true};
 ghost use Prim.Native.Nat.{_≤_};
-ghost use lib.ListN.{length, take};
+ghost use lib.ListN.{length};
 ghost use Rattle.rules.specs.Text.{isSome};
 ghost use Rattle.rules.specs.Register.{register};
 ghost use Rattle.rules.specs.Verdict.{isReturned};
-ghost use Rattle.rules.specs.Written.{allReturned};
-ghost use Rattle.laws.specs.Writing.{Wrote};
 ghost use Rattle.verdict.specs.Answers.{verdictOf};
-ghost use Rattle.detail_lines.specs.Returned.{returnedAt, ReturnedCount, Passed};
+ghost use Rattle.detail_lines.specs.Returned.{ReturnedCount, RowsPut};
 
 // Does the verdict return the detail?
 fn is_returned(v: Verdict) -> bool
@@ -53,42 +51,11 @@ pub fn count_returned(text: &[u8], s: &[u8], first: usize, count: usize) -> usiz
     n
 }
 
-// Where a walk over details goes on, and how many are left.
+// Where writing goes on, where the walk over the details goes on, and how many of them are left.
 pub struct Place {
+    pub out: usize,
     pub at: usize,
     pub left: usize,
-}
-
-// The place behind the first `most` returned details.
-pub fn pass_returned(text: &[u8], s: &[u8], first: usize, count: usize, most: usize) -> Place
-    requires { ⌜ isSome (register (now text)) ≡ true ⌝ }
-    requires { ⌜ first ≤ length (now s) ⌝ }
-    requires { ⌜ length (now s) ≤ 4096 ⌝ }
-    ensures { λ r. ⌜ Passed (now (text .entry)) (now (s .entry)) first count most (r .at) (r .left) ⌝ }
-{
-    let mut i = most;
-    let mut p = first;
-    let mut k = count;
-    while k > 0 {
-        if i == 0 {
-            return Place { at: p, left: k };
-        }
-        let j = judge_detail(text, s, p);
-        if j.ok {
-            let v = j.verdict;
-            if is_returned(v) {
-                i -= 1;
-                p = j.next;
-                k -= 1;
-            } else {
-                p = j.next;
-                k -= 1;
-            }
-        } else {
-            return Place { at: p, left: 0 };
-        }
-    }
-    Place { at: p, left: 0 }
 }
 
 // The rows of the returned of count details, `most` of them at most.
@@ -100,11 +67,11 @@ pub fn put_returned(
     first: usize,
     count: usize,
     most: usize,
-) -> usize
+) -> Place
     requires { ⌜ isSome (register (now text)) ≡ true ⌝ }
     requires { ⌜ first ≤ length (now s) ⌝ }
     requires { ⌜ length (now s) ≤ 4096 ⌝ }
-    ensures { λ r. ⌜ Wrote (allReturned (take most (returnedAt (now (text .entry)) (now (s .entry)) first count))) at (now (out .entry)) r (now (out .exit)) ⌝ }
+    ensures { λ r. ⌜ RowsPut (now (text .entry)) (now (s .entry)) first count most at (now (out .entry)) r (now (out .exit)) ⌝ }
 {
     let mut o = at;
     let mut p = first;
@@ -112,7 +79,11 @@ pub fn put_returned(
     let mut m = most;
     while k > 0 {
         if m == 0 {
-            return o;
+            return Place {
+                out: o,
+                at: p,
+                left: k,
+            };
         }
         let j = judge_detail(text, s, p);
         if j.ok {
@@ -127,8 +98,16 @@ pub fn put_returned(
                 k -= 1;
             }
         } else {
-            return o;
+            return Place {
+                out: o,
+                at: p,
+                left: 0,
+            };
         }
     }
-    o
+    Place {
+        out: o,
+        at: p,
+        left: 0,
+    }
 }

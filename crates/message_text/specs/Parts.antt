@@ -6,12 +6,13 @@ use native.Mathlib.Omega.{arith}
 use lib.ListN.{take, drop}
 use borrow.Author.Tests.{eq-eqb, ne-eqb}
 use Rattle.rules.specs.Text.{ascii}
-use Rattle.rules.specs.Messages.{Detail}
 use Rattle.rules.specs.Engine.{Position}
-use Rattle.rules.specs.Written.{opened, field, reference, linked, position79, allReturned, closed79, mt199, mt199s, partsOf, verdicts}
+use Rattle.rules.specs.Written.{opened, field, reference, linked, position79, closed79, mt199, mt199s, partsOf, verdicts}
 use Rattle.laws.specs.Writing.{Wrote, Left, left-turn, left-none, left-length}
 use Rattle.laws.specs.Pieces.{wrote-4}
-use Rattle.detail_lines.specs.Returned.{returnedAt, ReturnedCount, Passed}
+use Rattle.detail_lines.specs.Returned.{returnedAt, ReturnedCount, Passed, RowsPut}
+use Rattle.detail_lines.specs.declared.returned.Place.{Place}
+use Rattle.message_text.specs.declared.verdicts.Part.{Part}
 
 -- ---- how many
 
@@ -28,13 +29,17 @@ pub parts-more : (returned : ℕ) → (returned ≡ 0 → ⊥) → returned ≤ 
 unfolding partsOf
 parts-more returned n h = record { value = rw (ne-eqb returned 0 n); few = omega arith }
 
--- ---- one part
+-- ---- one part, with the next 14 of the returned details
 
-module _ (day n number : ℕ) (p : Position) (part parts : ℕ) (ds : List Detail) {at a b c r : ℕ} {out out₁ out₂ out₃ out₄ : List ℕ} where
-  pub part-wrote : number ≡ n + part → Wrote (opened (ascii "199") (p .bank) ++ field (ascii ":20:") (reference day number) ++ linked day n part) at out a out₁ → Wrote (position79 (p .date) (p .transferred) (p .detailed)) a out₁ b out₂
-      → Wrote (allReturned ds) b out₂ c out₃ → Wrote (closed79 part parts) c out₃ r out₄ → Wrote (mt199 day n p part parts ds) at out r out₄
+pub record PartPut (h : Part) (p : Position) (text s : List ℕ) (first count at : ℕ) (out : List ℕ) (r : Place) (out' : List ℕ) : Type 0 where
+  pub wrote : Wrote (mt199 (h .day) (h .n) p (h .part) (h .parts) (take 14 (returnedAt text s first count))) at out (r .out) out'
+  pub passed : Passed text s first count 14 (r .at) (r .left)
+
+module _ (h : Part) (p : Position) (text s : List ℕ) (first count : ℕ) {at a b r : ℕ} {c : Place} {out out₁ out₂ out₃ out₄ : List ℕ} where
+  pub part-wrote : h .number ≡ h .n + h .part → Wrote (opened (ascii "199") (p .bank) ++ field (ascii ":20:") (reference (h .day) (h .number)) ++ linked (h .day) (h .n) (h .part)) at out a out₁ → Wrote (position79 (p .date) (p .transferred) (p .detailed)) a out₁ b out₂
+      → RowsPut text s first count 14 b out₂ c out₃ → Wrote (closed79 (h .part) (h .parts)) (c .out) out₃ r out₄ → PartPut h p text s first count at out (record { out = r; at = c .at; left = c .left }) out₄
   unfolding mt199
-  part-wrote e u v w x = wrote-4 (rw e at u) v w x
+  part-wrote e u v w x = record { wrote = wrote-4 (rw e at u) v (w .wrote) x; passed = w .passed }
 
 -- ---- part by part
 

@@ -1,6 +1,6 @@
 // An MT199 in its parts.
+use detail_lines::Place;
 use detail_lines::count_returned;
-use detail_lines::pass_returned;
 use detail_lines::put_returned;
 use outgoing_number::next_number;
 use written::Position;
@@ -10,14 +10,14 @@ use written::put_position79;
 ghost use mathlib.Core.Path.{_≡_};
 ghost use mathlib.Core.Bool.{true};
 ghost use Prim.Native.Nat.{_+_, _≤_, _<_};
-ghost use lib.ListN.{length, take};
+ghost use lib.ListN.{length};
 ghost use Rattle.rules.specs.Text.{isSome};
 ghost use Rattle.rules.specs.Register.{register};
-ghost use Rattle.rules.specs.Written.{mt199, mt199s, verdicts};
+ghost use Rattle.rules.specs.Written.{mt199s, verdicts};
 ghost use Rattle.laws.specs.Writing.{Wrote};
 ghost use Rattle.written.specs.Values.{positionOf};
 ghost use Rattle.detail_lines.specs.Returned.{returnedAt};
-ghost use Rattle.message_text.specs.Parts.{PartsOf};
+ghost use Rattle.message_text.specs.Parts.{PartsOf, PartPut};
 
 // How many parts there are: 14 returned details to each, and one part where there are none.
 pub fn parts_of(returned: usize) -> u32
@@ -49,18 +49,23 @@ fn put_mt199(
     s: &[u8],
     first: usize,
     count: usize,
-) -> usize
+) -> Place
     requires { ⌜ isSome (register (now text)) ≡ true ⌝ }
     requires { ⌜ first ≤ length (now s) ⌝ }
     requires { ⌜ length (now s) ≤ 4096 ⌝ }
     requires { ⌜ h .n + 1 < 4294967296 ⌝ }
     requires { ⌜ h .number ≡ h .n + h .part ⌝ }
-    ensures { λ r. ⌜ Wrote (mt199 (h .day) (h .n) (positionOf p) (h .part) (h .parts) (take 14 (returnedAt (now (text .entry)) (now (s .entry)) first count))) at (now (out .entry)) r (now (out .exit)) ⌝ }
+    ensures { λ r. ⌜ PartPut h (positionOf p) (now (text .entry)) (now (s .entry)) first count at (now (out .entry)) r (now (out .exit)) ⌝ }
 {
     let a = put_opened199(out, at, h.day, h.n, h.number, p.bank, h.part);
     let b = put_position79(out, a, p.date, p.transferred, p.detailed);
     let c = put_returned(out, b, text, s, first, count, 14);
-    put_closed79(out, c, h.part, h.parts)
+    let d = put_closed79(out, c.out, h.part, h.parts);
+    Place {
+        out: d,
+        at: c.at,
+        left: c.left,
+    }
 }
 
 // The parts, each by the next number of the day.
@@ -98,8 +103,8 @@ fn put_parts(
             part,
             parts,
         };
-        o = put_mt199(out, o, h, p, text, s, q, k);
-        let next = pass_returned(text, s, q, k, 14);
+        let next = put_mt199(out, o, h, p, text, s, q, k);
+        o = next.out;
         q = next.at;
         k = next.left;
         part += 1;

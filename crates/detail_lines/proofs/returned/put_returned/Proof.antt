@@ -1,23 +1,22 @@
--- `detail_lines::returned::put_returned` meets its contract. The loop's invariant: the rows of m returned details from p on are left to write. Assumes nothing.
-use Prim.Native.Nat.{_≤_}
+-- `detail_lines::returned::put_returned` meets its contract. The loop's invariant: the rows of m returned details from p on are left to write, and behind m more of them stands what is to be left. Assumes nothing.
 use native.Mathlib.Omega.{arith}
-use lib.ListN.{length, take}
-use borrow.Author.Needs.{needs}
+use lib.ListN.{take}
 use Rattle.rules.specs.Written.{allReturned}
 use Rattle.laws.specs.Pieces.{left-all}
 use Rattle.laws.specs.Writing.{Left}
-use Rattle.detail_lines.specs.Returned.{returnedAt, returning}
+use borrow.Author.Needs.{needs}
+use Rattle.detail_lines.specs.Returned.{returnedAt, Passing, rows-stop, passing-stop, returning}
 use Rattle.detail_lines.proofs.returned.put_returned.Statement.{statement}
 use Rattle.detail_lines.proofs.returned.put_returned.Tie as tie
 
 abbrev Inv-loop : tie.InvT-loop
-Inv-loop out₀ at text s first count most o₀ p₀ k₀ m₀ out o p k m = (p ≤ length s) × Left (allReturned (take m (returnedAt text s p k))) o out (allReturned (take most (returnedAt text s first count))) at out₀
+Inv-loop out₀ at text s first count most o₀ p₀ k₀ m₀ out o p k m = Left (allReturned (take m (returnedAt text s p k))) o out (allReturned (take most (returnedAt text s first count))) at out₀ × Passing text s p k m first count most
 
 abbrev μ-loop : tie.MeasureT-loop
 μ-loop out₀ at text s first count most o₀ p₀ k₀ m₀ out o p k m = k
 
 loop-holds : tie.Need-loop-holds Inv-loop μ-loop
-loop-holds c = (omega arith, left-all _ (omega arith))
+loop-holds c = (left-all _ (omega arith), search (returning, needs))
 
 same-length : tie.Need-same-length Inv-loop μ-loop
 same-length c = search (returning, needs)
@@ -59,7 +58,7 @@ same-length-2 : tie.Need-same-length-2 Inv-loop μ-loop
 same-length-2 c = search (returning, needs)
 
 returns-2 : tie.Need-returns-2 Inv-loop μ-loop
-returns-2 c = search (returning, needs)
+returns-2 c = record { wrote = rows-stop _ _ _ _ ((c .before .before .before .before .loop .m)) ((c .before .before .before .before .loop .inv .0)) ((c .before .before .before .loop-test .taken)) _ ((c .before .judge-detail .ensures)) ((c .if2 .left)); passed = passing-stop _ _ _ _ _ _ _ _ ((c .before .before .before .before .loop .inv .1)) ((c .before .before .before .loop-test .taken)) _ ((c .before .judge-detail .ensures)) ((c .if2 .left)) }
 
 same-length-3 : tie.Need-same-length-3 Inv-loop μ-loop
 same-length-3 c = search (returning, needs)

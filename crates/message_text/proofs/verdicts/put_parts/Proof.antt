@@ -3,12 +3,12 @@ use mathlib.Core.Path.{_≡_}
 use Prim.Native.Nat.{_+_, _≤_}
 use native.Mathlib.Omega.{arith}
 use lib.ListN.{length}
-use borrow.Author.Needs.{needs}
 use Rattle.rules.specs.Written.{mt199s}
 use Rattle.laws.specs.Pieces.{left-all}
 use Rattle.laws.specs.Writing.{Left}
 use Rattle.detail_lines.specs.Returned.{returnedAt}
 use Rattle.written.specs.Values.{positionOf}
+use borrow.Author.Needs.{needs}
 use Rattle.message_text.specs.Parts.{parting}
 use Rattle.message_text.proofs.verdicts.put_parts.Statement.{statement}
 use Rattle.message_text.proofs.verdicts.put_parts.Tie as tie
@@ -27,9 +27,6 @@ next-number-requires c κs = search (parting, needs)
 
 put-mt199-requires : tie.Need-put-mt199-requires Inv-loop μ-loop
 put-mt199-requires c κs = (search needs, (search needs, (search needs, (search needs, search needs))))
-
-pass-returned-requires : tie.Need-pass-returned-requires Inv-loop μ-loop
-pass-returned-requires c κs = search (parting, needs)
 
 add-part : tie.Need-add-part Inv-loop μ-loop
 add-part c = search (parting, needs)
@@ -58,7 +55,6 @@ put-parts-spec =
     loop-holds
     next-number-requires
     put-mt199-requires
-    pass-returned-requires
     add-part
     sub-left
     loop-less
