@@ -16,7 +16,7 @@ use Rattle.rules.specs.Messages as M
 use Rattle.rules.specs.Messages.{Message, mt103, mt101, field20, firstDate, sumOf, readTransfer, readOrder, read}
 use Rattle.rules.specs.Calls.{firstOf, addressed, inputStops}
 use Rattle.laws.specs.Parts.{cut, cut-all, from, from-take}
-use Rattle.laws.specs.Tests.{and-left, and-right}
+use Rattle.laws.specs.Tests.{and-left, and-right, answer-is, answer-not}
 use Rattle.laws.specs.Reading.{fits-length}
 use Rattle.forms.specs.Table.{table, part}
 use Rattle.forms.specs.Spans.{spanOf, noSpan, SpanIn, within-at, within-order, held, held-line}
@@ -51,11 +51,11 @@ field-20 s l n q h w b = rw (held-line s l n 0 h) (behind-bytes s _ 4 w q b)
 
 module _ (s temporary : List ℕ) (t : T.Transfer) (w : TransferIn s t) where
   pub transfer-formless : t .ok ≡ false → Judged temporary s (readTransfer s) (Refused 3)
-  transfer-formless h = formless temporary s (readTransfer s) (sym (rw h at (w .same)))
+  transfer-formless h = formless temporary s (readTransfer s) (answer-not _ _ _ (w .same) h)
 
   module _ (h : t .ok ≡ true) (k : ℕ) (u : k ≡ transferStop s temporary t) where
     transfer-read : readTransfer s ≡ some (mt103 (transferHeld s t))
-    transfer-read = sym (rw h at (w .same))
+    transfer-read = answer-is _ _ _ (w .same) h
 
     transfer-number : k ≡ firstOf (formStops temporary (readTransfer s))
     transfer-number = rw transfer-read (u ∙ transfer-stops s temporary t)

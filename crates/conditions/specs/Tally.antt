@@ -11,10 +11,10 @@ use Rattle.rules.specs.Lines.{closing, sender}
 use Rattle.rules.specs.Messages as M
 use Rattle.rules.specs.Messages.{details}
 use Rattle.laws.specs.Parts.{from}
+use Rattle.laws.specs.Tests.{answer-is, answer-not}
 use Rattle.forms.specs.Details.{detailHeld, DetailAt}
 use Rattle.forms.specs.declared.detail.Detail.{Detail}
 use Rattle.conditions.specs.Stops.{lowest, detailStop, detail-lowest}
-use Rattle.conditions.specs.Walk.{detail-is, detail-not}
 use Rattle.conditions.specs.declared.tally.Tally.{Tally}
 
 -- ---- one more detail, n being before it
@@ -108,20 +108,20 @@ module _ (s : List ℕ) (t : Tally) (pos : ℕ) (x : Option Told) (inv : rest s 
   module _ (h : t .count < 4096) (d : Detail) (w : DetailAt s pos d) where
     pub tally-bad : d .ok ≡ false → none ≡ x
     unfolding details
-    tally-bad k = let e : 4096 - t .count ≡ suc (4096 - (t .count + 1)) = omega arith in rw (e, detail-not s pos d w k) at inv
+    tally-bad k = let e : 4096 - t .count ≡ suc (4096 - (t .count + 1)) = omega arith in rw (e, answer-not _ _ _ (w .same) k) at inv
 
     module _ (k : d .ok ≡ true) (r : Tally) (a : After s t d r) (c : Bool) (u : c ≡ closing (from s (d .next))) where
       pub tally-last : c ≡ true → tallyOf r ≡ x
       unfolding details told
       tally-last f =
           let e : 4096 - t .count ≡ suc (4096 - (t .count + 1)) = omega arith in
-          rw (a .ok) (ap (λ (y : Told). some y) (told-after s t d r a []) ∙ (rw (e, detail-is s pos d w k, ← u, f) at inv))
+          rw (a .ok) (ap (λ (y : Told). some y) (told-after s t d r a []) ∙ (rw (e, answer-is _ _ _ (w .same) k, ← u, f) at inv))
 
       pub tally-more : c ≡ false → rest s r (d .next) ≡ x
       unfolding details
       tally-more f =
           let e : 4096 - t .count ≡ suc (4096 - (t .count + 1)) = omega arith in
           let g : 4096 - r .count ≡ 4096 - (t .count + 1) = omega (arith, a .count) in
-          rw g (map-after s t d r a (details (4096 - (t .count + 1)) (from s (d .next))) ∙ (rw (e, detail-is s pos d w k, ← u, f) at inv))
+          rw g (map-after s t d r a (details (4096 - (t .count + 1)) (from s (d .next))) ∙ (rw (e, answer-is _ _ _ (w .same) k, ← u, f) at inv))
 
 pub ruleset tallying = (raised-more, raised-kept, day-first, day-later, tally-out, tally-bad, tally-last, tally-more)

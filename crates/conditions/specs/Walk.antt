@@ -14,6 +14,7 @@ use Rattle.rules.specs.Lines.{closing}
 use Rattle.rules.specs.Messages as M
 use Rattle.rules.specs.Messages.{Detailed, detailed, details, field21}
 use Rattle.laws.specs.Parts.{from}
+use Rattle.laws.specs.Tests.{answer-is, answer-not}
 use Rattle.forms.specs.Spans.{spanOf, noSpan, SpanIn, Within, within-at, within-order, within-none, within-set, held, held-none, held-more, held-line}
 use Rattle.forms.specs.Fields.{Behind, behind-in, behind-bytes}
 use Rattle.forms.specs.Details.{detailHeld, DetailAt}
@@ -58,16 +59,7 @@ walked-all (suc k) cs ds h = go (detailed cs) refl (walked-all k) h
     go none e r g = absurd (let z : _≡_ {A = ℕ} 0 1 = cc in omega arith)
     go (some d) e r g = pick d e r (closing (d .others)) g
 
--- ---- what a detail that was read says
-
-module _ (s : List ℕ) (at : ℕ) (d : Detail) (w : DetailAt s at d) where
-  pub detail-is : d .ok ≡ true → detailed (from s at) ≡ some record { detail = detailHeld s d; others = from s (d .next) }
-  detail-is h = sym (rw h at (w .same))
-
-  pub detail-not : d .ok ≡ false → detailed (from s at) ≡ none
-  detail-not h = sym (rw h at (w .same))
-
--- its field 21
+-- the field 21 of a detail that was read
 field-held : (s : List ℕ) (d : Detail) (q : Span) → SpanIn s (getD (d .spans) 0 noSpan) → Behind (getD (d .spans) 0 noSpan) 4 q → spanOf s q ≡ field21 (detailHeld s d)
 field-held s d q w b = rw (held-line s (d .spans) 17 0 (omega arith)) (behind-bytes s _ 4 w q b)
 
@@ -106,7 +98,7 @@ module _ (s : List ℕ) (at n pos i : ℕ) (spans : List Span) (m : Collecting s
 
     pub collect-not : n ≤ 16 → d .ok ≡ false → Collected s at n (record { spans = spans; count = i })
     unfolding walked
-    collect-not f k = record { kept = record { inside = m .inside; size = m .size; few = omega arith }; same = sym (append-nil _) ∙ (rw (next, detail-not s pos d w k) at (m .left)) }
+    collect-not f k = record { kept = record { inside = m .inside; size = m .size; few = omega arith }; same = sym (append-nil _) ∙ (rw (next, answer-not _ _ _ (w .same) k) at (m .left)) }
 
     pub collect-on : n ≤ 16 → d .ok ≡ true → (q : Span) → Behind (getD (d .spans) 0 noSpan) 4 q → Collecting s at n (d .next) (i + 1) (set spans i q)
     unfolding walked
@@ -118,7 +110,7 @@ module _ (s : List ℕ) (at n pos i : ℕ) (spans : List Span) (m : Collecting s
           inside = within-set s spans i q (m .inside) (behind-in s _ 4 g q b);
           left =
               rw (held-more s spans i q (rw (m .size) (omega arith)), append-assoc, field-held s d q g b)
-              (rw (next, detail-is s pos d w k) at (m .left));
+              (rw (next, answer-is _ _ _ (w .same) k) at (m .left));
         }
 
 -- ---- two of them alike

@@ -1,6 +1,6 @@
 -- The table of rows as the code holds it, and that it is document 01's.
-use mathlib.Core.Path.{_≡_, refl, sym, ap, _∙_}
-use mathlib.Core.Bool.{Bool, true, false, cond}
+use mathlib.Core.Path.{_≡_, refl, ap}
+use mathlib.Core.Bool.{Bool, true, false}
 use mathlib.Core.List.{List, [], _∷_, _++_, map}
 use Prim.Native.Nat.{ℕ, zero, suc, _+_, _-_, _*_, _/_, _%_, _^_, _≤_, _<_}
 use native.Mathlib.Omega.{arith}
@@ -9,13 +9,13 @@ use native.Mathlib.Numerals.{add-one}
 use lib.Dec.{leb, eqb}
 use lib.ListN.{length, getD, take, drop}
 use lib.Seq.{drop-cons}
-use borrow.Author.Tests.{leb-true, eqb-true, eqb-false}
+use borrow.Author.Tests.{leb-true, eqb-true}
 use Rattle.rules.specs.Text.{ascii, numberFrom, number, fitsSign, fits}
 use Rattle.rules.specs.Forms as F
 use Rattle.rules.specs.Forms.{nothing, text, reference, account, name, sum, transferRows, detailRows}
 use Rattle.laws.specs.Parts.{cut}
 use Rattle.laws.specs.Reading.{fits-pairs, pairs-more, pairs-bad, pairs-end}
-use Rattle.laws.specs.Tests.{cond-right}
+use Rattle.laws.specs.Tables.{below, below-at}
 use Rattle.forms.specs.declared.table.Rest.{Rest}
 use Rattle.forms.specs.declared.table.Rest.the-variants.{Nothing, Text, Reference, Account, Name, Sum}
 use Rattle.forms.specs.declared.table.Row.{Row}
@@ -104,39 +104,19 @@ pub record RowAt (k : ℕ) (r : Row) : Type 0 where
 
 -- ---- each row's pattern lies within the heads
 
-abbrev roomy : List Row → Bool
-roomy [] = true
-roomy (r ∷ rs) = let q = roomy rs in cond (leb (r .0 + r .1) 186) q false
+abbrev pub codeAt : ℕ → Row
+codeAt k = getD codes k noRow
 
-roomy-at : (rs : List Row) → roomy rs ≡ true → (k : ℕ) → getD rs k noRow .0 + getD rs k noRow .1 ≤ 186
-roomy-at [] h k = omega arith
-roomy-at (r ∷ rs) h zero = go (leb (r .0 + r .1) 186) refl h
-  where
-    go : (b : Bool) → leb (r .0 + r .1) 186 ≡ b → cond b (roomy rs) false ≡ true → r .0 + r .1 ≤ 186
-    go true e g = leb-true _ _ e
-    go false e g = absurd (let z : _≡_ {A = ℕ} 0 1 = cc in omega arith)
-roomy-at (r ∷ rs) h (suc k) = roomy-at rs (cond-right (leb (r .0 + r .1) 186) (roomy rs) h) k
+abbrev roomy : ℕ → Bool
+roomy k = leb (codeAt k .0 + codeAt k .1) 186
 
-pub codes-room : (k : ℕ) → getD codes k noRow .0 + getD codes k noRow .1 ≤ 186
+all-roomy : below roomy 40 ≡ true
 unfolding codes
-codes-room = roomy-at codes refl
+all-roomy = refl
 
--- a row by its number
-pub row-is : {k : ℕ} {r : Row} (i : ℕ) → k ≡ i → r ≡ getD codes i noRow → RowAt k r
-row-is i e h = record { same = h ∙ ap (λ (j : ℕ). getD codes j noRow) (sym e); room = rw h (codes-room i) }
-
--- a number is none of the first n
-abbrev pub Past : ℕ → ℕ → Type 0
-Past k zero = Unit
-Past k (suc n) = Past k n × (k ≡ n → ⊥)
-
-past-le : (k n : ℕ) → Past k n → n ≤ k
-past-le k zero h = omega arith
-past-le k (suc n) h = let l : n ≤ k = past-le k n (h .0) in omega (arith, h .1)
-
--- the last row, which is none of those before it
-pub row-last : {k : ℕ} {r : Row} → k < 40 → Past k 39 → r ≡ getD codes 39 noRow → RowAt k r
-row-last {k} h p e = row-is 39 (let l : 39 ≤ k = past-le k 39 p in omega arith) e
+-- the row of a place
+pub row-told : {k : ℕ} {r : Row} → k < 40 → r ≡ codeAt k → RowAt k r
+row-told {k} l e = record { same = e; room = rw e (leb-true _ _ (below-at roomy 40 all-roomy k l)) }
 
 pub heads-length : length heads ≡ 192
 unfolding heads
@@ -147,40 +127,20 @@ heads-length = refl
 unfoldable pub wordAt : ℕ → ℕ
 wordAt j = number (cut heads (j * 8) (j * 8 + 8))
 
--- the arm of a number, and the last one
-pub word-is : {k v : ℕ} (i : ℕ) → k ≡ i → v ≡ wordAt i → v ≡ wordAt k
-word-is i e h = h ∙ ap wordAt (sym e)
-
-pub word-last : {k v : ℕ} → k < 24 → Past k 23 → v ≡ wordAt 23 → v ≡ wordAt k
-word-last {k} h p e = word-is 23 (let l : 23 ≤ k = past-le k 23 p in omega arith) e
-
 -- a sign in its number
 abbrev pub signIn : ℕ → ℕ → ℕ
 signIn w j = w / 2 ^ (56 - j * 8) % 256
 
-abbrev agree : ℕ → Bool
-agree zero = true
-agree (suc n) = let q = agree n in cond (eqb (signIn (wordAt (n / 8)) (n % 8)) (getD heads n 0)) q false
+abbrev agrees : ℕ → Bool
+agrees i = eqb (signIn (wordAt (i / 8)) (i % 8)) (getD heads i 0)
 
-agree-at : (n : ℕ) → agree n ≡ true → (i : ℕ) → i < n → signIn (wordAt (i / 8)) (i % 8) ≡ getD heads i 0
-agree-at zero h i l = absurd (omega arith)
-agree-at (suc n) h i l = go (eqb i n) refl (agree-at n (cond-right (eqb (signIn (wordAt (n / 8)) (n % 8)) (getD heads n 0)) (agree n) h) i)
-  where
-    now : (b : Bool) → eqb (signIn (wordAt (n / 8)) (n % 8)) (getD heads n 0) ≡ b → cond b (agree n) false ≡ true → signIn (wordAt (n / 8)) (n % 8) ≡ getD heads n 0
-    now true e g = eqb-true _ _ e
-    now false e g = absurd (let z : _≡_ {A = ℕ} 0 1 = cc in omega arith)
-
-    go : (b : Bool) → eqb i n ≡ b → (i < n → signIn (wordAt (i / 8)) (i % 8) ≡ getD heads i 0) → signIn (wordAt (i / 8)) (i % 8) ≡ getD heads i 0
-    go true e f = rw (eqb-true i n e) (now _ refl h)
-    go false e f = f (omega (arith, eqb-false i n e))
-
-heads-agree : agree 192 ≡ true
+all-agree : below agrees 192 ≡ true
 unfolding heads wordAt cut numberFrom
-heads-agree = refl
+all-agree = refl
 
 -- each sign stands in its number
 pub sign-told : (i w : ℕ) → i < 192 → w ≡ wordAt (i / 8) → signIn w (i % 8) ≡ getD heads i 0
-sign-told i w l e = rw e (agree-at 192 heads-agree i l)
+sign-told i w l e = rw e (eqb-true _ _ (below-at agrees 192 all-agree i l))
 
 -- ---- bytes held against the heads, sign by sign
 

@@ -1,6 +1,7 @@
 -- From facts to Bool tests and back, as branches hand them out and contracts ask for them.
 use mathlib.Core.Path.{_≡_, refl, sym, _∙_}
 use mathlib.Core.Bool.{Bool, true, false, _&&_, _||_, cond}
+use mathlib.Core.Option.{Option, none, some}
 use Prim.Native.Nat.{ℕ, _≤_, _<_}
 use native.Mathlib.Omega.{arith}
 use lib.Dec.{leb, eqb}
@@ -29,6 +30,14 @@ cond-left false b h = h
 pub cond-right : (a b : Bool) → cond a b false ≡ true → b ≡ true
 cond-right true b h = h
 cond-right false b h = absurd (let z : _≡_ {A = ℕ} 0 1 = cc in omega arith)
+
+-- an answer that is there where a test holds
+module _ {A : Type 0} (t : Bool) (x : A) (o : Option A) (e : cond t (some x) none ≡ o) where
+  pub answer-is : t ≡ true → o ≡ some x
+  answer-is h = sym (rw h at e)
+
+  pub answer-not : t ≡ false → o ≡ none
+  answer-not h = sym (rw h at e)
 
 -- a test that cannot hold
 pub not-held : (a : Bool) → (a ≡ true → ⊥) → false ≡ a
