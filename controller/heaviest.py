@@ -1,22 +1,28 @@
 #!/usr/bin/env python3
 """Writes days, inputs of the replay program, whose last call is one that costs the card most into a folder: heaviest.py FOLDER
 
-A full book has 32 positions, each with details of the largest amount, and 63 messages of one sender whose references differ in their last
-characters only; the register has 40 account lines that differ in their last characters only. A large message has 4,096 bytes and 16 details.
+A full book has 32 positions, each with details of the largest amount, and 63 messages of one sender; the register has 40 account lines. A large
+message has 4,096 bytes and 16 details.
 
   opening       an opening with this register
   returned      a large message for the last position of a full book, all details returned
   opened        the same with 31 positions; the message opens the one that stands before all others
   credited      as `returned`, with all details credited to the register's last account
-  unframed      as `returned`, with a wrong closing line (1)
+  unframed      as `returned`, with a wrong end (1)
   turn          a turn of the full book with 32 corrections, after the large message
+
+In these days references and IBANs differ in their last characters only, and the wrong end is another closing line. The same days with `first-` in
+front of their names have references and IBANs that differ in their first characters, the large message's before all others, and a lone LF near the end.
 """
+import itertools
 import os
 import sys
 
 DAYS = ["0602%02d" % d for d in range(1, 29)] + ["0603%02d" % d for d in range(1, 6)]
 TODAY, TOMORROW = "060305", "060306"
 SENDER = "AAAABGSF"
+ACCOUNTS = 41
+LARGE = 99  # the large message's number; the others count from 0
 
 
 def iban(account):
@@ -25,89 +31,104 @@ def iban(account):
     return "BG%02d%s" % (98 - int(digits) % 97, account)
 
 
-# Accounts that are 97 apart have equal control digits, so that two of them differ as late as can be.
-ACCOUNTS = [iban("BNBG966130%08d" % (10000000 + 97 * n)) for n in range(41)]
 PAYER = iban("AAAA123110%08d" % 12345678)
+
+
+def late_accounts():
+    """Accounts that are 97 apart have equal control digits, so that two of them differ as late as can be."""
+    return [iban("BNBG966130%08d" % (10000000 + 97 * n)) for n in range(ACCOUNTS)]
+
+
+def early_accounts():
+    """Of several banks, with equal control digits and equal numbers."""
+    banks = ("".join(letters) for letters in itertools.product("BCD", *["ABCDEFGHIJKLMNOPQRSTUVWXYZ"] * 3))
+    ibans = [iban(bank + "96613010000000") for bank in banks]
+    return [x for x in ibans if x[2:4] == ibans[0][2:4]][:ACCOUNTS]
 
 
 def lines(rows):
     return "".join(row + "\r\n" for row in rows)
 
 
-def register():
-    return lines(ACCOUNTS[:1] + [account + ",500000,500000" for account in ACCOUNTS[1:]])
-
-
-def detail(number, amount, date, account, texts):
-    """A detail; `texts` are the lines of text of 50H, 52D, 59 and 70."""
-    return ([":21:DETAIL/REF/%05d" % number, ":32B:BGN" + amount, ":50H:/" + PAYER + "PAY000001"] + texts[0]
-            + [":52D:AAAA1231"] + texts[1] + [":59:/" + account] + texts[2]
-            + [":70:CENTRB" + date, "BAEREF" + date + "N%011d" % number] + texts[3])
-
-
-def mt101(number, details):
-    return lines(["101," + SENDER + ",BNBGBGSD", ":20:MESSAGE/REF%05d" % number] + [row for d in details for row in d] + ["-"])
-
-
-def small(number, date, amount):
-    """A message with one detail."""
-    return mt101(number, [detail(1, amount, date, ACCOUNTS[-1], [["A"]] * 4)])
-
-
-def large(number, date, code):
-    """A message of 4,096 bytes: 16 details for the register's last account with a payment code, every line of text there."""
-    room = [[1] * 4, [1], [1] * 3, [1] * 2]
-
-    def whole():
-        texts = [["T" * n for n in part] for part in room]
-        return mt101(number, [detail(k + 1, "059999999999,99", date, ACCOUNTS[-1] + "PAY" + code, texts) for k in range(16)])
-
-    left = (4096 - len(whole())) // 16
-    for part in room:
-        for k in range(len(part)):
-            more = min(34, left)
-            part[k] += more
-            left -= more
-    message = whole()
-    last = message.rindex("T\r\n") + 1
-    return message[:last] + "T" * min(4096 - len(message), 15) + message[last:]
-
-
-def opening():
-    return "O,%s,%d\r\n%s" % (TODAY, len(register()), register())
-
-
 def command(message):
     return "M,%d\r\n%s" % (len(message), message)
 
 
-def book(dates, last):
-    """63 messages that open a position for each date with the largest amounts; the last position is left room."""
-    firsts = [small(n, date, "0,01" if date == last else "999999999999,98") for n, date in enumerate(dates)]
-    more = [small(n, last, "0,01") for n in range(len(dates), 63)]
-    return opening() + "".join(map(command, firsts + more))
+class Kind:
+    """Days of one kind: the register's accounts, the reference of message n, and how an end is made wrong."""
+
+    def __init__(self, accounts, reference, wrong_end):
+        self.accounts, self.reference, self.wrong_end = accounts, reference, wrong_end
+
+    def register(self):
+        return lines(self.accounts[:1] + [account + ",500000,500000" for account in self.accounts[1:]])
+
+    def opening(self):
+        return "O,%s,%d\r\n%s" % (TODAY, len(self.register()), self.register())
+
+    def detail(self, number, amount, date, account, texts):
+        """A detail; `texts` are the lines of text of 50H, 52D, 59 and 70."""
+        return ([":21:DETAIL/REF/%05d" % number, ":32B:BGN" + amount, ":50H:/" + PAYER + "PAY000001"] + texts[0]
+                + [":52D:AAAA1231"] + texts[1] + [":59:/" + account] + texts[2]
+                + [":70:CENTRB" + date, "BAEREF" + date + "N%011d" % number] + texts[3])
+
+    def mt101(self, number, details):
+        return lines(["101," + SENDER + ",BNBGBGSD", ":20:" + self.reference(number)] + [row for d in details for row in d] + ["-"])
+
+    def small(self, number, date, amount):
+        """A message with one detail."""
+        return self.mt101(number, [self.detail(1, amount, date, self.accounts[-1], [["A"]] * 4)])
+
+    def large(self, number, date, code):
+        """A message of 4,096 bytes: 16 details for the register's last account with a payment code, every line of text there."""
+        room = [[1] * 4, [1], [1] * 3, [1] * 2]
+
+        def whole():
+            texts = [["T" * n for n in part] for part in room]
+            return self.mt101(number, [self.detail(k + 1, "059999999999,99", date, self.accounts[-1] + "PAY" + code, texts) for k in range(16)])
+
+        left = (4096 - len(whole())) // 16
+        for part in room:
+            for k in range(len(part)):
+                more = min(34, left)
+                part[k] += more
+                left -= more
+        message = whole()
+        last = message.rindex("T\r\n") + 1
+        return message[:last] + "T" * min(4096 - len(message), 15) + message[last:]
+
+    def book(self, dates, last):
+        """63 messages that open a position for each date with the largest amounts; the last position is left room."""
+        firsts = [self.small(n, date, "0,01" if date == last else "999999999999,98") for n, date in enumerate(dates)]
+        more = [self.small(n, last, "0,01") for n in range(len(dates), 63)]
+        return self.opening() + "".join(map(command, firsts + more))
+
+    def days(self):
+        late, early = DAYS[-32:], DAYS[-31:]
+        full = self.book(late, late[-1])
+        returned = self.large(LARGE, late[-1], "999999")
+        return {
+            "opening": self.opening(),
+            "returned": full + command(returned),
+            "opened": self.book(early, early[-1]) + command(self.large(LARGE, DAYS[0], "999999")),
+            "credited": full + command(self.large(LARGE, late[-1], "500000")),
+            "unframed": full + command(self.wrong_end(returned)),
+            "turn": full + command(returned) + "T," + TOMORROW + "\r\n",
+        }
 
 
-def wrong_end(message):
-    return message[:-3] + "+\r\n"
+KINDS = {
+    "": Kind(late_accounts(), lambda n: "MESSAGE/REF%05d" % n, lambda message: message[:-3] + "+\r\n"),
+    "first-": Kind(early_accounts(), lambda n: "%05dMESSAGE/REF" % ((n + 1) % (LARGE + 1)), lambda message: message[:-6] + "\n" + message[-5:]),
+}
 
 
 def main(folder):
     os.makedirs(folder, exist_ok=True)
-    late, early = DAYS[-32:], DAYS[-31:]
-    full = book(late, late[-1])
-    returned = large(99, late[-1], "999999")
-    days = {
-        "opening": opening(),
-        "returned": full + command(returned),
-        "opened": book(early, early[-1]) + command(large(99, DAYS[0], "999999")),
-        "credited": full + command(large(99, late[-1], "500000")),
-        "unframed": full + command(wrong_end(returned)),
-        "turn": full + command(returned) + "T," + TOMORROW + "\r\n",
-    }
-    for name, day in days.items():
-        with open(os.path.join(folder, name + ".in"), "wb") as file:
-            file.write(day.encode("ascii"))
+    for kind, days in KINDS.items():
+        for name, day in days.days().items():
+            with open(os.path.join(folder, kind + name + ".in"), "wb") as file:
+                file.write(day.encode("ascii"))
 
 
 if __name__ == "__main__":

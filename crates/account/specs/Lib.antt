@@ -1,1 +1,2 @@
 pub mod Control
+pub mod Shape

@@ -88,7 +88,7 @@ detail-date ls x h =
     let e : record { rows = ls; date = d .value; amount = a .value } ≡ x = some-is (b .gives) in
     rw (← e) (date-exists _ (d .value) (d .is))
 
-transfer-has : (s : List ℕ) (m : Message) → readTransfer s ≡ some m → Has s m
+pub transfer-has : (s : List ℕ) (m : Message) → readTransfer s ≡ some m → Has s m
 unfolding readTransfer senderOf referenceOf dateOf
 transfer-has s m h =
     let r : Came (rowed transferRows (body s)) _ m = came _ _ h in
@@ -118,7 +118,7 @@ details-date (suc k) cs ds h =
     go x false none f g = absurd (let z : _≡_ {A = ℕ} 0 1 = cc in omega arith)
     go x false (some y) f g = let q : x ∷ y ≡ ds = cc in rw (← q) f
 
-order-has : (s : List ℕ) (m : Message) → readOrder s ≡ some m → Has s m
+pub order-has : (s : List ℕ) (m : Message) → readOrder s ≡ some m → Has s m
 unfolding readOrder senderOf referenceOf dateOf
 order-has s m h =
     let r : Came (rowed orderRows (body s)) _ m = came _ _ h in

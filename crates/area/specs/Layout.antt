@@ -79,7 +79,7 @@ position-kept day p h =
       };
     }
 
-text-byte : (c : ℕ) → isText c ≡ true → eqb c 0 ≡ false
+pub text-byte : (c : ℕ) → isText c ≡ true → eqb c 0 ≡ false
 unfolding isText
 text-byte c h = let l : 32 ≤ c = between-low 32 255 c (and-left _ _ h) in ne-eqb c 0 (λ e. omega arith)
 

@@ -18,7 +18,8 @@ use Rattle.rules.specs.Messages.{Message, mt103, mt101, Transfer, Order, Detail
 use Rattle.laws.specs.Tests.{and-left, and-right, between-high}
 use Rattle.area.specs.Facts.{Came, came, gave, some-is}
 use Rattle.area.specs.Layout.{All, All.none, All.more}
-use Rattle.balance.specs.Texts.{no-some, inLine, every-take, every-drop}
+use Rattle.laws.specs.Every.{every-take, every-drop}
+use Rattle.balance.specs.Texts.{no-some, inLine}
 use Rattle.balance.specs.Told.{Short}
 use Rattle.balance.specs.Mute.{Sent}
 

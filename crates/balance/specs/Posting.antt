@@ -16,7 +16,8 @@ use Rattle.laws.specs.Digits.{places-length, width-some}
 use Rattle.laws.specs.Numbers.{digits-decimal}
 use Rattle.laws.specs.Tests.{cond-right}
 use Rattle.area.specs.Facts.{cond-left}
-use Rattle.balance.specs.Texts.{inLine, every-join}
+use Rattle.laws.specs.Every.{every-join}
+use Rattle.balance.specs.Texts.{inLine}
 use Rattle.balance.specs.Told.{Tells, tells-line}
 use Rattle.balance.specs.Signs.{alnum-other, plain-alnum, bic-alnum, iban-alnum, fixed-alnum, fixed-fits}
 

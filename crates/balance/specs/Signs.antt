@@ -15,7 +15,8 @@ use Rattle.laws.specs.Reading.{fits-length}
 use Rattle.laws.specs.Digits.{places-length, width-most}
 use Rattle.laws.specs.Tests.{cond-right, between-low}
 use Rattle.area.specs.Facts.{cond-left, cond-both, never}
-use Rattle.balance.specs.Texts.{inLine, every-wider}
+use Rattle.laws.specs.Every.{every-wider}
+use Rattle.balance.specs.Texts.{inLine}
 use Rattle.balance.specs.Told.{Short, short-join}
 
 -- ---- a letter or digit

@@ -4,44 +4,14 @@ use mathlib.Core.Path.{_≡_, refl}
 use mathlib.Core.Bool.{Bool, true, false, _&&_, not, cond}
 use mathlib.Core.List.{List, [], _∷_, _++_}
 use mathlib.Core.Option.{Option, none, some, Option·map}
-use Prim.Native.Nat.{ℕ, zero, suc}
+use Prim.Native.Nat.{ℕ}
 use native.Mathlib.Omega.{arith}
 use lib.Dec.{eqb}
-use lib.ListN.{take, drop}
 use borrow.Author.Tests.{not-true}
 use Rattle.rules.specs.Text.{every}
 use Rattle.rules.specs.Lines.{Line, lines, begun, before}
 use Rattle.laws.specs.Tests.{and-left, and-right, cond-right}
-use Rattle.area.specs.Facts.{cond-left, cond-both}
-
--- ---- bytes that all pass a test
-
-module _ (p : ℕ → Bool) where
-  pub every-join : (a b : List ℕ) → every p a ≡ true → every p b ≡ true → every p (a ++ b) ≡ true
-  unfolding every
-  every-join [] b h k = k
-  every-join (c ∷ a) b h k =
-      cond-both (p c) (every p (a ++ b)) (cond-left (p c) (every p a) h) (every-join a b (cond-right (p c) (every p a) h) k)
-
-  pub every-take : (n : ℕ) (a : List ℕ) → every p a ≡ true → every p (take n a) ≡ true
-  unfolding every
-  every-take zero a h = refl
-  every-take (suc n) [] h = refl
-  every-take (suc n) (c ∷ a) h =
-      cond-both (p c) (every p (take n a)) (cond-left (p c) (every p a) h) (every-take n a (cond-right (p c) (every p a) h))
-
-  pub every-drop : (n : ℕ) (a : List ℕ) → every p a ≡ true → every p (drop n a) ≡ true
-  unfolding every
-  every-drop zero a h = h
-  every-drop (suc n) [] h = refl
-  every-drop (suc n) (c ∷ a) h = every-drop n a (cond-right (p c) (every p a) h)
-
-  -- of a narrower class
-  pub every-wider : (q : ℕ → Bool) → ((c : ℕ) → p c ≡ true → q c ≡ true) → (a : List ℕ) → every p a ≡ true → every q a ≡ true
-  unfolding every
-  every-wider q w [] h = refl
-  every-wider q w (c ∷ a) h =
-      cond-both (q c) (every q a) (w c (cond-left (p c) (every p a) h)) (every-wider q w a (cond-right (p c) (every p a) h))
+use Rattle.area.specs.Facts.{cond-left}
 
 -- ---- lines
 

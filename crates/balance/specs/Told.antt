@@ -17,7 +17,8 @@ use Rattle.rules.specs.Ledger.{begun, parted, isParty, isNumber, isPosting, pos
 use Rattle.laws.specs.Reading.{fits-length}
 use Rattle.laws.specs.Tests.{and-left, and-right, cond-right}
 use Rattle.area.specs.Facts.{cond-left, cond-both}
-use Rattle.balance.specs.Texts.{inLine, every-join, lines-line, lines-join}
+use Rattle.laws.specs.Every.{every-join}
+use Rattle.balance.specs.Texts.{inLine, lines-line, lines-join}
 
 -- ---- a posting line is long
 

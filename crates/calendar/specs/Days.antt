@@ -1,24 +1,19 @@
 -- Which dates exist, one law for each way that the code goes.
 use mathlib.Core.Path.{_≡_, refl, sym, ap, _∙_}
-use mathlib.Core.Bool.{Bool, true, false, cond}
+use mathlib.Core.Bool.{Bool, true, false, _&&_, cond}
 use mathlib.Core.List.{List, []}
 use mathlib.Core.Option.{Option, none, some}
-use Prim.Native.Nat.{ℕ, _+_, _-_, _/_, _%_, _≤_, _<_}
+use Prim.Native.Nat.{ℕ, _+_, _-_, _*_, _/_, _%_, _≤_, _<_}
 use native.Mathlib.Omega.{arith}
 use lib.Dec.{leb, eqb}
 use lib.ListN.{length, getD}
 use borrow.Author.Tests.{leb-true, le-leb, lt-leb, eq-eqb, ne-eqb}
-use Rattle.rules.specs.Text.{digits, then, given}
+use Rattle.rules.specs.Text.{between, isDigit, digits, then, given}
 use Rattle.rules.specs.Dates.{monthLengths, leapRow, monthLength, exists, date}
-use mir.Syntax.{w32}
-use mir.Val.{Fits}
-use borrow.Author.Needs.{fits-under}
 use Rattle.laws.specs.Parts.{cut, cut-length}
 use Rattle.laws.specs.Tests.{and-left}
-use Rattle.laws.specs.Numbers.{digits-small}
-use Rattle.text.specs.Answers.{numOf}
-use Rattle.text.specs.declared.numbers.Num.{Num}
-use Rattle.text.specs.declared.numbers.Num.the-variants.{Value, Bad}
+use Rattle.laws.specs.Places.{Passed, passed-all}
+use Rattle.laws.specs.Values.{Valued, passed-none}
 
 -- the table's row of a year
 pub record RowOf (year r : ℕ) : Type 0 where
@@ -38,53 +33,53 @@ pub length-at : (year month r : ℕ) → RowOf year r → getD (getD monthLength
 unfolding monthLength
 length-at year month r h = rw (h .same)
 
-module _ (n : ℕ) where
-  pub no-year : 99 < n / 10000 → false ≡ exists n
+pub no-year : (n : ℕ) → 999999 < n → false ≡ exists n
+unfolding exists
+no-year n h = rw (lt-leb (n / 10000) 99 (omega arith))
+
+-- a number of six digits, in its year and the four digits behind it
+module _ (n year rest : ℕ) (y : year ≡ n / 10000) (r : rest ≡ n % 10000) (s : n ≤ 999999) where
+  month : n / 100 % 100 ≡ rest / 100
+  month = omega arith
+
+  day : n % 100 ≡ rest - rest / 100 * 100
+  day = omega arith
+
+  parts : exists n ≡ (leb 1 (rest / 100) && leb (rest / 100) 12 && between 1 (monthLength year (rest / 100)) (rest - rest / 100 * 100))
   unfolding exists
-  no-year h = rw (lt-leb _ _ h)
+  parts = rw (month, day, ← y, le-leb year 99 (omega arith))
 
-  module _ (y : n / 10000 ≤ 99) where
-    pub no-month : n / 100 % 100 < 1 → false ≡ exists n
-    unfolding exists
-    no-month h = rw (le-leb _ _ y, lt-leb _ _ h)
+  pub no-month : rest / 100 < 1 → false ≡ exists n
+  no-month h = rw (parts, lt-leb _ _ h)
 
-    pub late-month : 1 ≤ n / 100 % 100 → 12 < n / 100 % 100 → false ≡ exists n
-    unfolding exists
-    late-month l h = rw (le-leb _ _ y, le-leb _ _ l, lt-leb _ _ h)
+  module _ (l : 1 ≤ rest / 100) where
+    pub late-month : 12 < rest / 100 → false ≡ exists n
+    late-month h = rw (parts, le-leb _ _ l, lt-leb _ _ h)
 
-    module _ (l : 1 ≤ n / 100 % 100) (h : n / 100 % 100 ≤ 12) where
-      pub no-day : n % 100 < 1 → leb 1 (n % 100) ≡ exists n
-      unfolding exists
-      no-day d = rw (le-leb _ _ y, le-leb _ _ l, le-leb _ _ h, lt-leb _ _ d)
+    module _ (h : rest / 100 ≤ 12) where
+      pub no-day : rest - rest / 100 * 100 < 1 → leb 1 (rest - rest / 100 * 100) ≡ exists n
+      no-day d = rw (parts, le-leb _ _ l, le-leb _ _ h, lt-leb _ _ d)
 
-      pub by-length : 1 ≤ n % 100 → (k : ℕ) → k ≡ monthLength (n / 10000) (n / 100 % 100) → leb (n % 100) k ≡ exists n
-      unfolding exists
-      by-length d k e = rw (e, le-leb _ _ y, le-leb _ _ l, le-leb _ _ h, le-leb _ _ d)
+      pub by-length : 1 ≤ rest - rest / 100 * 100 → (k : ℕ) → k ≡ monthLength year (rest / 100) → leb (rest - rest / 100 * 100) k ≡ exists n
+      by-length d k e = rw (parts, e, le-leb _ _ l, le-leb _ _ h, le-leb _ _ d)
 
--- the six digits at a place, as they were read, and the date that they are
-module _ (s : List ℕ) (at : ℕ) (h : at + 6 ≤ length s) (q : Num) (e : numOf q ≡ digits (cut s at (at + 6))) where
+-- the six digits at a place, and the date that they are
+module _ (s : List ℕ) (at : ℕ) (h : at + 6 ≤ length s) where
   six : length (cut s at (at + 6)) ≡ 6
   six = cut-length s at (at + 6) h ∙ omega arith
 
-  module _ (n : ℕ) (w : q ≡ Value n) where
-    some-digits : digits (cut s at (at + 6)) ≡ some n
-    some-digits = sym e ∙ ap numOf w
+  module _ (n : ℕ) (w : Valued s at 6 n) (t : Bool) (u : t ≡ exists n) where
+    pub date-good : t ≡ true → some n ≡ date (cut s at (at + 6))
+    unfolding date
+    date-good d = rw (eq-eqb _ _ six, ← w .value, ← u, d)
 
-    pub date-fits : Fits w32 n
-    date-fits = let b : n < 1000000 = rw six at (digits-small _ n some-digits) in fits-under w32 n 1000000 b tt
+    pub date-absent : t ≡ false → none ≡ date (cut s at (at + 6))
+    unfolding date
+    date-absent d = rw (eq-eqb _ _ six, ← w .value, ← u, d)
 
-    module _ (t : Bool) (u : t ≡ exists n) where
-      pub date-good : t ≡ true → some n ≡ date (cut s at (at + 6))
-      unfolding date
-      date-good d = rw (eq-eqb _ _ six, some-digits, ← u, d)
-
-      pub date-absent : t ≡ false → none ≡ date (cut s at (at + 6))
-      unfolding date
-      date-absent d = rw (eq-eqb _ _ six, some-digits, ← u, d)
-
-  pub date-none : q ≡ Bad → none ≡ date (cut s at (at + 6))
+  pub date-none : (r : ℕ) → Passed isDigit s at 6 r → r < 6 → none ≡ date (cut s at (at + 6))
   unfolding date
-  date-none w = let g : digits (cut s at (at + 6)) ≡ none = sym e ∙ ap numOf w in rw (eq-eqb _ _ six, g)
+  date-none r w l = rw (eq-eqb _ _ six, ← passed-none s at 6 r w l)
 
 -- ---- for those who read dates: a date exists, and its number has six digits
 
@@ -105,4 +100,4 @@ date-exists cs n h = told (eqb (length cs) 6) (digits cs) h
     told true none g = absurd (let z : _≡_ {A = ℕ} 0 1 = cc in omega arith)
     told false o g = absurd (let z : _≡_ {A = ℕ} 0 1 = cc in omega arith)
 
-pub ruleset days = (row-leap, row-common, length-at, no-year, no-month, late-month, no-day, by-length, date-fits, date-good, date-absent, date-none)
+pub ruleset days = (row-leap, row-common, length-at, no-year, no-month, late-month, no-day, by-length, date-good, date-absent, date-none, passed-all)

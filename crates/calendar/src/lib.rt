@@ -1,7 +1,7 @@
 // Dates: six digits, year, month, day, in 2000 to 2099.
 use text::Num;
 ghost use mathlib.Core.Path.{_≡_};
-ghost use Prim.Native.Nat.{_+_, _≤_};
+ghost use Prim.Native.Nat.{_+_, _/_, _%_, _≤_};
 ghost use lib.ListN.{length};
 ghost use Rattle.laws.specs.Parts.{cut};
 ghost use Rattle.text.specs.Answers.{numOf};
@@ -16,7 +16,7 @@ const MONTHS: [[u8; 12]; 2] = [
 ];
 
 // A year's row of the table: a year is leap if four divides it.
-fn leap_row(year: u32) -> usize
+fn leap_row(year: u16) -> usize
     ensures { λ r. ⌜ RowOf year r ⌝ }
 {
     if year % 4 == 0 {
@@ -26,7 +26,7 @@ fn leap_row(year: u32) -> usize
 }
 
 // The length of a month.
-fn month_length(year: u32, month: usize) -> u8
+fn month_length(year: u16, month: usize) -> u8
     requires { ⌜ 1 ≤ month ⌝ }
     requires { ⌜ month ≤ 12 ⌝ }
     ensures { λ r. ⌜ r ≡ monthLength year month ⌝ }
@@ -35,23 +35,40 @@ fn month_length(year: u32, month: usize) -> u8
     MONTHS[row][month - 1]
 }
 
+// The year of six digits.
+fn year_of(n: u32) -> u16
+    requires { ⌜ n ≤ 999999 ⌝ }
+    ensures { λ r. ⌜ r ≡ n / 10000 ⌝ }
+{
+    (n / 16) as u16 / 625
+}
+
+// Their month and day.
+fn month_and_day(n: u32, year: u16) -> u16
+    requires { ⌜ year ≡ n / 10000 ⌝ }
+    ensures { λ r. ⌜ r ≡ n % 10000 ⌝ }
+{
+    (n - year as u32 * 10000) as u16
+}
+
 // Is the number an existing date?
 pub fn exists(n: u32) -> bool
     ensures { λ r. ⌜ r ≡ D.exists n ⌝ }
 {
-    let year = n / 10000;
-    let month = (n / 100 % 100) as usize;
-    let day = (n % 100) as u8;
-    if 99 < year {
+    if 999999 < n {
         return false;
     }
+    let year = year_of(n);
+    let rest = month_and_day(n, year);
+    let month = rest / 100;
+    let day = (rest - month * 100) as u8;
     if month < 1 {
         return false;
     }
     if 12 < month {
         return false;
     }
-    let last = month_length(year, month);
+    let last = month_length(year, month as usize);
     1 <= day && day <= last
 }
 
@@ -60,13 +77,12 @@ pub fn read_date(s: &[u8], at: usize) -> Num
     requires { ⌜ at + 6 ≤ length (now s) ⌝ }
     ensures { λ r. ⌜ numOf r ≡ date (cut (now (s .entry)) at (at + 6)) ⌝ }
 {
-    match text::read_digits(s, at, at + 6) {
-        Num::Value(n) => {
-            if exists(n as u32) {
-                return Num::Value(n);
-            }
-            Num::Bad
-        }
-        Num::Bad => Num::Bad,
+    if text::digits_at(s, at, 6) < 6 {
+        return Num::Bad;
     }
+    let n = text::small_digits(s, at, 6);
+    if exists(n) {
+        return Num::Value(n as u64);
+    }
+    Num::Bad
 }

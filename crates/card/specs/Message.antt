@@ -3,39 +3,43 @@ use mathlib.Core.Path.{_≡_, refl, sym, ap, _∙_}
 use mathlib.Core.Bool.{Bool, true, false, cond, not}
 use mathlib.Core.List.{List, [], _∷_, _++_}
 use mathlib.Core.Option.{Option, none, some}
-use Prim.Native.Nat.{ℕ, _+_, _≤_, _<_, _^_}
-use borrow.Author.Tests.{le-leb, lt-leb, leb-false, ne-eqb, not-false}
+use Prim.Native.Nat.{ℕ, _+_, _-_, _≤_, _<_, _^_}
+use borrow.Author.Tests.{le-leb, lt-leb, leb-false, ne-eqb}
 use lib.Dec.{leb, eqb, lit<}
 use lib.IntN.{ℤ, pos, subℕ}
 use native.Mathlib.Omega.{arith}
 use lib.Signed.{mag}
-use lib.ListN.{length, getD, take, drop}
+use lib.ListN.{length, getD, take, drop, replicate}
 use Rattle.rules.specs.Text.{isSome, over}
 use Rattle.rules.specs.Messages.{Message, read}
 use Rattle.rules.specs.Register.{registerOf}
-use Rattle.rules.specs.Engine.{Engine, positionOf}
-use Rattle.rules.specs.Calls.{stop, firstOf, holdsOf, noRoom, overLimit, writes, added, inputStops, stateStops, messageStops, messageText, after, afterMessage, messageCall, bothOf, acceptedMessage, refused}
+use Rattle.rules.specs.Engine.{Engine, Position}
+use Rattle.rules.specs.Calls.{stop, firstOf, holdsOf, noRoom, overLimit, added, inputStops, stateStops, messageStops, messageText, after, afterMessage, messageCall, bothOf, acceptedMessage, refused}
 use Rattle.rules.specs.Area.{cardMessage, onAreas, stored, encode, decode, holds}
 use Rattle.laws.specs.Parts.{cut}
+use Rattle.laws.specs.Tests.{held-told}
 use Rattle.laws.specs.Writing.{Wrote, wrote-over, furthest}
 use Rattle.area.specs.Facts.{Passed, passed}
 use Rattle.area.specs.Held.{held}
 use Rattle.engine.specs.Find.{TotalsOf}
+use Rattle.engine.specs.Held.{RegisterEnd}
 use Rattle.engine.specs.declared.find.Totals.{Totals}
 use Rattle.steps.specs.Booking.{Booking as CanBook, booking-clear, bookedWith, booked-after, reference}
 use Rattle.steps.specs.Places.{position}
-use Rattle.laws.specs.Tests.{held-told}
 use Rattle.outgoing.specs.Area.{standing}
-use Rattle.conditions.specs.Answers.{CheckedAs, refused-told, refused-some, transfer-none-holds, order-none-holds}
-use Rattle.conditions.specs.Checks.{framed-low, framed-high}
+use Rattle.details.specs.Message.{messageIn}
+use Rattle.details.specs.Kept.{Room}
+use Rattle.conditions.specs.Books.{Books, amountIf}
+use Rattle.conditions.specs.Answers.{CheckedAs, Passes, refused-told, refused-some, passed-told}
+use Rattle.conditions.specs.declared.booking.Booking.{Booking}
 use Rattle.conditions.specs.declared.message.Checked.{Checked}
-use Rattle.conditions.specs.declared.message.Checked.the-variants.{Refused, Transfer, Order}
-use Rattle.conditions.specs.declared.message.TransferParts.{TransferParts}
-use Rattle.conditions.specs.declared.message.OrderParts.{OrderParts}
-use Rattle.rules.specs.Lines.{framed}
-use Rattle.state.specs.Books.{Books, messageIn, amountIf}
-use Rattle.state.specs.declared.booking.Booking.{Booking}
-use Rattle.state.specs.Stops.{limitStops, added-small, summed-small}
+use Rattle.conditions.specs.declared.message.Checked.the-variants.{Refused}
+use Rattle.verdict.specs.Details.{VerdictsIn, JudgedIn}
+use Rattle.state.specs.Stops.{limitStops}
+use Rattle.detail_lines.specs.Returned.{ReturnedCount}
+use Rattle.message_text.specs.Message.{text-here, text-passes, AfterOf, amount-part, after-is, WritesOf, Writes, writes-told}
+use Rattle.written.specs.Values.{positionOf}
+use Rattle.written.specs.declared.Position as W
 use Rattle.card.specs.Answers.{Answers}
 use Rattle.card.specs.Minus.{difference-small}
 use Rattle.card.specs.Stops.{numbered, first-later, first-earlier}
@@ -107,116 +111,122 @@ pub record Sent (s a out : List ℕ) (n : ℕ) (z : ℤ) (a' out' : List ℕ) : 
   pub output : out' ≡ over (messageText (decode a) (messageIn s)) out
   pub small : mag z < 2 ^ 63
 
--- z is the position's transferred minus detailed with the booking's amounts
-pub record Differs (a : List ℕ) (b : Booking) (z : ℤ) : Type 0 where
-  pub value : z
-      ≡ subℕ (positionOf (b .bank) (b .date) (decode a .positions) .transferred + amountIf (b .transfer) (b .amount))
-      (positionOf (b .bank) (b .date) (decode a .positions) .detailed + amountIf (not (b .transfer)) (b .amount))
-  pub small : mag z < 2 ^ 63
-
-pub differs-done : (area : List ℕ) (b : Booking) {t d : ℕ} {z : ℤ} (x : Totals) → b .amount ≤ 160000000000000000 → t ≡ amountIf (b .transfer) (b .amount) → d ≡ amountIf (not (b .transfer)) (b .amount)
-    → TotalsOf (decode area .positions) (b .bank) (b .date) x → z ≡ subℕ (x .transferred + t) (x .detailed + d) → Differs area b z
-differs-done area b {t} {d} x l u v y e = record {
-  value = e ∙ rw (y .transferred, y .detailed, u, v) refl;
-  small = rw e (difference-small (x .transferred + t) (x .detailed + d) (omega (arith, y .small, added-small b u l)) (omega (arith, y .few, summed-small b v l)));
-}
-
--- sums of six bytes and a message's amounts
-pub sum-room : {v w : ℕ} → v < 281474976710656 → w ≤ 160000000000000000 → v + w < 2 ^ 62
-sum-room h k = omega arith
-
 -- the area holds the engine after the message
 pub record Booked (s a a' : List ℕ) : Type 0 where
   pub area : a' ≡ encode (afterMessage (decode a) (messageIn s)) ++ drop 6144 a
 
-module _ (s area : List ℕ) (h : isSome (holds area) ≡ true) (b : Booking) (k : Books s b) where
+-- p is the message's position as it leaves it
+pub record Leaves (a s : List ℕ) (p : W.Position) : Type 0 where
+  pub same : positionOf p ≡ after (decode a) (messageIn s)
+  pub few : p .transferred < 2 ^ 62
+  pub small : p .detailed < 2 ^ 62
+
+-- a message that none of 1 to 15 stops, to be written and booked
+pub record Ready (s a : List ℕ) (b : Booking) (p : W.Position) (parts : ℕ) (amounts places verdicts : List ℕ) : Type 0 where
+  pub engine : isSome (holds a) ≡ true
+  pub books : Books s (messageIn s) b
+  pub none-holds : 0 ≡ firstOf (limitStops (decode a) (messageIn s))
+  pub judged : JudgedIn (decode a .register) s amounts places verdicts (b .count)
+  pub leaves : Leaves a s p
+  pub parts-are : Writes (decode a) (messageIn s) parts
+
+pub leaves-told : (a s : List ℕ) (b : Booking) → Books s (messageIn s) b → (x : Totals) → TotalsOf (decode a .positions) (b .bank) (b .date) x → (p : W.Position) → AfterOf b x p → Leaves a s p
+leaves-told a s b k x y p q = record {
+  same = after-is a s b k x y p q;
+  few = omega (arith, q .transferred, y .small, amount-part (b .transfer) (b .amount), k .small);
+  small = omega (arith, q .detailed, y .few, amount-part (not (b .transfer)) (b .amount), k .small);
+}
+
+-- the register's own text
+pub judged-told : (a s : List ℕ) (e : ℕ) → RegisterEnd a e → {verdicts : List ℕ} {n : ℕ} → VerdictsIn (take (e - 2320) (drop 2320 a)) s verdicts n → VerdictsIn (decode a .register) s verdicts n
+judged-told a s e r v = rw (← text-here a e r) v
+
+module _ (s area : List ℕ) (h : isSome (holds area) ≡ true) (b : Booking) {amounts places : List ℕ} (k : Passes (temporaryOf (decode area)) s b amounts places) (p : W.Position) (q : Leaves area s p) (z : 0 ≡ firstOf (limitStops (decode area) (messageIn s))) where
+  pub ready : {verdicts : List ℕ} → VerdictsIn (decode area .register) s verdicts (b .count) → {n : ℕ} → ReturnedCount verdicts (b .count) n → {parts : ℕ} → WritesOf b p n parts → Ready s area b p parts amounts places verdicts
+  ready {verdicts} v c w =
+      let j : JudgedIn (decode area .register) s amounts places verdicts (b .count) = record { lines-kept = k .lines-kept; amounts-kept = k .amounts-kept; verdicts-kept = v } in record {
+        engine = h;
+        books = k .books;
+        none-holds = z;
+        judged = j;
+        leaves = q;
+        parts-are = writes-told area s b (k .books) p (q .same) amounts places verdicts j c w;
+      }
+
+module _ (s area : List ℕ) (h : isSome (holds area) ≡ true) where
   engine : holds area ≡ some (decode area)
   engine = held-decode area h
 
-  -- the message's own parts
-  module _ {t d : ℕ} (u : t ≡ amountIf (b .transfer) (b .amount)) (v : d ≡ amountIf (not (b .transfer)) (b .amount)) where
-    position-is : position (b .bank) (b .date) t d ≡ added (messageIn s)
-    position-is = rw (k .bank, k .date, u, v, k .transferred, k .detailed) refl
+  module _ (b : Booking) (k : Books s (messageIn s) b) where
+    -- the message's own parts
+    module _ {t d : ℕ} (u : t ≡ amountIf (b .transfer) (b .amount)) (v : d ≡ amountIf (not (b .transfer)) (b .amount)) where
+      position-is : position (b .bank) (b .date) t d ≡ added (messageIn s)
+      position-is = rw (k .bank, k .date, u, v, k .transferred, k .detailed) refl
 
-    -- where none of 11 to 15 holds it can be booked
-    pub booking-of : 0 ≡ firstOf (limitStops (decode area) (messageIn s)) → CanBook (decode area) (position (b .bank) (b .date) t d)
-    unfolding limitStops
-    booking-of z =
-        let p11 : Passed _ _ = passed 10 _ _ (sym z) in
-        let p12 : Passed _ _ = passed 11 _ _ (p11 .others) in
-        let p13 : Passed (leb 64 (length (decode area .references))) _ = passed 12 _ _ (p12 .others) in
-        let p14 : Passed (noRoom (decode area) (messageIn s)) _ = passed 13 _ _ (p13 .others) in
-        let p15 : Passed (overLimit (decode area) (messageIn s)) _ = passed 14 _ _ (p14 .others) in
-        rw position-is (booking-clear (decode area) (messageIn s) (held area (decode area) engine .good) (leb-false 64 _ (p13 .first)) (p14 .first) (p15 .first))
+      -- where none of 11 to 15 holds it can be booked
+      pub booking-of : 0 ≡ firstOf (limitStops (decode area) (messageIn s)) → CanBook (decode area) (position (b .bank) (b .date) t d)
+      unfolding limitStops
+      booking-of z =
+          let p11 : Passed _ _ = passed 10 _ _ (sym z) in
+          let p12 : Passed _ _ = passed 11 _ _ (p11 .others) in
+          let p13 : Passed (leb 64 (length (decode area .references))) _ = passed 12 _ _ (p12 .others) in
+          let p14 : Passed (noRoom (decode area) (messageIn s)) _ = passed 13 _ _ (p13 .others) in
+          let p15 : Passed (overLimit (decode area) (messageIn s)) _ = passed 14 _ _ (p14 .others) in
+          rw position-is (booking-clear (decode area) (messageIn s) (held area (decode area) engine .good) (leb-false 64 _ (p13 .first)) (p14 .first) (p15 .first))
 
-    -- the area with the message
-    pub booked-done : {a' : List ℕ} {w : ℕ} → w ≡ writes (decode area) (messageIn s)
-        → a' ≡ encode (bookedWith (decode area) (position (b .bank) (b .date) t d) (reference (b .bank) (cut s (b .start) (b .end))) w) ++ drop 6144 area → Booked s area a'
-    booked-done f c = record { area = c ∙ rw (position-is, k .bank, k .reference, f, booked-after) refl }
+      -- the area with the message
+      pub booked-done : {a' : List ℕ} {w : ℕ} → Writes (decode area) (messageIn s) w
+          → a' ≡ encode (bookedWith (decode area) (position (b .bank) (b .date) t d) (reference (b .bank) (cut s (b .reference .start) (b .reference .end))) w) ++ drop 6144 area → Booked s area a'
+      booked-done f c = record { area = c ∙ rw (position-is, k .bank, k .reference, f .value, booked-after) refl }
 
-  pub sent-done : {out out' a' : List ℕ} {r : ℕ} {z : ℤ} → length (messageText (decode area) (messageIn s)) ≤ length out
-      → Wrote (messageText (decode area) (messageIn s)) 0 out r out' → Differs area b z → Booked s area a' → Sent s area out r z a' out'
-  unfolding after
-  sent-done l w e c = record {
-    written = wrote-exact w l;
-    difference = e .value ∙ rw (← k .transferred, ← k .detailed, k .bank, k .date) refl;
-    area = c .area;
-    output = wrote-over w l;
-    small = e .small;
-  }
+pub sent-done : {s area : List ℕ} {b : Booking} {p : W.Position} {parts : ℕ} {amounts places verdicts : List ℕ} → Ready s area b p parts amounts places verdicts → {out out' a' : List ℕ} {r : ℕ} {z : ℤ} → length (messageText (decode area) (messageIn s)) ≤ length out
+    → Wrote (messageText (decode area) (messageIn s)) 0 out r out' → z ≡ subℕ (p .transferred) (p .detailed) → Booked s area a' → Sent s area out r z a' out'
+sent-done {s} {area} {b} {p} m l w e c = record {
+  written = wrote-exact w l;
+  difference = e ∙ ap (λ (x : Position). subℕ (x .transferred) (x .detailed)) (m .leaves .same);
+  area = c .area;
+  output = wrote-over w l;
+  small = rw e (difference-small (p .transferred) (p .detailed) (m .leaves .few) (m .leaves .small));
+}
 
-  -- ---- the ways out of a message that passed 1 to 8
+-- ---- the ways out of a message that passed 1 to 8
 
-  module _ (i : firstOf (inputStops (temporaryOf (decode area)) s) ≡ 0) (out : List ℕ) (n : ℕ) (e : n ≡ firstOf (limitStops (decode area) (messageIn s))) where
-    pub sent-state : 0 < n → Answers (cardMessage s area out) n 0 (pos 0) area out
-    sent-state p = message-state s area out (decode area) engine (messageIn s) i (k .same) n (sym e) (ne-eqb n 0 (λ z. omega arith))
+module _ (s area : List ℕ) (h : isSome (holds area) ≡ true) (b : Booking) {amounts places : List ℕ} (k : Passes (temporaryOf (decode area)) s b amounts places) (out : List ℕ) where
+  pub sent-state : (n : ℕ) → n ≡ firstOf (limitStops (decode area) (messageIn s)) → 0 < n → Answers (cardMessage s area out) n 0 (pos 0) area out
+  sent-state n e p = message-state s area out (decode area) (held-decode area h) (messageIn s) (k .none-holds) (k .read) n (sym e) (ne-eqb n 0 (λ z. omega arith))
 
-    module _ (l : n ≤ 0) {r : ℕ} (w : Measured (messageText (decode area) (messageIn s)) r) where
-      state-passes : firstOf (limitStops (decode area) (messageIn s)) ≡ 0
-      state-passes = omega arith
+  module _ (z : 0 ≡ firstOf (limitStops (decode area) (messageIn s))) {r : ℕ} (w : Measured (messageText (decode area) (messageIn s)) r) where
+    pub sent-room : length out < r → Answers (cardMessage s area out) 16 0 (pos 0) area out
+    sent-room m = message-room s area out (decode area) (held-decode area h) (messageIn s) (k .none-holds) (k .read) (sym z) (size-long w (length out) m)
 
-      pub sent-none : 0 ≡ firstOf (limitStops (decode area) (messageIn s))
-      sent-none = sym state-passes
+    pub sent-made : {n₁ : ℕ} {d : ℤ} {a' out' : List ℕ} → r ≤ length out → length out < furthest → Sent s area out n₁ d a' out' → Answers (cardMessage s area out) 0 n₁ d a' out'
+    sent-made m f c =
+        message-accepted s area out (decode area) (held-decode area h) (messageIn s) (k .none-holds) (k .read) (sym z) (size-fits w (length out) m f) (c .written) (c .difference) (c .area) (c .output) (c .small)
 
-      pub sent-room : length out < r → Answers (cardMessage s area out) 16 0 (pos 0) area out
-      sent-room m = message-room s area out (decode area) engine (messageIn s) i (k .same) state-passes (size-long w (length out) m)
+-- none of 11 to 15 holds
+pub state-none : (s area : List ℕ) (n : ℕ) → n ≡ firstOf (limitStops (decode area) (messageIn s)) → n ≤ 0 → 0 ≡ firstOf (limitStops (decode area) (messageIn s))
+state-none s area n e l = let z : n ≡ 0 = omega arith in sym z ∙ e
 
-      pub sent-fits : r ≤ length out → length out < furthest → length (messageText (decode area) (messageIn s)) ≤ length out
-      sent-fits m f = size-fits w (length out) m f
-
-      pub sent-made : {n₁ : ℕ} {z : ℤ} {a' out' : List ℕ} → r ≤ length out → length out < furthest → Sent s area out n₁ z a' out' → Answers (cardMessage s area out) 0 n₁ z a' out'
-      sent-made m f c =
-          message-accepted s area out (decode area) engine (messageIn s) i (k .same) state-passes (sent-fits m f) (c .written) (c .difference) (c .area) (c .output) (c .small)
+-- a text that is measured within the output fits
+pub text-fits : {text : List ℕ} {r : ℕ} (out : List ℕ) → Measured text r → r ≤ length out → length out < furthest → length text ≤ length out
+text-fits out w m f = size-fits w (length out) m f
 
 -- ---- the ways out of a message to an area that holds an engine
 
 -- the temporary account, where it stands
-pub check-told : (s area : List ℕ) (r : Checked) → isSome (holds area) ≡ true → CheckedAs (take 22 (drop 2320 area)) s r → CheckedAs (temporaryOf (decode area)) s r
+pub check-told : (s area : List ℕ) (r : Checked) {amounts places : List ℕ} → isSome (holds area) ≡ true → CheckedAs (take 22 (drop 2320 area)) s r amounts places → CheckedAs (temporaryOf (decode area)) s r amounts places
 check-told s area r h c = rw (standing area h (getD area 7 0) refl .temporary) c
 
-module _ (s area : List ℕ) (h : isSome (holds area) ≡ true) (r : Checked) (c : CheckedAs (temporaryOf (decode area)) s r) where
-  pub checked-refused : (out : List ℕ) (k : ℕ) → r ≡ Refused k → Answers (cardMessage s area out) k 0 (pos 0) area out
-  checked-refused out k e =
-      message-input s area out (decode area) (held-decode area h) k (sym (refused-told _ s r c k e)) (ne-eqb k 0 (λ z. omega (arith, refused-some _ s r c k e)))
+pub checked-refused : (s area : List ℕ) → isSome (holds area) ≡ true → (r : Checked) {amounts places : List ℕ} → CheckedAs (temporaryOf (decode area)) s r amounts places → (out : List ℕ) (k : ℕ) → r ≡ Refused k → Answers (cardMessage s area out) k 0 (pos 0) area out
+checked-refused s area h r {amounts} {places} c out k e =
+    message-input s area out (decode area) (held-decode area h) k (sym (refused-told _ s r amounts places c k e)) (ne-eqb k 0 (λ z. omega (arith, refused-some _ s r amounts places c k e)))
 
-  framed-zero : firstOf (inputStops (temporaryOf (decode area)) s) ≡ 0 → framed s ≡ true
-  unfolding inputStops
-  framed-zero z = not-false _ (passed 0 _ _ z .first)
-
-  pub transfer-zero : (p : TransferParts) → r ≡ Transfer p → firstOf (inputStops (temporaryOf (decode area)) s) ≡ 0
-  transfer-zero p e = transfer-none-holds _ s r c p e
-
-  pub order-zero : (p : OrderParts) → r ≡ Order p → firstOf (inputStops (temporaryOf (decode area)) s) ≡ 0
-  order-zero p e = order-none-holds _ s r c p e
-
-  pub zero-low : firstOf (inputStops (temporaryOf (decode area)) s) ≡ 0 → 23 ≤ length s
-  zero-low z = framed-low s _ (sym (framed-zero z)) refl
-
-  pub zero-high : firstOf (inputStops (temporaryOf (decode area)) s) ≡ 0 → length s ≤ 4096
-  zero-high z = framed-high s _ (sym (framed-zero z)) refl
+-- room for 16 details
+pub room-made : Room (replicate 16 0) (replicate 96 0)
+room-made = record { amounts-size = refl; places-size = refl }
 
 -- 10
 pub message-no-engine : (s area out : List ℕ) (t : Bool) → t ≡ isSome (holds area) → t ≡ false → Answers (cardMessage s area out) 10 0 (pos 0) area out
 message-no-engine s area out t u d = message-engine s area out (sym u ∙ d)
 
-pub ruleset sending = (held-told, measured, booking-of, added-small, summed-small, sum-room, differs-done, booked-done, sent-done, sent-state, sent-none, sent-room, sent-fits, sent-made, check-told, checked-refused, message-no-engine)
+pub ruleset sending = (held-told, measured, text-passes, judged-told, leaves-told, ready, booking-of, booked-done, sent-done, sent-state, sent-room, sent-made, state-none, text-fits, room-made, check-told, checked-refused, passed-told, message-no-engine)

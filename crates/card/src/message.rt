@@ -1,108 +1,180 @@
 // A message.
 use crate::difference::minus;
+use conditions::Booking;
 use conditions::Checked;
-use state::Booking;
+use written::Position;
 ghost use mathlib.Core.Path.{_≡_};
 ghost use mathlib.Core.Bool.{true};
 ghost use Prim.Native.Nat.{_≤_};
 ghost use lib.ListN.{length};
 ghost use Rattle.rules.specs.Text.{isSome};
-ghost use Rattle.rules.specs.Calls.{firstOf, inputStops, messageText};
+ghost use Rattle.rules.specs.Calls.{firstOf, messageText};
 ghost use Rattle.rules.specs.Area.{holds, decode, cardMessage};
-ghost use Rattle.laws.specs.Writing.{Wrote};
-ghost use Rattle.conditions.specs.Answers.{CheckedAs};
-ghost use Rattle.state.specs.Books.{Books, messageIn};
+ghost use Rattle.details.specs.Message.{messageIn};
+ghost use Rattle.details.specs.Kept.{Room, LinesIn};
+ghost use Rattle.conditions.specs.Answers.{CheckedAs, Passes};
+ghost use Rattle.conditions.specs.Books.{Books};
+ghost use Rattle.verdict.specs.Details.{VerdictsIn};
 ghost use Rattle.state.specs.Stops.{limitStops};
+ghost use Rattle.message_text.specs.Message.{Writes};
 ghost use Rattle.card.specs.Answers.{Answers};
 ghost use Rattle.card.specs.Held.{Measured};
-ghost use Rattle.card.specs.Message.{Sent, Differs, Booked, temporaryOf};
+ghost use Rattle.card.specs.Message.{Sent, Booked, Leaves, Ready, temporaryOf};
 
 // 1 to 8, with the temporary account of the engine that the area holds.
-fn check_in(message: &[u8], area: &[u8]) -> Checked
+fn check_in(message: &[u8], area: &[u8], amounts: &mut [u64; 16], places: &mut [u16; 96]) -> Checked
     requires { ⌜ isSome (holds (now area)) ≡ true ⌝ }
-    ensures { λ r. ⌜ CheckedAs (temporaryOf (decode (now (area .entry)))) (now (message .entry)) r ⌝ }
+    requires { ⌜ Room (now amounts) (now places) ⌝ }
+    ensures { λ r. ⌜ CheckedAs (temporaryOf (decode (now (area .entry)))) (now (message .entry)) r (now (amounts .exit)) (now (places .exit)) ⌝ }
 {
-    conditions::check_message(message, &area[2320..2342])
+    conditions::check_message(message, &area[2320..2342], amounts, places)
 }
 
-// What the message makes the card write.
-fn write_text(out: &mut [u8], message: &[u8], area: &[u8], b: Booking) -> usize
+// The verdicts of the message's n details, by the register of the engine that the area holds.
+fn judge_in(message: &[u8], area: &[u8], places: &[u16; 96], n: u32, verdicts: &mut [u8; 16])
     requires { ⌜ isSome (holds (now area)) ≡ true ⌝ }
-    requires { ⌜ Books (now message) b ⌝ }
-    ensures { λ r. ⌜ Wrote (messageText (decode (now (area .entry))) (messageIn (now (message .entry)))) 0 (now (out .entry)) r (now (out .exit)) ⌝ }
+    requires { ⌜ LinesIn (now message) (now places) n ⌝ }
+    requires { ⌜ length (now verdicts) ≡ 16 ⌝ }
+    ensures { λ _. ⌜ VerdictsIn (decode (now (area .entry)) .register) (now (message .entry)) (now (verdicts .exit)) n ⌝ }
 {
-    let x = engine::totals_of(area, b.bank, b.date);
-    message_text::put_message_text(out, 0, message, area, b, x)
+    let end = engine::register_end(area);
+    verdict::judge_details(&area[2320..end], message, places, n, verdicts);
 }
 
-// How many bytes that is.
-fn message_size(message: &[u8], area: &[u8], b: Booking) -> usize
-    requires { ⌜ isSome (holds (now area)) ≡ true ⌝ }
-    requires { ⌜ Books (now message) b ⌝ }
+// How many bytes the message makes the card write.
+fn message_size(
+    message: &[u8],
+    amounts: &[u64; 16],
+    places: &[u16; 96],
+    verdicts: &[u8; 16],
+    area: &[u8],
+    b: Booking,
+    p: Position,
+    parts: u32,
+) -> usize
+    requires { ⌜ Ready (now message) (now area) b p parts (now amounts) (now places) (now verdicts) ⌝ }
     ensures { λ r. ⌜ Measured (messageText (decode (now (area .entry))) (messageIn (now (message .entry)))) r ⌝ }
 {
     let mut nothing = [0u8; 0];
-    write_text(&mut nothing, message, area, b)
-}
-
-// The position's transferred minus detailed, with the message.
-fn difference_with(area: &[u8], b: Booking) -> i64
-    requires { ⌜ isSome (holds (now area)) ≡ true ⌝ }
-    requires { ⌜ b .amount ≤ 160000000000000000 ⌝ }
-    ensures { λ r. ⌜ Differs (now (area .entry)) b r ⌝ }
-{
-    let t = engine::totals_of(area, b.bank, b.date);
-    minus(
-        t.transferred + state::transferred_by(b),
-        t.detailed + state::detailed_by(b),
+    message_text::put_message_text(
+        &mut nothing,
+        0,
+        message,
+        amounts,
+        places,
+        verdicts,
+        area,
+        b,
+        p,
+        parts,
     )
 }
 
 // The message booked in the area: its reference, its position and the messages written.
-fn book_in(message: &[u8], area: &mut [u8], b: Booking)
+fn book_in(message: &[u8], area: &mut [u8], b: Booking, parts: u32)
     requires { ⌜ isSome (holds (now area)) ≡ true ⌝ }
-    requires { ⌜ Books (now message) b ⌝ }
+    requires { ⌜ Books (now message) (messageIn (now message)) b ⌝ }
     requires { ⌜ 0 ≡ firstOf (limitStops (decode (now area)) (messageIn (now message))) ⌝ }
+    requires { ⌜ Writes (decode (now area)) (messageIn (now message)) parts ⌝ }
     ensures { λ _. ⌜ Booked (now (message .entry)) (now (area .entry)) (now (area .exit)) ⌝ }
 {
-    let x = engine::totals_of(area, b.bank, b.date);
-    let n = message_text::message_writes(message, area, b, x);
+    let reference = b.reference;
     steps::book_area(
         area,
         message,
-        b.start,
-        b.end,
+        reference.start as usize,
+        reference.end as usize,
         b.bank,
         b.date,
         state::transferred_by(b),
         state::detailed_by(b),
-        n,
+        parts,
     );
 }
 
 // A message that no condition stops: its text is written, its difference told, and it is booked.
 fn accept_message(
     message: &[u8],
+    amounts: &[u64; 16],
+    places: &[u16; 96],
+    verdicts: &[u8; 16],
     b: Booking,
+    p: Position,
+    parts: u32,
     area: &mut [u8],
     output: &mut [u8],
     written: &mut usize,
     difference: &mut i64,
 )
-    requires { ⌜ isSome (holds (now area)) ≡ true ⌝ }
-    requires { ⌜ Books (now message) b ⌝ }
-    requires { ⌜ 0 ≡ firstOf (limitStops (decode (now area)) (messageIn (now message))) ⌝ }
+    requires { ⌜ Ready (now message) (now area) b p parts (now amounts) (now places) (now verdicts) ⌝ }
     requires { ⌜ length (messageText (decode (now area)) (messageIn (now message))) ≤ length (now output) ⌝ }
     ensures { λ _. ⌜ Sent (now (message .entry)) (now (area .entry)) (now (output .entry)) (now (written .exit)) (now (difference .exit)) (now (area .exit)) (now (output .exit)) ⌝ }
 {
-    *written = write_text(output, message, area, b);
-    *difference = difference_with(area, b);
-    book_in(message, area, b);
+    *written = message_text::put_message_text(
+        output,
+        0,
+        message,
+        amounts,
+        places,
+        verdicts,
+        area,
+        b,
+        p,
+        parts,
+    );
+    *difference = minus(p.transferred, p.detailed);
+    book_in(message, area, b, parts);
+}
+
+// A message that none of 1 to 15 stops; p is its position as it leaves it.
+fn send_message(
+    message: &[u8],
+    amounts: &[u64; 16],
+    places: &[u16; 96],
+    b: Booking,
+    p: Position,
+    area: &mut [u8],
+    output: &mut [u8],
+    written: &mut usize,
+    difference: &mut i64,
+) -> u32
+    requires { ⌜ isSome (holds (now area)) ≡ true ⌝ }
+    requires { ⌜ Passes (temporaryOf (decode (now area))) (now message) b (now amounts) (now places) ⌝ }
+    requires { ⌜ 0 ≡ firstOf (limitStops (decode (now area)) (messageIn (now message))) ⌝ }
+    requires { ⌜ Leaves (now area) (now message) p ⌝ }
+    ensures { λ r. ⌜ Answers (cardMessage (now (message .entry)) (now (area .entry)) (now (output .entry))) r (now (written .exit)) (now (difference .exit)) (now (area .exit)) (now (output .exit)) ⌝ }
+{
+    *written = 0;
+    *difference = 0;
+    let n = b.count as u32;
+    let mut verdicts = [0u8; 16];
+    judge_in(message, area, places, n, &mut verdicts);
+    let parts = message_text::message_writes(b, p, detail_lines::count_returned(&verdicts, n));
+    let size = message_size(message, amounts, places, &verdicts, area, b, p, parts);
+    if output.len() < size {
+        return 16;
+    }
+    accept_message(
+        message,
+        amounts,
+        places,
+        &verdicts,
+        b,
+        p,
+        parts,
+        area,
+        output,
+        written,
+        difference,
+    );
+    0
 }
 
 // A message that passed 1 to 8.
 fn book_message(
     message: &[u8],
+    amounts: &[u64; 16],
+    places: &[u16; 96],
     b: Booking,
     area: &mut [u8],
     output: &mut [u8],
@@ -110,22 +182,28 @@ fn book_message(
     difference: &mut i64,
 ) -> u32
     requires { ⌜ isSome (holds (now area)) ≡ true ⌝ }
-    requires { ⌜ Books (now message) b ⌝ }
-    requires { ⌜ firstOf (inputStops (temporaryOf (decode (now area))) (now message)) ≡ 0 ⌝ }
+    requires { ⌜ Passes (temporaryOf (decode (now area))) (now message) b (now amounts) (now places) ⌝ }
     ensures { λ r. ⌜ Answers (cardMessage (now (message .entry)) (now (area .entry)) (now (output .entry))) r (now (written .exit)) (now (difference .exit)) (now (area .exit)) (now (output .exit)) ⌝ }
 {
     *written = 0;
     *difference = 0;
-    let k = state::state_number(message, area, b);
+    let x = engine::totals_of(area, b.bank, b.date);
+    let k = state::state_number(message, area, b, x);
     if k > 0 {
         return k;
     }
-    let size = message_size(message, area, b);
-    if output.len() < size {
-        return 16;
-    }
-    accept_message(message, b, area, output, written, difference);
-    0
+    let p = message_text::position_after(b, x);
+    send_message(
+        message,
+        amounts,
+        places,
+        b,
+        p,
+        area,
+        output,
+        written,
+        difference,
+    )
 }
 
 // A message to an area that holds an engine.
@@ -139,20 +217,24 @@ fn message_engine(
     requires { ⌜ isSome (holds (now area)) ≡ true ⌝ }
     ensures { λ r. ⌜ Answers (cardMessage (now (message .entry)) (now (area .entry)) (now (output .entry))) r (now (written .exit)) (now (difference .exit)) (now (area .exit)) (now (output .exit)) ⌝ }
 {
-    match check_in(message, area) {
+    let mut amounts = [0u64; 16];
+    let mut places = [0u16; 96];
+    match check_in(message, area, &mut amounts, &mut places) {
         Checked::Refused(k) => {
             *written = 0;
             *difference = 0;
             k
         }
-        Checked::Transfer(p) => {
-            let b = state::transfer_booking(message, p);
-            book_message(message, b, area, output, written, difference)
-        }
-        Checked::Order(p) => {
-            let b = state::order_booking(message, p);
-            book_message(message, b, area, output, written, difference)
-        }
+        Checked::Passed(b) => book_message(
+            message,
+            &amounts,
+            &places,
+            b,
+            area,
+            output,
+            written,
+            difference,
+        ),
     }
 }
 

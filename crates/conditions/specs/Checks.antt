@@ -2,22 +2,24 @@
 use mathlib.Core.Path.{_≡_, refl, sym, ap, _∙_, subst}
 use mathlib.Core.Bool.{Bool, true, false, _&&_, _||_}
 use mathlib.Core.List.{List}
-use mathlib.Core.Option.{Option, none, some, Option·map}
+use mathlib.Core.Option.{Option, none, some}
 use Prim.Native.Nat.{ℕ, _≤_, _<_}
 use native.Mathlib.Omega.{arith}
 use lib.Dec.{leb}
 use lib.ListN.{length, getD, take, drop, length-take}
+use lib.Seq.{take-all}
 use borrow.Author.Tests.{leb-true}
-use Rattle.rules.specs.Text.{ascii, equal, then, twice}
+use Rattle.rules.specs.Text.{ascii, equal, number, then, twice}
 use Rattle.rules.specs.Lines.{Line, lines, inLines, opening, framed, type, sender, receiver, body}
 use Rattle.rules.specs.Forms.{rowed, orderRows}
 use Rattle.rules.specs.Engine.{slashed}
 use Rattle.rules.specs.Messages as M
-use Rattle.rules.specs.Messages.{Message, mt103, mt101, field20, firstDate, sumOf, readTransfer, readOrder, read}
+use Rattle.rules.specs.Messages.{Message, mt103, mt101, field20, detailsOf, referenceOf, dateOf, firstDate, sumOf, readTransfer, readOrder, read}
 use Rattle.rules.specs.Calls.{firstOf, addressed, inputStops}
 use Rattle.laws.specs.Parts.{cut, cut-all, from, from-take}
 use Rattle.laws.specs.Tests.{and-left, and-right, answer-is, answer-not}
 use Rattle.laws.specs.Reading.{fits-length}
+use Rattle.area.specs.Accepted.{Has, transfer-has, order-has}
 use Rattle.forms.specs.Table.{table, part}
 use Rattle.forms.specs.Spans.{spanOf, noSpan, SpanIn, within-at, within-order, held, held-line}
 use Rattle.forms.specs.Fields.{Behind, behind-in, behind-bytes}
@@ -27,21 +29,24 @@ use Rattle.forms.specs.declared.rows.Span.{Span}
 use Rattle.forms.specs.declared.rows.Rows.{Rows}
 use Rattle.forms.specs.declared.transfer.Transfer as T
 use Rattle.conditions.specs.Stops.{formStops, transferStop, transfer-stops}
-use Rattle.conditions.specs.Walk.{walked, walked-all, alike}
-use Rattle.conditions.specs.Tally.{Told, told, toldBy, TallyAt}
-use Rattle.conditions.specs.Order.{lowestAny, told-count, told-sum, told-date, told-low, orderStop, order-stops, order-few}
+use Rattle.conditions.specs.Walk.{FieldsIn, heldFrom, alike, named-twice}
+use Rattle.conditions.specs.Lowest.{lowestAny}
+use Rattle.conditions.specs.Tally.{Told, All, TallyAt, told-fields}
+use Rattle.conditions.specs.Order.{orderStop, order-stops, order-many, order-few}
+use Rattle.conditions.specs.Books.{date-six, transfer-books, order-books}
 use Rattle.conditions.specs.Answers.{Parts, Judged, CheckedAs}
+use Rattle.conditions.specs.declared.booking.Booking.{Booking}
 use Rattle.conditions.specs.declared.tally.Tally.{Tally}
 use Rattle.conditions.specs.declared.message.Checked.{Checked}
-use Rattle.conditions.specs.declared.message.Checked.the-variants.{Refused, Transfer, Order}
+use Rattle.conditions.specs.declared.message.Checked.the-variants.{Refused, Passed}
 
 -- nothing was read: 3
 unread : (temporary : List ℕ) → firstOf (formStops temporary none) ≡ 3
 unfolding formStops firstOf
 unread temporary = refl
 
-formless : (temporary s : List ℕ) (m : Option Message) → m ≡ none → Judged temporary s m (Refused 3)
-formless temporary s m e = record { number = rw e (sym (unread temporary)); parts = omega arith }
+formless : (temporary s : List ℕ) (o : Option Message) {amounts places : List ℕ} → o ≡ none → Judged temporary s o (Refused 3) amounts places
+formless temporary s o e = record { number = rw e (sym (unread temporary)); parts = omega arith }
 
 -- field 20, behind its line's first four bytes
 field-20 : (s : List ℕ) (l : List Span) (n : ℕ) (q : Span) → 0 < n → SpanIn s (getD l 0 noSpan) → Behind (getD l 0 noSpan) 4 q → spanOf s q ≡ field20 (held s l n)
@@ -49,38 +54,56 @@ field-20 s l n q h w b = rw (held-line s l n 0 h) (behind-bytes s _ 4 w q b)
 
 -- ---- an MT103
 
-module _ (s temporary : List ℕ) (t : T.Transfer) (w : TransferIn s t) where
-  pub transfer-formless : t .ok ≡ false → Judged temporary s (readTransfer s) (Refused 3)
-  transfer-formless h = formless temporary s (readTransfer s) (answer-not _ _ _ (w .same) h)
+-- r answers of an MT103, whatever is kept: it has no details
+pub record TransferChecked (temporary s : List ℕ) (r : Checked) : Type 0 where
+  pub with : (amounts places : List ℕ) → Judged temporary s (readTransfer s) r amounts places
 
-  module _ (h : t .ok ≡ true) (k : ℕ) (u : k ≡ transferStop s temporary t) where
+module _ (s temporary : List ℕ) (t : T.Transfer) (w : TransferIn s t) where
+  pub transfer-formless : t .ok ≡ false → TransferChecked temporary s (Refused 3)
+  transfer-formless h = record { with = λ amounts places. formless temporary s (readTransfer s) (answer-not _ _ _ (w .same) h) }
+
+  module _ (h : t .ok ≡ true) where
     transfer-read : readTransfer s ≡ some (mt103 (transferHeld s t))
     transfer-read = answer-is _ _ _ (w .same) h
 
-    transfer-number : k ≡ firstOf (formStops temporary (readTransfer s))
-    transfer-number = rw transfer-read (u ∙ transfer-stops s temporary t)
+    transfer-its : Has s (mt103 (transferHeld s t))
+    transfer-its = transfer-has s _ transfer-read
 
-    pub transfer-stopped : (k ≡ 0 → ⊥) → Judged temporary s (readTransfer s) (Refused k)
-    transfer-stopped z = record { number = transfer-number; parts = omega arith }
+    pub transfer-date : t .date < 1000000
+    unfolding dateOf
+    transfer-date = date-six s _ transfer-its
 
-    pub transfer-good : k ≡ 0 → (q : Span) → Behind (getD (t .spans) 0 noSpan) 4 q
-        → Judged temporary s (readTransfer s) (Transfer record { reference = q; date = t .date; amount = t .amount })
-    transfer-good z q b = record {
-      number = sym z ∙ transfer-number;
-      parts = record {
-        rows = held s (t .spans) 23;
-        same = transfer-read;
-        reference = field-20 s (t .spans) 23 q (omega arith) (within-at s (t .spans) 0 (w .within)) b;
-        within = behind-in s _ 4 (within-at s (t .spans) 0 (w .within)) q b;
-        small = w .small;
-      };
-    }
+    module _ (k : ℕ) (u : k ≡ transferStop s temporary t) where
+      transfer-number : k ≡ firstOf (formStops temporary (readTransfer s))
+      transfer-number = rw transfer-read (u ∙ transfer-stops s temporary t)
+
+      pub transfer-stopped : (k ≡ 0 → ⊥) → TransferChecked temporary s (Refused k)
+      transfer-stopped z = record { with = λ amounts places. record { number = transfer-number; parts = omega arith } }
+
+      pub transfer-good : k ≡ 0 → (q : Span) → Behind (getD (t .spans) 0 noSpan) 4 q → (b : Booking)
+          → b ≡ record { transfer = true; bank = number (cut s 4 12); date = t .date; amount = t .amount; reference = q; count = 0 } → TransferChecked temporary s (Passed b)
+      unfolding referenceOf detailsOf
+      transfer-good z q d b e =
+          let f : SpanIn s (getD (t .spans) 0 noSpan) = within-at s (t .spans) 0 (w .within) in record {
+            with = λ amounts places. record {
+              number = sym z ∙ transfer-number;
+              parts = record {
+                message = mt103 (transferHeld s t);
+                same = transfer-read;
+                books = rw e (transfer-books s (transferHeld s t) transfer-its q (behind-in s _ 4 f q d) (field-20 s (t .spans) 23 q (omega arith) f d) (w .small));
+                count = rw e;
+                few = rw e (omega arith);
+                amounts-are = λ i l. absurd (let n : i < 0 = rw e at l in omega arith);
+                lines-are = λ i l. absurd (let n : i < 0 = rw e at l in omega arith);
+              };
+            };
+          }
 
 -- ---- an MT101
 
 -- r answers of an MT101, whatever the temporary account is
-pub record OrderJudged (s : List ℕ) (r : Checked) : Type 0 where
-  pub with : (temporary : List ℕ) → Judged temporary s (readOrder s) r
+pub record OrderChecked (s : List ℕ) (r : Checked) (amounts places : List ℕ) : Type 0 where
+  pub with : (temporary : List ℕ) → Judged temporary s (readOrder s) r amounts places
 
 order-rows : part 0 1 ≡ orderRows
 unfolding part table
@@ -90,99 +113,81 @@ body-from : (s : List ℕ) → from s 23 ≡ body s
 unfolding from body
 body-from s = refl
 
--- what f makes y of
-record Made {A B : Type 0} (f : A → B) (o : Option A) (y : B) : Type 0 where
-  value : A
-  is : o ≡ some value
-  gives : f value ≡ y
-
-made : {A B : Type 0} (f : A → B) (o : Option A) (y : B) → some y ≡ Option·map f o → Made f o y
-made f none y e = absurd (let z : _≡_ {A = ℕ} 0 1 = cc in omega arith)
-made f (some a) y e = record { value = a; is = refl; gives = cc }
-
-unmade : {A B : Type 0} (f : A → B) (o : Option A) → none ≡ Option·map f o → o ≡ none
-unmade f none e = refl
-unmade f (some a) e = absurd (let z : _≡_ {A = ℕ} 0 1 = cc in omega arith)
-
--- the conditions as the tally and the walk tell them
-all-stops : (temporary bank s : List ℕ) (first : ℕ) (rows : List Line) (ds : List M.Detail) (n low : ℕ) (b : Bool)
-    → M.details 4096 (from s first) ≡ some ds → n ≡ length ds → low ≡ lowestAny bank (firstDate ds) ds → b ≡ slashed (field20 rows)
-    → orderStop n b low (twice alike (walked n (from s first))) ≡ firstOf (formStops temporary (some (mt101 record { sender = bank; rows = rows; details = ds })))
-all-stops temporary bank s first rows ds n low b r e f g = rw (e, f, g, walked-all 4096 (from s first) ds r) (order-stops temporary bank rows ds)
+-- the conditions as the tally tells them
+all-stops : (temporary bank : List ℕ) (rows : List Line) (ds : List M.Detail) (n low : ℕ) (b t : Bool) → n ≡ length ds → low ≡ lowestAny bank (firstDate ds) ds → b ≡ slashed (field20 rows) → (length ds ≤ 16 → t ≡ twice alike ds)
+    → orderStop n b low t ≡ firstOf (formStops temporary (some (mt101 record { sender = bank; rows = rows; details = ds })))
+all-stops temporary bank rows ds n low b t e f g h = rw (e, f, g) (order-many (length ds) (slashed (field20 rows)) (lowestAny bank (firstDate ds) ds) t (twice alike ds) h ∙ order-stops temporary bank rows ds)
 
 module _ (s : List ℕ) (rows : Rows) (w : RowsAt s 23 0 1 rows) where
-  pub order-rowless : rows .ok ≡ false → OrderJudged s (Refused 3)
+  pub order-rowless : {amounts places : List ℕ} → rows .ok ≡ false → OrderChecked s (Refused 3) amounts places
   unfolding readOrder
   order-rowless h = let e : none ≡ rowed orderRows (body s) = rw (h, order-rows, body-from) at (w .same) in record { with = λ u. formless u s (readOrder s) (rw (← e)) }
 
   -- the message of some details
-  abbrev order : List M.Detail → Message
-  order ds = mt101 record { sender = sender s; rows = held s (rows .spans) 1; details = ds }
+  abbrev order : List M.Detail → M.Order
+  order ds = record { sender = sender s; rows = held s (rows .spans) 1; details = ds }
 
-  module _ (h : rows .ok ≡ true) (t : Tally) (v : TallyAt s (rows .next) t) where
-    order-read : readOrder s ≡ then (M.details 4096 (from s (rows .next))) (λ ds. some (order ds))
+  module _ (h : rows .ok ≡ true) (t : Tally) {amounts places fields : List ℕ} (v : TallyAt s (rows .next) t amounts places fields) where
+    order-read : readOrder s ≡ then (M.details 4096 (from s (rows .next))) (λ ds. some (mt101 (order ds)))
     unfolding readOrder
     order-read =
         let e : some record { rows = held s (rows .spans) 1; others = from s (rows .next) } ≡ rowed orderRows (body s) = rw (h, order-rows, body-from) at (w .same) in
         rw (← e)
 
-    pub order-formless : t .ok ≡ false → OrderJudged s (Refused 3)
-    order-formless k =
-        let e : M.details 4096 (from s (rows .next)) ≡ none = unmade (told (sender s) 0 0 0 9) _ (rw k at (v .same)) in
-        record { with = λ u. formless u s (readOrder s) (order-read ∙ (rw e)) }
+    pub order-formless : t .ok ≡ false → OrderChecked s (Refused 3) amounts places
+    order-formless k = record { with = λ u. formless u s (readOrder s) (order-read ∙ (rw (v .none-there k))) }
 
     module _ (k : t .ok ≡ true) where
-      all : Made (told (sender s) 0 0 0 9) (M.details 4096 (from s (rows .next))) (toldBy t)
-      all = made (told (sender s) 0 0 0 9) _ (toldBy t) (rw k at (v .same))
+      abbrev all : All s (rows .next) t amounts places fields
+      all = v .all-there k
 
-      abbrev ds : List M.Detail
-      ds = all .value
+      abbrev its : Told s (all .all) t amounts places fields
+      its = all .told
 
-      counted : t .count ≡ length ds
-      counted = sym (ap (λ (y : Told). y .count) (all .gives)) ∙ told-count ds (sender s) 0 0 0 9 ∙ omega arith
+      pub order-fields : FieldsIn s fields (t .count)
+      order-fields = told-fields s (rows .next) t amounts places fields v k
 
-      dated : t .date ≡ firstDate ds
-      dated = sym (ap (λ (y : Told). y .date) (all .gives)) ∙ told-date ds (sender s)
+      is-order : readOrder s ≡ some (mt101 (order (all .all)))
+      is-order = order-read ∙ (rw (all .read))
 
-      lowered : t .low ≡ lowestAny (sender s) (firstDate ds) ds
-      lowered = sym (ap (λ (y : Told). y .low) (all .gives)) ∙ told-low ds (sender s)
+      order-its : Has s (mt101 (order (all .all)))
+      order-its = order-has s _ is-order
 
-      summed : t .count ≤ 16 → t .sum ≡ sumOf ds
-      summed b = sym (ap (λ (y : Told). y .sum) (all .gives)) ∙ told-sum ds (sender s) 0 0 0 9 (omega (arith, counted)) ∙ omega arith
+      pub order-date : t .date < 1000000
+      unfolding dateOf
+      order-date = rw (its .date) (date-six s _ order-its)
 
-      is-order : readOrder s ≡ some (order ds)
-      is-order = order-read ∙ (rw (all .is))
-
-      module _ (c : ℕ) (u : c ≡ orderStop (t .count) (slashed (drop 4 (spanOf s (getD (rows .spans) 0 noSpan)))) (t .low) (twice alike (walked (t .count) (from s (rows .next))))) where
+      module _ (c : ℕ) (u : c ≡ orderStop (t .count) (slashed (drop 4 (spanOf s (getD (rows .spans) 0 noSpan)))) (t .low) (twice equal (heldFrom s fields 0 (t .count)))) where
         order-number : (temporary : List ℕ) → c ≡ firstOf (formStops temporary (readOrder s))
         order-number temporary =
             u
-            ∙ all-stops temporary (sender s) s (rows .next) (held s (rows .spans) 1) ds (t .count) (t .low) (slashed (drop 4 (spanOf s (getD (rows .spans) 0 noSpan)))) (all .is) counted lowered (rw (held-line s (rows .spans) 1 0 (omega arith)))
-            ∙ ap (λ (m : Option Message). firstOf (formStops temporary m)) (sym is-order)
+            ∙ all-stops temporary (sender s) (held s (rows .spans) 1) (all .all) (t .count) (t .low) (slashed (drop 4 (spanOf s (getD (rows .spans) 0 noSpan)))) (twice equal (heldFrom s fields 0 (t .count))) (its .count) (its .low) (rw (held-line s (rows .spans) 1 0 (omega arith)))
+            (λ l. ap (λ (n : ℕ). twice equal (heldFrom s fields 0 n)) (its .count) ∙ named-twice s (all .all) fields (its .named) l)
+            ∙ ap (λ (o : Option Message). firstOf (formStops temporary o)) (sym is-order)
 
-        pub order-stopped : (c ≡ 0 → ⊥) → OrderJudged s (Refused c)
+        pub order-stopped : (c ≡ 0 → ⊥) → OrderChecked s (Refused c) amounts places
         order-stopped z = record { with = λ temporary. record { number = order-number temporary; parts = omega arith } }
 
-        pub order-good : c ≡ 0 → (q : Span) → Behind (getD (rows .spans) 0 noSpan) 4 q
-            → OrderJudged s (Order record { reference = q; first = rows .next; count = t .count; sum = t .sum; date = t .date })
-        order-good z q b =
-            let few : t .count ≤ 16 = order-few (t .count) (slashed (drop 4 (spanOf s (getD (rows .spans) 0 noSpan)))) (t .low) (twice alike (walked (t .count) (from s (rows .next)))) (sym u ∙ z) in
-            record {
+        pub order-count : c ≡ 0 → t .count ≤ 16
+        order-count z = order-few (t .count) (slashed (drop 4 (spanOf s (getD (rows .spans) 0 noSpan)))) (t .low) (twice equal (heldFrom s fields 0 (t .count))) (sym u ∙ z)
+
+        pub order-good : c ≡ 0 → (q : Span) → Behind (getD (rows .spans) 0 noSpan) 4 q → (b : Booking)
+            → b ≡ record { transfer = false; bank = number (cut s 4 12); date = t .date; amount = t .sum; reference = q; count = t .count } → OrderChecked s (Passed b) amounts places
+        unfolding referenceOf detailsOf
+        order-good z q d b e =
+            let few : t .count ≤ 16 = order-count z in
+            let f : SpanIn s (getD (rows .spans) 0 noSpan) = within-at s (rows .spans) 0 (w .within) in
+            let sum : t .sum ≡ sumOf (all .all) = its .sum ∙ ap sumOf (take-all 16 (all .all) (rw (← its .count) few)) in record {
               with = λ temporary. record {
                 number = sym z ∙ order-number temporary;
                 parts = record {
-                  rows = held s (rows .spans) 1;
-                  details = ds;
+                  message = mt101 (order (all .all));
                   same = is-order;
-                  reference = field-20 s (rows .spans) 1 q (omega arith) (within-at s (rows .spans) 0 (w .within)) b;
-                  within = behind-in s _ 4 (within-at s (rows .spans) 0 (w .within)) q b;
-                  first = w .next;
-                  read = all .is;
-                  count = counted;
-                  few = few;
-                  sum = summed few;
-                  small = omega (arith, v .bound);
-                  date = dated;
+                  books = rw e (order-books s (order (all .all)) order-its q (behind-in s _ 4 f q d) (field-20 s (rows .spans) 1 q (omega arith) f d) (its .date) sum (omega (arith, its .bound)));
+                  count = rw e (its .count);
+                  few = rw e few;
+                  amounts-are = λ i l. (let n : i < t .count = rw e at l in its .kept .amounts-are i (rw (← its .count) n) (omega arith));
+                  lines-are = λ i l. (let n : i < t .count = rw e at l in its .kept .lines-are i (rw (← its .count) n) (omega arith));
                 };
               };
             }
@@ -243,12 +248,12 @@ module _ (s : List ℕ) (b : Bool) (u : b ≡ equal (cut s 13 21) (cut (ascii "B
 -- ---- the whole message
 
 module _ (temporary s : List ℕ) (b : Bool) (u : b ≡ framed s) where
-  pub message-unframed : b ≡ false → CheckedAs temporary s (Refused 1)
+  pub message-unframed : b ≡ false → {amounts places : List ℕ} → CheckedAs temporary s (Refused 1) amounts places
   unfolding inputStops firstOf
   message-unframed h = record { number = rw (← u, h); parts = omega arith }
 
   module _ (h : b ≡ true) (c : Bool) (v : c ≡ addressed s) where
-    pub message-unaddressed : c ≡ false → CheckedAs temporary s (Refused 2)
+    pub message-unaddressed : c ≡ false → {amounts places : List ℕ} → CheckedAs temporary s (Refused 2) amounts places
     unfolding inputStops firstOf
     message-unaddressed k = record { number = rw (← u, h, ← v, k); parts = omega arith }
 
@@ -257,16 +262,19 @@ module _ (temporary s : List ℕ) (b : Bool) (u : b ≡ framed s) where
       unfolding inputStops formStops firstOf
       form-stops = rw (← u, h, ← v, k)
 
-      as-read : (r : Checked) (m : Option Message) → m ≡ read s → Judged temporary s m r → CheckedAs temporary s r
-      as-read r m e j = record { number = j .number ∙ ap (λ (x : Option Message). firstOf (formStops temporary x)) e ∙ form-stops; parts = subst (λ (x : Option Message). Parts s x r) e (j .parts) }
+      module _ (q : Bool) (w : q ≡ equal (type s) (ascii "103")) (r : Checked) {amounts places : List ℕ} where
+        as-read : (o : Option Message) → o ≡ read s → Judged temporary s o r amounts places → CheckedAs temporary s r amounts places
+        as-read o e j = record {
+          number = j .number ∙ ap (λ (x : Option Message). firstOf (formStops temporary x)) e ∙ form-stops;
+          parts = subst (λ (x : Option Message). Parts s x amounts places r) e (j .parts);
+        }
 
-      module _ (q : Bool) (w : q ≡ equal (type s) (ascii "103")) (r : Checked) where
-        pub message-transfer : q ≡ true → Judged temporary s (readTransfer s) r → CheckedAs temporary s r
+        pub message-transfer : q ≡ true → TransferChecked temporary s r → CheckedAs temporary s r amounts places
         unfolding read
-        message-transfer z j = as-read r (readTransfer s) (rw (← w, z)) j
+        message-transfer z j = as-read (readTransfer s) (rw (← w, z)) (j .with amounts places)
 
-        pub message-order : q ≡ false → OrderJudged s r → CheckedAs temporary s r
+        pub message-order : q ≡ false → OrderChecked s r amounts places → CheckedAs temporary s r amounts places
         unfolding read
-        message-order z j = as-read r (readOrder s) (rw (← w, z)) (j .with temporary)
+        message-order z j = as-read (readOrder s) (rw (← w, z)) (j .with temporary)
 
-pub ruleset checking = (within-at, within-order, transfer-formless, transfer-stopped, transfer-good, order-rowless, order-formless, order-stopped, order-good, framed-high, framed-low, type-is, addressed-not, addressed-101, addressed-103, message-unframed, message-unaddressed, message-transfer, message-order)
+pub ruleset checking = (within-at, within-order, transfer-formless, transfer-stopped, transfer-date, transfer-good, order-rowless, order-formless, order-fields, order-stopped, order-date, order-count, order-good, framed-high, framed-low, type-is, addressed-not, addressed-101, addressed-103, message-unframed, message-unaddressed, message-transfer, message-order)

@@ -1,20 +1,29 @@
--- The details of an MT101 judged one by one, and what that says of all of them.
+-- The details of an MT101 read, kept and judged one by one, and what is then told of all of them.
 use mathlib.Core.Path.{_≡_, refl, sym, ap, _∙_}
 use mathlib.Core.Bool.{Bool, true, false, cond}
-use mathlib.Core.List.{List, [], _∷_}
+use mathlib.Core.List.{List, [], _∷_, _++_, append-assoc}
 use mathlib.Core.Option.{Option, none, some, Option·map}
 use Prim.Native.Nat.{ℕ, suc, _+_, _-_, _*_, _≤_, _<_, min}
 use native.Mathlib.Omega.{arith}
 use lib.Dec.{leb, eqb}
-use borrow.Author.Tests.{le-leb, lt-leb, eq-eqb, ne-eqb}
+use lib.ListN.{length, getD, take}
+use lib.Seq.{take-all, take-append-le}
+use borrow.Author.Tests.{le-leb, lt-leb, eq-eqb, ne-eqb, leb-true, leb-false}
 use Rattle.rules.specs.Lines.{closing, sender}
 use Rattle.rules.specs.Messages as M
-use Rattle.rules.specs.Messages.{details}
+use Rattle.rules.specs.Messages.{details, firstDate, sumOf}
 use Rattle.laws.specs.Parts.{from}
-use Rattle.laws.specs.Tests.{answer-is, answer-not}
+use Rattle.laws.specs.Tests.{answer-is, answer-not, never}
+use Rattle.forms.specs.Spans.{noSpan, within-order}
+use Rattle.forms.specs.Fields.{Behind}
 use Rattle.forms.specs.Details.{detailHeld, DetailAt}
+use Rattle.forms.specs.declared.rows.Span.{Span}
 use Rattle.forms.specs.declared.detail.Detail.{Detail}
+use Rattle.details.specs.Lines.{withLine}
+use Rattle.details.specs.Kept.{Keeps, Room, Kept, kept-none, kept-full, kept-more, more-length}
 use Rattle.conditions.specs.Stops.{lowest, detailStop, detail-lowest}
+use Rattle.conditions.specs.Lowest.{lowestAny, any-none, any-last}
+use Rattle.conditions.specs.Walk.{Named, FieldsIn, named-none, named-full, named-more}
 use Rattle.conditions.specs.declared.tally.Tally.{Tally}
 
 -- ---- one more detail, n being before it
@@ -48,19 +57,7 @@ pub day-later : (n day date : ℕ) → (n ≡ 0 → ⊥) → day ≡ dayOf n day
 unfolding dayOf
 day-later n day date h = rw (ne-eqb n 0 h)
 
--- ---- all details
-
--- what is told of some details: their number, the sum, the first one's date, the lowest condition that one breaks
-pub record Told : Type 0 where
-  pub count : ℕ
-  pub sum : ℕ
-  pub date : ℕ
-  pub low : ℕ
-
--- details of a bank, n being before them
-unfoldable pub told : List ℕ → ℕ → ℕ → ℕ → ℕ → List M.Detail → Told
-told bank n sum day low [] = record { count = n; sum = sum; date = day; low = low }
-told bank n sum day low (d ∷ ds) = told bank (n + 1) (sumTo n sum (d .amount)) (dayOf n day (d .date)) (min low (lowest bank (dayOf n day (d .date)) d)) ds
+-- ---- what is told of some details
 
 -- r is the tally t with the detail d behind it
 pub record After (s : List ℕ) (t : Tally) (d : Detail) (r : Tally) : Type 0 where
@@ -71,57 +68,181 @@ pub record After (s : List ℕ) (t : Tally) (d : Detail) (r : Tally) : Type 0 wh
   pub date : r .date ≡ dayOf (t .count) (t .date) (d .date)
   pub low : r .low ≡ min (t .low) (detailStop s (r .date) d)
 
-abbrev pub toldBy : Tally → Told
-toldBy t = record { count = t .count; sum = t .sum; date = t .date; low = t .low }
+-- detail n, where it is one of the first 16, is d now; else all stays
+pub record KeepsFirst (n : ℕ) (d : Detail) (amounts places fields amounts' places' fields' : List ℕ) : Type 0 where
+  pub field : Span
+  pub behind : Behind (getD (d .spans) 0 noSpan) 4 field
+  pub keeps : n < 16 → Keeps n d amounts places amounts' places'
+  pub names : n < 16 → fields' ≡ withLine fields n field
+  pub amounts-stay : 16 ≤ n → amounts' ≡ amounts
+  pub places-stay : 16 ≤ n → places' ≡ places
+  pub fields-stay : 16 ≤ n → fields' ≡ fields
 
-abbrev pub tallyOf : Tally → Option Told
-tallyOf t = cond (t .ok) (some (toldBy t)) none
-
--- it is that of all details from `at` on
-pub record TallyAt (s : List ℕ) (at : ℕ) (t : Tally) : Type 0 where
-  pub same : tallyOf t ≡ Option·map (told (sender s) 0 0 0 9) (details 4096 (from s at))
+-- their number, the sum of the amounts of the first 16, the first one's date, the lowest condition that one breaks; they are kept
+pub record Told (s : List ℕ) (ds : List M.Detail) (t : Tally) (amounts places fields : List ℕ) : Type 0 where
+  pub count : t .count ≡ length ds
+  pub sum : t .sum ≡ sumOf (take 16 ds)
   pub bound : t .sum ≤ t .count * 10000000000000000
+  pub date : t .date ≡ firstDate ds
+  pub low : t .low ≡ lowestAny (sender s) (firstDate ds) ds
+  pub kept : Kept s ds amounts places
+  pub named : Named s ds fields
 
--- the loop: the tally so far, and what is left of the details, give the answer
-abbrev pub rest : List ℕ → Tally → ℕ → Option Told
-rest s t pos = Option·map (told (sender s) (t .count) (t .sum) (t .date) (t .low)) (details (4096 - t .count) (from s pos))
+-- one way where n is below 16, and one where it is not
+few-or-many : {A : Type 0} (n : ℕ) → (n < 16 → A) → (16 ≤ n → A) → A
+few-or-many {A} n f g = go (leb 16 n) refl
+  where
+    go : (t : Bool) → leb 16 n ≡ t → A
+    go true e = g (leb-true 16 n e)
+    go false e = f (leb-false 16 n e)
 
-pub told-more : (bank : List ℕ) (n sum day low : ℕ) (d : M.Detail) (ds : List M.Detail)
-    → told bank n sum day low (d ∷ ds) ≡ told bank (n + 1) (sumTo n sum (d .amount)) (dayOf n day (d .date)) (min low (lowest bank (dayOf n day (d .date)) d)) ds
-unfolding told
-told-more bank n sum day low d ds = refl
+pub keeps-none : {n : ℕ} {d : Detail} {amounts places fields : List ℕ} {q : Span} → 16 ≤ n → Behind (getD (d .spans) 0 noSpan) 4 q → KeepsFirst n d amounts places fields amounts places fields
+keeps-none h b = record {
+  field = _;
+  behind = b;
+  keeps = λ l. absurd (omega arith);
+  names = λ l. absurd (omega arith);
+  amounts-stay = λ l. refl;
+  places-stay = λ l. refl;
+  fields-stay = λ l. refl;
+}
 
-module _ (s : List ℕ) (t : Tally) (d : Detail) (r : Tally) (a : After s t d r) where
-  told-after : (ds : List M.Detail) → told (sender s) (r .count) (r .sum) (r .date) (r .low) ds ≡ told (sender s) (t .count) (t .sum) (t .date) (t .low) (detailHeld s d ∷ ds)
-  told-after ds = rw (a .low, detail-lowest s (r .date) d, a .date, a .count, a .sum) (sym (told-more _ _ _ _ _ (detailHeld s d) ds))
+pub keeps-one : {n : ℕ} {d : Detail} {amounts places fields amounts' places' fields' : List ℕ} {q : Span} → n < 16 → Behind (getD (d .spans) 0 noSpan) 4 q → Keeps n d amounts places amounts' places' → fields' ≡ withLine fields n q
+    → KeepsFirst n d amounts places fields amounts' places' fields'
+keeps-one h b k e = record {
+  field = _;
+  behind = b;
+  keeps = λ l. k;
+  names = λ l. e;
+  amounts-stay = λ l. absurd (omega arith);
+  places-stay = λ l. absurd (omega arith);
+  fields-stay = λ l. absurd (omega arith);
+}
 
-  map-after : (o : Option (List M.Detail))
-      → Option·map (told (sender s) (r .count) (r .sum) (r .date) (r .low)) o ≡ Option·map (told (sender s) (t .count) (t .sum) (t .date) (t .low)) (Option·map (λ ds. detailHeld s d ∷ ds) o)
-  map-after none = refl
-  map-after (some ds) = ap (λ (y : Told). some y) (told-after ds)
+-- ---- one detail more is told
 
-module _ (s : List ℕ) (t : Tally) (pos : ℕ) (x : Option Told) (inv : rest s t pos ≡ x) where
-  pub tally-out : 4096 ≤ t .count → none ≡ x
-  unfolding details
-  tally-out h = let e : 4096 - t .count ≡ 0 = omega arith in rw e at inv
+-- the sum, which stands still behind the sixteenth
+sum-last : (ds : List M.Detail) (d : M.Detail) → sumOf (ds ++ (d ∷ [])) ≡ sumOf ds + d .amount
+unfolding sumOf
+sum-last [] d = omega arith
+sum-last (e ∷ ds) d = rw (sum-last ds d) (omega arith)
 
-  module _ (h : t .count < 4096) (d : Detail) (w : DetailAt s pos d) where
-    pub tally-bad : d .ok ≡ false → none ≡ x
+sum-more : (ds : List M.Detail) (d : M.Detail) → sumTo (length ds) (sumOf (take 16 ds)) (d .amount) ≡ sumOf (take 16 (ds ++ (d ∷ [])))
+unfolding sumTo
+sum-more ds d = few-or-many (length ds)
+    (λ h. rw (lt-leb 16 (length ds) h, take-all 16 ds (omega arith), take-all 16 (ds ++ (d ∷ [])) (rw (more-length ds d) (omega arith))) (sym (sum-last ds d)))
+    (λ h. rw (le-leb 16 (length ds) h, take-append-le 16 ds (d ∷ []) h))
+
+date-more : (ds : List M.Detail) (d : M.Detail) → dayOf (length ds) (firstDate ds) (d .date) ≡ firstDate (ds ++ (d ∷ []))
+unfolding dayOf firstDate
+date-more [] d = refl
+date-more (e ∷ ds) d = rw (ne-eqb (suc (length ds)) 0 (λ z. omega arith))
+
+-- the date of the first does not matter to none
+low-more : (bank : List ℕ) (ds : List M.Detail) (d : M.Detail) → min (lowestAny bank (firstDate ds) ds) (lowest bank (firstDate (ds ++ (d ∷ []))) d) ≡ lowestAny bank (firstDate (ds ++ (d ∷ []))) (ds ++ (d ∷ []))
+unfolding firstDate
+low-more bank [] d = rw (any-last bank (d .date) [] d, any-none bank 0, any-none bank (d .date))
+low-more bank (e ∷ ds) d = sym (any-last bank (e .date) (e ∷ ds) d)
+
+pub told-none : (s : List ℕ) {t : Tally} {amounts places fields : List ℕ} → t .count ≡ 0 → t .sum ≡ 0 → t .date ≡ 0 → t .low ≡ 9 → Room amounts places → length fields ≡ 32 → Told s [] t amounts places fields
+unfolding sumOf firstDate
+told-none s a b c d e f = record { count = a; sum = b; bound = omega (arith, b); date = c; low = rw (any-none) d; kept = kept-none s e; named = named-none s f }
+
+module _ (s : List ℕ) (ds : List M.Detail) (t : Tally) {amounts places fields : List ℕ} (o : Told s ds t amounts places fields) {at : ℕ} (d : Detail) (w : DetailAt s at d) {amounts' places' fields' : List ℕ}
+    (c : KeepsFirst (t .count) d amounts places fields amounts' places' fields') (r : Tally) (a : After s t d r) where
+  dated : r .date ≡ firstDate (ds ++ (detailHeld s d ∷ []))
+  dated = a .date ∙ rw (o .count, o .date) (date-more ds (detailHeld s d))
+
+  pub told-more : Told s (ds ++ (detailHeld s d ∷ [])) r amounts' places' fields'
+  told-more = record {
+    count = a .count ∙ (rw (o .count) (sym (more-length ds (detailHeld s d))));
+    sum = a .sum ∙ rw (o .count, o .sum) (sum-more ds (detailHeld s d));
+    bound = a .bound;
+    date = dated;
+    low = a .low ∙ rw (detail-lowest s (r .date) d, o .low, dated) (low-more (sender s) ds (detailHeld s d));
+    kept = few-or-many (length ds)
+        (λ h. kept-more s ds (o .kept) h d w (rw (o .count) at (c .keeps (rw (o .count) h))))
+        (λ h. rw (c .amounts-stay (rw (o .count) h), c .places-stay (rw (o .count) h)) (kept-full s ds (o .kept) h (detailHeld s d)));
+    named = few-or-many (length ds)
+        (λ h. named-more s ds (o .named) h d w (c .behind) (rw (o .count) at (c .names (rw (o .count) h))))
+        (λ h. rw (c .fields-stay (rw (o .count) h)) (named-full s ds (o .named) h (detailHeld s d)));
+  }
+
+-- ---- the walk over all details
+
+-- some are told, the sum of their amounts among it; with those from pos on they are all from `at` on
+pub record Walking (s : List ℕ) (at pos : ℕ) (t : Tally) (amounts places fields : List ℕ) : Type 0 where
+  pub done : List M.Detail
+  pub told : Told s done t amounts places fields
+  pub left : Option·map (λ ds. done ++ ds) (details (4096 - t .count) (from s pos)) ≡ details 4096 (from s at)
+
+-- all details from `at` on are told
+pub record All (s : List ℕ) (at : ℕ) (t : Tally) (amounts places fields : List ℕ) : Type 0 where
+  pub all : List M.Detail
+  pub read : details 4096 (from s at) ≡ some all
+  pub told : Told s all t amounts places fields
+
+pub record TallyAt (s : List ℕ) (at : ℕ) (t : Tally) (amounts places fields : List ℕ) : Type 0 where
+  pub none-there : t .ok ≡ false → details 4096 (from s at) ≡ none
+  pub all-there : t .ok ≡ true → All s at t amounts places fields
+
+map-nothing : {A : Type 0} (o : Option (List A)) → Option·map (λ ds. [] ++ ds) o ≡ o
+map-nothing none = refl
+map-nothing (some ds) = refl
+
+map-one : {A : Type 0} (xs : List A) (x : A) (o : Option (List A)) → Option·map (λ ds. xs ++ ds) (Option·map (λ ds. x ∷ ds) o) ≡ Option·map (λ ds. (xs ++ (x ∷ [])) ++ ds) o
+map-one xs x none = refl
+map-one xs x (some ds) = ap (λ (l : List _). some l) (sym (append-assoc xs (x ∷ []) ds))
+
+pub walk-start : (s : List ℕ) (at : ℕ) {t : Tally} {amounts places fields : List ℕ} → t .count ≡ 0 → t .sum ≡ 0 → t .date ≡ 0 → t .low ≡ 9 → Room amounts places → length fields ≡ 32
+    → Walking s at at t amounts places fields
+walk-start s at a b c d e f = record { done = []; told = told-none s a b c d e f; left = rw a (map-nothing (details 4096 (from s at))) }
+
+-- an answer of none, where there are none
+nothing-there : (s : List ℕ) (at : ℕ) {t : Tally} {amounts places fields : List ℕ} → t .ok ≡ false → details 4096 (from s at) ≡ none → TallyAt s at t amounts places fields
+nothing-there s at e f = record { none-there = λ _. f; all-there = λ g. never (sym e ∙ g) }
+
+module _ (s : List ℕ) (at pos : ℕ) (t : Tally) {amounts places fields : List ℕ} (m : Walking s at pos t amounts places fields) where
+  pub walk-bound : t .sum ≤ t .count * 10000000000000000
+  walk-bound = m .told .bound
+
+  module _ {x : Tally} (n : x .ok ≡ false) {amounts' places' fields' : List ℕ} where
+    pub walk-out : 4096 ≤ t .count → TallyAt s at x amounts' places' fields'
     unfolding details
-    tally-bad k = let e : 4096 - t .count ≡ suc (4096 - (t .count + 1)) = omega arith in rw (e, answer-not _ _ _ (w .same) k) at inv
+    walk-out h = let e : 4096 - t .count ≡ 0 = omega arith in nothing-there s at n (sym (rw e at (m .left)))
 
-    module _ (k : d .ok ≡ true) (r : Tally) (a : After s t d r) (c : Bool) (u : c ≡ closing (from s (d .next))) where
-      pub tally-last : c ≡ true → tallyOf r ≡ x
-      unfolding details told
-      tally-last f =
-          let e : 4096 - t .count ≡ suc (4096 - (t .count + 1)) = omega arith in
-          rw (a .ok) (ap (λ (y : Told). some y) (told-after s t d r a []) ∙ (rw (e, answer-is _ _ _ (w .same) k, ← u, f) at inv))
+    pub walk-bad : t .count < 4096 → (d : Detail) → DetailAt s pos d → d .ok ≡ false → TallyAt s at x amounts' places' fields'
+    unfolding details
+    walk-bad h d w k = let e : 4096 - t .count ≡ suc (4096 - (t .count + 1)) = omega arith in nothing-there s at n (sym (rw (e, answer-not _ _ _ (w .same) k) at (m .left)))
 
-      pub tally-more : c ≡ false → rest s r (d .next) ≡ x
-      unfolding details
-      tally-more f =
-          let e : 4096 - t .count ≡ suc (4096 - (t .count + 1)) = omega arith in
+  module _ (h : t .count < 4096) (d : Detail) (w : DetailAt s pos d) (k : d .ok ≡ true) {amounts' places' fields' : List ℕ} (c : KeepsFirst (t .count) d amounts places fields amounts' places' fields')
+      (r : Tally) (a : After s t d r) (b : Bool) (u : b ≡ closing (from s (d .next))) where
+    next : 4096 - t .count ≡ suc (4096 - (t .count + 1))
+    next = omega arith
+
+    pub walk-last : b ≡ true → TallyAt s at r amounts' places' fields'
+    unfolding details
+    walk-last f = record {
+      none-there = λ g. never (sym g ∙ a .ok);
+      all-there = λ g. record {
+        all = m .done ++ (detailHeld s d ∷ []);
+        read = sym (rw (next, answer-is _ _ _ (w .same) k, ← u, f) at (m .left));
+        told = told-more s (m .done) t (m .told) d w c r a;
+      };
+    }
+
+    pub walk-on : b ≡ false → Walking s at (d .next) r amounts' places' fields'
+    unfolding details
+    walk-on f = record {
+      done = m .done ++ (detailHeld s d ∷ []);
+      told = told-more s (m .done) t (m .told) d w c r a;
+      left =
           let g : 4096 - r .count ≡ 4096 - (t .count + 1) = omega (arith, a .count) in
-          rw g (map-after s t d r a (details (4096 - (t .count + 1)) (from s (d .next))) ∙ (rw (e, answer-is _ _ _ (w .same) k, ← u, f) at inv))
+          rw g (sym (map-one (m .done) (detailHeld s d) (details (4096 - (t .count + 1)) (from s (d .next)))) ∙ (rw (next, answer-is _ _ _ (w .same) k, ← u, f) at (m .left)));
+    }
 
-pub ruleset tallying = (raised-more, raised-kept, day-first, day-later, tally-out, tally-bad, tally-last, tally-more)
+-- the places of the fields 21, where all are told
+pub told-fields : (s : List ℕ) (at : ℕ) (t : Tally) (amounts places fields : List ℕ) → TallyAt s at t amounts places fields → t .ok ≡ true → FieldsIn s fields (t .count)
+told-fields s at t amounts places fields w h = let o : All s at t amounts places fields = w .all-there h in record { inside = λ i l m. o .told .named .inside i (rw (← o .told .count) l) m }
+
+pub ruleset tallying = (within-order, raised-more, raised-kept, day-first, day-later, keeps-none, keeps-one, walk-start, walk-bound, walk-out, walk-bad, walk-last, walk-on)

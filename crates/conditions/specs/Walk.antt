@@ -1,119 +1,89 @@
--- The details of a text, walked one behind the other, the places of their fields 21, and which of these are the same.
+-- The fields 21 of details, by their places, and which of them are the same. What is left of a walk over them gives the answer.
 use mathlib.Core.Path.{_≡_, refl, sym, ap, _∙_}
-use mathlib.Core.Bool.{Bool, true, false, cond}
-use mathlib.Core.List.{List, [], _∷_, _++_, map, append-assoc, append-nil}
-use mathlib.Core.Option.{Option, none, some, Option·map}
+use mathlib.Core.Bool.{Bool, true, false}
+use mathlib.Core.List.{List, [], _∷_, _++_, map}
 use Prim.Native.Nat.{ℕ, zero, suc, _+_, _-_, _≤_, _<_}
-use native.Mathlib.Nat.{sub-zero}
+use native.Mathlib.Nat.{sub-zero, add-zero, zero-add}
 use native.Mathlib.Omega.{arith}
-use native.Mathlib.Numerals.{add-one}
-use lib.ListN.{length, getD, take, drop, set, replicate, length-set, length-map, drop-of-length-le}
-use lib.Seq.{drop-cons, length-take-le}
-use Rattle.rules.specs.Text.{equal, then, any, twice}
-use Rattle.rules.specs.Lines.{closing}
+use lib.ListN.{length, getD}
+use Rattle.rules.specs.Text.{equal, any, twice}
 use Rattle.rules.specs.Messages as M
-use Rattle.rules.specs.Messages.{Detailed, detailed, details, field21}
-use Rattle.laws.specs.Parts.{from}
-use Rattle.laws.specs.Tests.{answer-is, answer-not}
-use Rattle.forms.specs.Spans.{spanOf, noSpan, SpanIn, Within, within-at, within-order, within-none, within-set, held, held-none, held-more, held-line}
+use Rattle.rules.specs.Messages.{field21}
+use Rattle.forms.specs.Spans.{spanOf, noSpan, SpanIn, within-at, held-line}
 use Rattle.forms.specs.Fields.{Behind, behind-in, behind-bytes}
-use Rattle.forms.specs.Details.{detailHeld, DetailAt}
+use Rattle.forms.specs.Details.{DetailAt, detailHeld}
 use Rattle.forms.specs.declared.rows.Span.{Span}
 use Rattle.forms.specs.declared.detail.Detail.{Detail}
-use Rattle.conditions.specs.declared.walk.References.{References}
+use Rattle.details.specs.Lines.{lineAt, withLine, line-length, line-set, line-other}
+use Rattle.details.specs.Message.{noDetail, detailAt}
+use Rattle.details.specs.Kept.{more-length, more-before, more-last, before-or-last}
 
--- a detail that was read, and those that are walked behind it
-abbrev onward : Option Detailed → (List ℕ → List M.Detail) → List M.Detail
-onward none f = []
-onward (some d) f = d .detail ∷ f (d .others)
+-- the first n places, 16 at most, lie within the text
+pub record FieldsIn (s fields : List ℕ) (n : ℕ) : Type 0 where
+  pub inside : (i : ℕ) → i < n → i < 16 → SpanIn s (lineAt fields i)
 
--- the details of a text, n of them at most
-unfoldable pub walked : ℕ → List ℕ → List M.Detail
-walked zero cs = []
-walked (suc n) cs = onward (detailed cs) (walked n)
+field-in : (s fields : List ℕ) (n i : ℕ) → FieldsIn s fields n → i < n → n ≤ 16 → SpanIn s (lineAt fields i)
+field-in s fields n i w h k = w .inside i h (omega arith)
+
+-- the bytes at k of the places, from place i on
+unfoldable pub heldFrom : List ℕ → List ℕ → ℕ → ℕ → List (List ℕ)
+heldFrom s fields i zero = []
+heldFrom s fields i (suc k) = spanOf s (lineAt fields i) ∷ heldFrom s fields (i + 1) k
+
+-- ---- they are the fields 21 of the first 16 details
+
+pub record Named (s : List ℕ) (ds : List M.Detail) (fields : List ℕ) : Type 0 where
+  pub size : length fields ≡ 32
+  pub inside : (i : ℕ) → i < length ds → i < 16 → SpanIn s (lineAt fields i)
+  pub bytes : (i : ℕ) → i < length ds → i < 16 → spanOf s (lineAt fields i) ≡ field21 (detailAt ds i)
+
+pub named-none : (s : List ℕ) {fields : List ℕ} → length fields ≡ 32 → Named s [] fields
+named-none s e = record { size = e; inside = λ i h k. absurd (omega arith); bytes = λ i h k. absurd (omega arith) }
+
+module _ (s : List ℕ) (ds : List M.Detail) {fields : List ℕ} (k : Named s ds fields) where
+  pub named-full : 16 ≤ length ds → (d : M.Detail) → Named s (ds ++ (d ∷ [])) fields
+  named-full h d = record {
+    size = k .size;
+    inside = λ i l m. k .inside i (omega arith) m;
+    bytes = λ i l m. rw (more-before ds d i (omega arith)) (k .bytes i (omega arith) m);
+  }
+
+  module _ {at : ℕ} (h : length ds < 16) (d : Detail) (w : DetailAt s at d) {q : Span} (b : Behind (getD (d .spans) 0 noSpan) 4 q) {fields' : List ℕ} (c : fields' ≡ withLine fields (length ds) q) where
+    own : lineAt fields' (length ds) ≡ q
+    own = rw c (line-set fields (length ds) q (omega (arith, k .size)))
+
+    other : (i : ℕ) → i < length ds → lineAt fields' i ≡ lineAt fields i
+    other i l = rw c (line-other fields (length ds) q i (λ e. omega arith))
+
+    first-in : SpanIn s (getD (d .spans) 0 noSpan)
+    first-in = within-at s (d .spans) 0 (w .within)
+
+    own-field : spanOf s q ≡ field21 (detailHeld s d)
+    own-field = rw (held-line s (d .spans) 17 0 (omega arith)) (behind-bytes s _ 4 first-in q b)
+
+    pub named-more : Named s (ds ++ (detailHeld s d ∷ [])) fields'
+    named-more = record {
+      size = rw c (line-length fields (length ds) q ∙ k .size);
+      inside = λ i l m. before-or-last i (length ds) (rw (more-length ds (detailHeld s d)) at l)
+          (λ e. rw (other i e) (k .inside i e m))
+          (λ e. rw (e, own) (behind-in s _ 4 first-in q b));
+      bytes = λ i l m. before-or-last i (length ds) (rw (more-length ds (detailHeld s d)) at l)
+          (λ e. ap (spanOf s) (other i e) ∙ k .bytes i e m ∙ ap field21 (sym (more-before ds (detailHeld s d) i e)))
+          (λ e. ap (λ (j : ℕ). spanOf s (lineAt fields' j)) e ∙ ap (spanOf s) own ∙ own-field ∙ ap field21 (sym (more-last ds (detailHeld s d) i e)));
+    }
+
+-- the places hold the fields 21
+held-fields : (s fields : List ℕ) (es : List M.Detail) (i : ℕ) → ((j : ℕ) → j < length es → spanOf s (lineAt fields (i + j)) ≡ field21 (detailAt es j)) → heldFrom s fields i (length es) ≡ map field21 es
+unfolding heldFrom
+held-fields s fields [] i f = refl
+held-fields s fields (e ∷ es) i f =
+    let first : spanOf s (lineAt fields i) ≡ field21 e = rw (add-zero i) at (f 0 (omega arith)) in
+    let more : (j : ℕ) → j < length es → spanOf s (lineAt fields (i + 1 + j)) ≡ field21 (detailAt es j) = λ j h. (let q : i + suc j ≡ i + 1 + j = omega arith in rw q at (f (suc j) (omega arith))) in
+    rw (first, held-fields s fields es (i + 1) more)
 
 -- two details with one field 21
 unfoldable pub alike : M.Detail → M.Detail → Bool
 alike d e = equal (field21 d) (field21 e)
-
--- ---- all details of an MT101 are walked
-
-pub walked-all : (k : ℕ) (cs : List ℕ) (ds : List M.Detail) → details k cs ≡ some ds → walked (length ds) cs ≡ ds
-unfolding details walked
-walked-all zero cs ds h = absurd (let z : _≡_ {A = ℕ} 0 1 = cc in omega arith)
-walked-all (suc k) cs ds h = go (detailed cs) refl (walked-all k) h
-  where
-    Behind-are : Type 0
-    Behind-are = (es : List ℕ) (fs : List M.Detail) → details k es ≡ some fs → walked (length fs) es ≡ fs
-
-    more : (d : Detailed) → detailed cs ≡ some d → Behind-are → (o : Option (List M.Detail)) → details k (d .others) ≡ o → Option·map (λ es. d .detail ∷ es) o ≡ some ds → walked (length ds) cs ≡ ds
-    more d e r none f g = absurd (let z : _≡_ {A = ℕ} 0 1 = cc in omega arith)
-    more d e r (some es) f g = let q : d .detail ∷ es ≡ ds = cc in rw (← q, e) (ap (λ (l : List M.Detail). d .detail ∷ l) (r (d .others) es f))
-
-    pick : (d : Detailed) → detailed cs ≡ some d → Behind-are → (t : Bool) → cond t (some (d .detail ∷ [])) (Option·map (λ es. d .detail ∷ es) (details k (d .others))) ≡ some ds → walked (length ds) cs ≡ ds
-    pick d e r true g = let q : d .detail ∷ [] ≡ ds = cc in rw (← q, e)
-    pick d e r false g = more d e r (details k (d .others)) refl g
-
-    go : (o : Option Detailed) → detailed cs ≡ o → Behind-are
-        → then o (λ d. cond (closing (d .others)) (some (d .detail ∷ [])) (Option·map (λ es. d .detail ∷ es) (details k (d .others)))) ≡ some ds → walked (length ds) cs ≡ ds
-    go none e r g = absurd (let z : _≡_ {A = ℕ} 0 1 = cc in omega arith)
-    go (some d) e r g = pick d e r (closing (d .others)) g
-
--- the field 21 of a detail that was read
-field-held : (s : List ℕ) (d : Detail) (q : Span) → SpanIn s (getD (d .spans) 0 noSpan) → Behind (getD (d .spans) 0 noSpan) 4 q → spanOf s q ≡ field21 (detailHeld s d)
-field-held s d q w b = rw (held-line s (d .spans) 17 0 (omega arith)) (behind-bytes s _ 4 w q b)
-
--- ---- the fields 21 by their places
-
--- at most 16 places within the text
-pub record Kept (s : List ℕ) (r : References) : Type 0 where
-  pub inside : Within s (r .spans)
-  pub size : length (r .spans) ≡ 16
-  pub few : r .count ≤ 16
-
--- the references that the places hold are those of the details
-pub record Collected (s : List ℕ) (at n : ℕ) (r : References) : Type 0 where
-  pub kept : Kept s r
-  pub same : held s (r .spans) (r .count) ≡ map field21 (walked n (from s at))
-
--- i of them are collected, and the details from pos on are left
-pub record Collecting (s : List ℕ) (at n pos i : ℕ) (spans : List Span) : Type 0 where
-  pub within : pos ≤ length s
-  pub order : i ≤ n
-  pub size : length spans ≡ 16
-  pub inside : Within s spans
-  pub left : held s spans i ++ map field21 (walked (n - i) (from s pos)) ≡ map field21 (walked n (from s at))
-
-pub collect-start : (s : List ℕ) (at n : ℕ) → at ≤ length s → Collecting s at n at 0 (replicate 16 noSpan)
-collect-start s at n h = record { within = h; order = omega arith; size = refl; inside = within-none s 16; left = rw (held-none, sub-zero n) refl }
-
-module _ (s : List ℕ) (at n pos i : ℕ) (spans : List Span) (m : Collecting s at n pos i spans) where
-  pub collect-end : n ≤ 16 → n ≤ i → Collected s at n (record { spans = spans; count = i })
-  unfolding walked
-  collect-end f h = let e : n - i ≡ 0 = omega arith in record { kept = record { inside = m .inside; size = m .size; few = omega (arith, m .order) }; same = sym (append-nil _) ∙ (rw e at (m .left)) }
-
-  module _ (h : i < n) (d : Detail) (w : DetailAt s pos d) where
-    next : n - i ≡ suc (n - (i + 1))
-    next = omega arith
-
-    pub collect-not : n ≤ 16 → d .ok ≡ false → Collected s at n (record { spans = spans; count = i })
-    unfolding walked
-    collect-not f k = record { kept = record { inside = m .inside; size = m .size; few = omega arith }; same = sym (append-nil _) ∙ (rw (next, answer-not _ _ _ (w .same) k) at (m .left)) }
-
-    pub collect-on : n ≤ 16 → d .ok ≡ true → (q : Span) → Behind (getD (d .spans) 0 noSpan) 4 q → Collecting s at n (d .next) (i + 1) (set spans i q)
-    unfolding walked
-    collect-on f k q b =
-        let g : SpanIn s (getD (d .spans) 0 noSpan) = within-at s (d .spans) 0 (w .within) in record {
-          within = w .next;
-          order = omega arith;
-          size = length-set spans i q ∙ m .size;
-          inside = within-set s spans i q (m .inside) (behind-in s _ 4 g q b);
-          left =
-              rw (held-more s spans i q (rw (m .size) (omega arith)), append-assoc, field-held s d q g b)
-              (rw (next, answer-is _ _ _ (w .same) k) at (m .left));
-        }
-
--- ---- two of them alike
 
 twice-map : (ds : List M.Detail) → twice alike ds ≡ twice equal (map field21 ds)
 unfolding twice any alike
@@ -124,56 +94,60 @@ twice-map (d ∷ ds) = rw (any-map d ds, twice-map ds) refl
     any-map d [] = refl
     any-map d (e ∷ es) = rw (any-map d es) refl
 
-pub collected-twice : (s : List ℕ) (at n : ℕ) (r : References) → Collected s at n r → {t : Bool} → t ≡ twice equal (held s (r .spans) (r .count)) → t ≡ twice alike (walked n (from s at))
-collected-twice s at n r c e = e ∙ rw (c .same, ← twice-map) refl
+-- so that two of them are the same where two details have one field 21
+pub named-twice : (s : List ℕ) (ds : List M.Detail) (fields : List ℕ) → Named s ds fields → length ds ≤ 16 → twice equal (heldFrom s fields 0 (length ds)) ≡ twice alike ds
+named-twice s ds fields k h =
+    rw (held-fields s fields ds 0 (λ j l. rw (zero-add j) (k .bytes j l (omega arith)))) (sym (twice-map ds))
 
-held-length : (s : List ℕ) (l : List Span) (n : ℕ) → n ≤ length l → length (held s l n) ≡ n
-unfolding held
-held-length s l n h = length-map (take n l) (spanOf s) ∙ length-take-le n l h
+-- ---- two of them the same: j of n are passed
 
--- the reference j and those behind it
-held-drop : (s : List ℕ) (l : List Span) (n j : ℕ) → n ≤ length l → j < n → drop j (held s l n) ≡ spanOf s (getD l j noSpan) ∷ drop (j + 1) (held s l n)
-held-drop s l n j f h = rw add-one (drop-cons (held s l n) j [] (rw (held-length s l n f) h) ∙ rw (held-line s l n j h) refl)
+pub twice-start : (s fields : List ℕ) (n : ℕ) → twice equal (heldFrom s fields 0 (n - 0)) ≡ twice equal (heldFrom s fields 0 n)
+twice-start s fields n = rw (sub-zero n)
 
-held-out : (s : List ℕ) (l : List Span) (n j : ℕ) → n ≤ length l → n ≤ j → drop j (held s l n) ≡ []
-held-out s l n j f h = drop-of-length-le (held s l n) {i = j} (rw (held-length s l n f) h)
+pub again-start : (s fields : List ℕ) (i : ℕ) (p : Span) (ls : List (List ℕ)) → p ≡ lineAt fields i → any (equal (spanOf s p)) ls ≡ any (equal (spanOf s (lineAt fields i))) ls
+again-start s fields i p ls e = ap (λ (q : Span). any (equal (spanOf s q)) ls) e
 
-pub kept-in : (s : List ℕ) (r : References) (j : ℕ) → Kept s r → SpanIn s (getD (r .spans) j noSpan)
-kept-in s r j k = within-at s (r .spans) j (k .inside)
+pub line-in : (s fields : List ℕ) (n i : ℕ) (p : Span) → FieldsIn s fields n → p ≡ lineAt fields i → i < n → n ≤ 16 → SpanIn s p
+line-in s fields n i p w e h k = rw e (field-in s fields n i w h k)
 
-pub kept-few : (s : List ℕ) (r : References) (j : ℕ) → Kept s r → j < r .count → j < length (r .spans)
-kept-few s r j k h = rw (k .size) (omega (arith, k .few))
+module _ (s fields : List ℕ) (n j : ℕ) (x : Bool) where
+  held-none : n ≤ j → heldFrom s fields j (n - j) ≡ []
+  unfolding heldFrom
+  held-none h = let e : n - j ≡ 0 = omega arith in rw e
 
-module _ (s : List ℕ) (r : References) (j : ℕ) (k : Kept s r) (x : Bool) where
-  fits : r .count ≤ length (r .spans)
-  fits = rw (k .size) (k .few)
+  held-one : j < n → heldFrom s fields j (n - j) ≡ spanOf s (lineAt fields j) ∷ heldFrom s fields (j + 1) (n - (j + 1))
+  unfolding heldFrom
+  held-one h = let e : n - j ≡ suc (n - (j + 1)) = omega arith in rw e
 
-  module _ (cs : List ℕ) (inv : any (equal cs) (drop j (held s (r .spans) (r .count))) ≡ x) where
-    pub again-out : r .count ≤ j → false ≡ x
+  module _ (cs : List ℕ) (inv : any (equal cs) (heldFrom s fields j (n - j)) ≡ x) where
+    pub again-out : n ≤ j → false ≡ x
     unfolding any
-    again-out h = rw (held-out s (r .spans) (r .count) j fits h) at inv
+    again-out h = rw (held-none h) at inv
 
-    module _ (h : j < r .count) (t : Bool) (u : t ≡ equal cs (spanOf s (getD (r .spans) j noSpan))) where
+    module _ (h : j < n) (q : Span) (e : q ≡ lineAt fields j) (t : Bool) (u : t ≡ equal cs (spanOf s q)) where
+      told : t ≡ equal cs (spanOf s (lineAt fields j))
+      told = u ∙ ap (λ (p : Span). equal cs (spanOf s p)) e
+
       pub again-hit : t ≡ true → true ≡ x
       unfolding any
-      again-hit d = rw (held-drop s (r .spans) (r .count) j fits h, ← u, d) at inv
+      again-hit d = rw (held-one h, ← told, d) at inv
 
-      pub again-on : t ≡ false → any (equal cs) (drop (j + 1) (held s (r .spans) (r .count))) ≡ x
+      pub again-on : t ≡ false → any (equal cs) (heldFrom s fields (j + 1) (n - (j + 1))) ≡ x
       unfolding any
-      again-on d = rw (held-drop s (r .spans) (r .count) j fits h, ← u, d) at inv
+      again-on d = rw (held-one h, ← told, d) at inv
 
-  module _ (inv : twice equal (drop j (held s (r .spans) (r .count))) ≡ x) where
-    pub twice-out : r .count ≤ j → false ≡ x
+  module _ (inv : twice equal (heldFrom s fields j (n - j)) ≡ x) where
+    pub twice-out : n ≤ j → false ≡ x
     unfolding twice
-    twice-out h = rw (held-out s (r .spans) (r .count) j fits h) at inv
+    twice-out h = rw (held-none h) at inv
 
-    module _ (h : j < r .count) (t : Bool) (u : t ≡ any (equal (spanOf s (getD (r .spans) j noSpan))) (drop (j + 1) (held s (r .spans) (r .count)))) where
+    module _ (h : j < n) (t : Bool) (u : t ≡ any (equal (spanOf s (lineAt fields j))) (heldFrom s fields (j + 1) (n - (j + 1)))) where
       pub twice-hit : t ≡ true → true ≡ x
       unfolding twice
-      twice-hit d = rw (held-drop s (r .spans) (r .count) j fits h, ← u, d) at inv
+      twice-hit d = rw (held-one h, ← u, d) at inv
 
-      pub twice-on : t ≡ false → twice equal (drop (j + 1) (held s (r .spans) (r .count))) ≡ x
+      pub twice-on : t ≡ false → twice equal (heldFrom s fields (j + 1) (n - (j + 1))) ≡ x
       unfolding twice
-      twice-on d = rw (held-drop s (r .spans) (r .count) j fits h, ← u, d) at inv
+      twice-on d = rw (held-one h, ← u, d) at inv
 
-pub ruleset walking = (within-at, within-order, behind-in, collect-start, collect-end, collect-not, collect-on, collected-twice, kept-in, kept-few, again-out, again-hit, again-on, twice-out, twice-hit, twice-on)
+pub ruleset walking = (line-in, again-start, twice-start, again-out, again-hit, again-on, twice-out, twice-hit, twice-on)

@@ -1,4 +1,5 @@
-// The conditions 1 to 8, "stopped by the input", of any bytes.
+// The conditions 1 to 8, "stopped by the input", of any bytes, and what booking a message that passes them needs.
+mod booking;
 mod fields;
 mod message;
 mod order;
@@ -6,7 +7,6 @@ mod stops;
 mod tally;
 mod walk;
 
+pub use booking::Booking;
 pub use message::Checked;
-pub use message::OrderParts;
-pub use message::TransferParts;
 pub use message::check_message;

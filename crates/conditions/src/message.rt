@@ -1,8 +1,10 @@
-// The check of a whole message: the number of the lowest condition of 1 to 8 that holds, or its parts.
+// The check of a whole message: the number of the lowest condition of 1 to 8 that holds, or what booking it needs.
+use crate::booking::Booking;
+use crate::booking::order_booking;
+use crate::booking::transfer_booking;
 use crate::order::order_stop;
 use crate::stops::transfer_stop;
 use crate::tally::tally_details;
-use forms::Span;
 use forms::behind;
 use forms::read_rows;
 use forms::read_transfer;
@@ -13,50 +15,29 @@ ghost use Prim.Native.Nat.{_≤_};
 ghost use lib.ListN.{length};
 ghost use Rattle.rules.specs.Text.{equal};
 ghost use Rattle.rules.specs.Lines.{type};
-ghost use Rattle.rules.specs.Messages.{readTransfer};
 ghost use Rattle.rules.specs.Calls.{addressed};
-ghost use Rattle.conditions.specs.Answers.{Judged, CheckedAs};
-ghost use Rattle.conditions.specs.Checks.{OrderJudged};
+ghost use Rattle.details.specs.Kept.{Room};
+ghost use Rattle.conditions.specs.Answers.{CheckedAs};
+ghost use Rattle.conditions.specs.Checks.{TransferChecked, OrderChecked};
 
-// An MT103's field 20, and 32A's date and amount.
-pub struct TransferParts {
-    pub reference: Span,
-    pub date: u64,
-    pub amount: u64,
-}
-
-// An MT101's field 20, where its details begin and how many there are, their sum and their centralisation date.
-pub struct OrderParts {
-    pub reference: Span,
-    pub first: usize,
-    pub count: usize,
-    pub sum: u64,
-    pub date: u64,
-}
-
-// A message refused by a number, or accepted with its parts.
+// A message refused by a number, or passed with what booking it needs.
 pub enum Checked {
     Refused(u32),
-    Transfer(TransferParts),
-    Order(OrderParts),
+    Passed(Booking),
 }
 
 // 3 to 8 of an MT103.
 fn check_transfer(s: &[u8], temporary: &[u8]) -> Checked
     requires { ⌜ 23 ≤ length (now s) ⌝ }
     requires { ⌜ length (now s) ≤ 4096 ⌝ }
-    ensures { λ r. ⌜ Judged (now (temporary .entry)) (now (s .entry)) (readTransfer (now (s .entry))) r ⌝ }
+    ensures { λ r. ⌜ TransferChecked (now (temporary .entry)) (now (s .entry)) r ⌝ }
 {
     let t = read_transfer(s);
     if t.ok {
         let k = transfer_stop(s, temporary, t);
         if k == 0 {
             let reference = behind(t.spans[0], 4);
-            return Checked::Transfer(TransferParts {
-                reference,
-                date: t.date,
-                amount: t.amount,
-            });
+            return Checked::Passed(transfer_booking(s, reference, t.date, t.amount));
         }
         return Checked::Refused(k);
     }
@@ -64,27 +45,22 @@ fn check_transfer(s: &[u8], temporary: &[u8]) -> Checked
 }
 
 // 3 to 8 of an MT101.
-fn check_order(s: &[u8]) -> Checked
+fn check_order(s: &[u8], amounts: &mut [u64; 16], places: &mut [u16; 96]) -> Checked
     requires { ⌜ 23 ≤ length (now s) ⌝ }
     requires { ⌜ length (now s) ≤ 4096 ⌝ }
-    ensures { λ r. ⌜ OrderJudged (now (s .entry)) r ⌝ }
+    requires { ⌜ Room (now amounts) (now places) ⌝ }
+    ensures { λ r. ⌜ OrderChecked (now (s .entry)) r (now (amounts .exit)) (now (places .exit)) ⌝ }
 {
     let rows = read_rows(s, 23, 0, 1);
     if rows.ok {
         let line = rows.spans[0];
-        let first = rows.next;
-        let t = tally_details(s, first);
+        let mut fields = [0u16; 32];
+        let t = tally_details(s, rows.next, amounts, places, &mut fields);
         if t.ok {
-            let k = order_stop(s, line, first, t);
+            let k = order_stop(s, line, &fields, t);
             if k == 0 {
                 let reference = behind(line, 4);
-                return Checked::Order(OrderParts {
-                    reference,
-                    first,
-                    count: t.count,
-                    sum: t.sum,
-                    date: t.date,
-                });
+                return Checked::Passed(order_booking(s, reference, t.date, t.sum, t.count));
             }
             return Checked::Refused(k);
         }
@@ -117,15 +93,21 @@ fn is_addressed(s: &[u8]) -> bool
 }
 
 // 1 to 8 of any bytes.
-pub fn check_message(s: &[u8], temporary: &[u8]) -> Checked
-    ensures { λ r. ⌜ CheckedAs (now (temporary .entry)) (now (s .entry)) r ⌝ }
+pub fn check_message(
+    s: &[u8],
+    temporary: &[u8],
+    amounts: &mut [u64; 16],
+    places: &mut [u16; 96],
+) -> Checked
+    requires { ⌜ Room (now amounts) (now places) ⌝ }
+    ensures { λ r. ⌜ CheckedAs (now (temporary .entry)) (now (s .entry)) r (now (amounts .exit)) (now (places .exit)) ⌝ }
 {
     if is_framed(s) {
         if is_addressed(s) {
             if is_type(s, b"103") {
                 return check_transfer(s, temporary);
             }
-            return check_order(s);
+            return check_order(s, amounts, places);
         }
         return Checked::Refused(2);
     }

@@ -4,21 +4,18 @@ use crate::tally::Tally;
 use crate::walk::appears_twice;
 use forms::Span;
 ghost use mathlib.Core.Path.{_≡_};
-ghost use Prim.Native.Nat.{_≤_};
-ghost use lib.ListN.{length, drop};
-ghost use Rattle.rules.specs.Text.{twice};
+ghost use lib.ListN.{drop};
+ghost use Rattle.rules.specs.Text.{equal, twice};
 ghost use Rattle.rules.specs.Engine.{slashed};
-ghost use Rattle.laws.specs.Parts.{from};
 ghost use Rattle.forms.specs.Spans.{spanOf, SpanIn};
-ghost use Rattle.conditions.specs.Walk.{walked, alike};
+ghost use Rattle.conditions.specs.Walk.{FieldsIn, heldFrom};
 ghost use Rattle.conditions.specs.Order.{orderStop};
 
-// The lowest condition of 4 to 8 that holds, 0 where none does; p is field 20's line, first where the details begin, t their tally.
-pub fn order_stop(s: &[u8], p: Span, first: usize, t: Tally) -> u32
-    requires { ⌜ first ≤ length (now s) ⌝ }
-    requires { ⌜ length (now s) ≤ 4096 ⌝ }
+// The lowest condition of 4 to 8 that holds, 0 where none does; p is field 20's line, fields the places of the fields 21, t the details' tally.
+pub fn order_stop(s: &[u8], p: Span, fields: &[u16; 32], t: Tally) -> u32
     requires { ⌜ SpanIn (now s) p ⌝ }
-    ensures { λ r. ⌜ r ≡ orderStop (t .count) (slashed (drop 4 (spanOf (now (s .entry)) p))) (t .low) (twice alike (walked (t .count) (from (now (s .entry)) first))) ⌝ }
+    requires { ⌜ FieldsIn (now s) (now fields) (t .count) ⌝ }
+    ensures { λ r. ⌜ r ≡ orderStop (t .count) (slashed (drop 4 (spanOf (now (s .entry)) p))) (t .low) (twice equal (heldFrom (now (s .entry)) (now (fields .entry)) 0 (t .count))) ⌝ }
 {
     if 16 < t.count {
         return 4;
@@ -29,7 +26,7 @@ pub fn order_stop(s: &[u8], p: Span, first: usize, t: Tally) -> u32
     if t.low == 5 {
         return 5;
     }
-    if appears_twice(s, first, t.count) {
+    if appears_twice(s, fields, t.count) {
         return 5;
     }
     if t.low == 9 {

@@ -1,25 +1,29 @@
-// The details of an MT101, judged one by one up to the closing line.
+// The details of an MT101, read, kept and judged one by one up to the closing line.
 use crate::stops::detail_stop;
+use details::keep;
+use details::set_line;
 use forms::Detail;
+use forms::behind;
 use forms::read_detail;
 use lines::closes_at;
 ghost use mathlib.Core.Path.{_≡_};
 ghost use Prim.Native.Nat.{_*_, _<_, _≤_, min};
-ghost use lib.ListN.{length};
-ghost use Rattle.forms.specs.Spans.{Within};
-ghost use Rattle.conditions.specs.Tally.{Raised, dayOf, After, TallyAt};
+ghost use lib.ListN.{length, getD};
+ghost use Rattle.forms.specs.Spans.{noSpan, Within};
+ghost use Rattle.details.specs.Kept.{Room};
+ghost use Rattle.conditions.specs.Tally.{Raised, dayOf, After, KeepsFirst, TallyAt};
 
 // How many details there are, the sum of the first 16, the first one's date, and the lowest of 5 to 8 that one of them breaks, or 9.
 pub struct Tally {
     pub ok: bool,
-    pub count: usize,
+    pub count: u32,
     pub sum: u64,
     pub date: u64,
     pub low: u32,
 }
 
 // The sum with the amount of one more detail, n being before it: there are not to be more than 16.
-fn raised(n: usize, sum: u64, amount: u64) -> u64
+fn raised(n: u32, sum: u64, amount: u64) -> u64
     requires { ⌜ sum ≤ n * 10000000000000000 ⌝ }
     requires { ⌜ amount < 10000000000000000 ⌝ }
     ensures { λ r. ⌜ Raised n sum amount r ⌝ }
@@ -31,7 +35,7 @@ fn raised(n: usize, sum: u64, amount: u64) -> u64
 }
 
 // The date of the first detail, n being before this one.
-fn day_of(n: usize, day: u64, date: u64) -> u64
+fn day_of(n: u32, day: u64, date: u64) -> u64
     ensures { λ r. ⌜ r ≡ dayOf n day date ⌝ }
 {
     if n == 0 {
@@ -61,20 +65,48 @@ fn after(s: &[u8], t: Tally, d: Detail) -> Tally
     let date = day_of(t.count, t.date, d.date);
     let sum = raised(t.count, t.sum, d.amount);
     let low = least(t.low, detail_stop(s, d, date));
+    let count = t.count + 1;
     Tally {
         ok: true,
-        count: t.count + 1,
+        count,
         sum,
         date,
         low,
     }
 }
 
-// The tally of all details from `at` up to the closing line.
-pub fn tally_details(s: &[u8], at: usize) -> Tally
+// The detail kept, and the place of its field 21, where it is one of the first 16; n are before it.
+fn keep_first(
+    amounts: &mut [u64; 16],
+    places: &mut [u16; 96],
+    fields: &mut [u16; 32],
+    n: u32,
+    d: Detail,
+)
+    requires { ⌜ getD (d .spans) 0 noSpan .start ≤ getD (d .spans) 0 noSpan .end ⌝ }
+    ensures { λ _. ⌜ KeepsFirst n d (now (amounts .entry)) (now (places .entry)) (now (fields .entry)) (now (amounts .exit)) (now (places .exit)) (now (fields .exit)) ⌝ }
+{
+    let field = behind(d.spans[0], 4);
+    if 16 <= n {
+        return;
+    }
+    keep(amounts, places, n, d);
+    set_line(fields, n, field);
+}
+
+// The tally of all details from `at` up to the closing line, the first 16 kept.
+pub fn tally_details(
+    s: &[u8],
+    at: usize,
+    amounts: &mut [u64; 16],
+    places: &mut [u16; 96],
+    fields: &mut [u16; 32],
+) -> Tally
     requires { ⌜ at ≤ length (now s) ⌝ }
     requires { ⌜ length (now s) ≤ 4096 ⌝ }
-    ensures { λ r. ⌜ TallyAt (now (s .entry)) at r ⌝ }
+    requires { ⌜ Room (now amounts) (now places) ⌝ }
+    requires { ⌜ length (now fields) ≡ 32 ⌝ }
+    ensures { λ r. ⌜ TallyAt (now (s .entry)) at r (now (amounts .exit)) (now (places .exit)) (now (fields .exit)) ⌝ }
 {
     let none = Tally {
         ok: false,
@@ -88,6 +120,7 @@ pub fn tally_details(s: &[u8], at: usize) -> Tally
     while t.count < 4096 {
         let d = read_detail(s, pos);
         if d.ok {
+            keep_first(amounts, places, fields, t.count, d);
             t = after(s, t, d);
             pos = d.next;
             if closes_at(s, pos) {

@@ -1,15 +1,13 @@
-// The details of an MT101, walked one behind the other: 5, one field 21 twice.
+// The fields 21 of the details, by their places: 5, one field 21 twice.
+use details::line_at;
 use forms::Span;
-use forms::behind;
-use forms::read_detail;
 use references::same_parts;
 ghost use mathlib.Core.Path.{_≡_};
-ghost use Prim.Native.Nat.{_+_, _<_, _≤_};
-ghost use lib.ListN.{length, getD, drop};
+ghost use Prim.Native.Nat.{_+_, _-_, _<_, _≤_};
 ghost use Rattle.rules.specs.Text.{equal, any, twice};
-ghost use Rattle.laws.specs.Parts.{from};
-ghost use Rattle.forms.specs.Spans.{spanOf, noSpan, SpanIn, held};
-ghost use Rattle.conditions.specs.Walk.{walked, alike, Kept, Collected};
+ghost use Rattle.forms.specs.Spans.{spanOf, SpanIn};
+ghost use Rattle.details.specs.Lines.{lineAt};
+ghost use Rattle.conditions.specs.Walk.{FieldsIn, heldFrom};
 
 // Have the two parts the same bytes?
 fn same_spans(s: &[u8], p: Span, q: Span) -> bool
@@ -27,45 +25,17 @@ fn same_spans(s: &[u8], p: Span, q: Span) -> bool
     )
 }
 
-// The places of the fields 21 of details, and how many there are.
-pub struct References {
-    pub spans: [Span; 16],
-    pub count: usize,
-}
-
-// Those of the n details from `at` on.
-fn references_of(s: &[u8], at: usize, n: usize) -> References
-    requires { ⌜ at ≤ length (now s) ⌝ }
-    requires { ⌜ length (now s) ≤ 4096 ⌝ }
+// Has one behind field i, of n, its bytes?
+fn again(s: &[u8], fields: &[u16; 32], i: u32, n: u32) -> bool
+    requires { ⌜ FieldsIn (now s) (now fields) n ⌝ }
+    requires { ⌜ i < n ⌝ }
     requires { ⌜ n ≤ 16 ⌝ }
-    ensures { λ r. ⌜ Collected (now (s .entry)) at n r ⌝ }
+    ensures { λ r. ⌜ r ≡ any (equal (spanOf (now (s .entry)) (lineAt (now (fields .entry)) i))) (heldFrom (now (s .entry)) (now (fields .entry)) (i + 1) (n - (i + 1))) ⌝ }
 {
-    let mut spans = [Span { start: 0, end: 0 }; 16];
-    let mut pos = at;
-    let mut i: usize = 0;
-    while i < n {
-        let d = read_detail(s, pos);
-        if d.ok {
-            spans[i] = behind(d.spans[0], 4);
-            pos = d.next;
-            i += 1;
-        } else {
-            return References { spans, count: i };
-        }
-    }
-    References { spans, count: i }
-}
-
-// Has one behind the reference i its bytes?
-fn again(s: &[u8], r: References, i: usize) -> bool
-    requires { ⌜ Kept (now s) r ⌝ }
-    requires { ⌜ i < r .count ⌝ }
-    ensures { λ t. ⌜ t ≡ any (equal (spanOf (now (s .entry)) (getD (r .spans) i noSpan))) (drop (i + 1) (held (now (s .entry)) (r .spans) (r .count))) ⌝ }
-{
-    let p = r.spans[i];
+    let p = line_at(fields, i);
     let mut j = i + 1;
-    while j < r.count {
-        if same_spans(s, p, r.spans[j]) {
+    while j < n {
+        if same_spans(s, p, line_at(fields, j)) {
             return true;
         } else {
             j += 1;
@@ -74,28 +44,19 @@ fn again(s: &[u8], r: References, i: usize) -> bool
     false
 }
 
-// Have two of them the same bytes?
-fn one_twice(s: &[u8], r: References) -> bool
-    requires { ⌜ Kept (now s) r ⌝ }
-    ensures { λ t. ⌜ t ≡ twice equal (held (now (s .entry)) (r .spans) (r .count)) ⌝ }
+// Have two of the n fields the same bytes?
+pub fn appears_twice(s: &[u8], fields: &[u16; 32], n: u32) -> bool
+    requires { ⌜ FieldsIn (now s) (now fields) n ⌝ }
+    requires { ⌜ n ≤ 16 ⌝ }
+    ensures { λ r. ⌜ r ≡ twice equal (heldFrom (now (s .entry)) (now (fields .entry)) 0 n) ⌝ }
 {
-    let mut i: usize = 0;
-    while i < r.count {
-        if again(s, r, i) {
+    let mut i: u32 = 0;
+    while i < n {
+        if again(s, fields, i, n) {
             return true;
         } else {
             i += 1;
         }
     }
     false
-}
-
-// Have two of the n details from `at` on the same field 21?
-pub fn appears_twice(s: &[u8], at: usize, n: usize) -> bool
-    requires { ⌜ at ≤ length (now s) ⌝ }
-    requires { ⌜ length (now s) ≤ 4096 ⌝ }
-    requires { ⌜ n ≤ 16 ⌝ }
-    ensures { λ r. ⌜ r ≡ twice alike (walked n (from (now (s .entry)) at)) ⌝ }
-{
-    one_twice(s, references_of(s, at, n))
 }

@@ -1,4 +1,3 @@
-pub mod Details
 pub mod Postings
 pub mod Rows
 pub mod Returned

@@ -1,61 +1,29 @@
 -- The posting lines of a message's details, each by its verdict. Assumes nothing.
 use mathlib.Core.Path.{_≡_, refl, sym, ap, _∙_}
-use mathlib.Core.Bool.{Bool, true, false, not, cond}
+use mathlib.Core.Bool.{true}
 use mathlib.Core.List.{List, [], _++_}
-use mathlib.Core.Option.{Option, none, some}
 use Prim.Native.Nat.{ℕ, _+_, _-_, _≤_, _<_}
 use native.Mathlib.Omega.{arith}
 use lib.ListN.{length, take, drop}
 use Rattle.rules.specs.Text.{isSome}
-use Rattle.rules.specs.Accounts.{control}
 use Rattle.rules.specs.Messages.{Detail, account59}
 use Rattle.rules.specs.Register.{Register, register, registerOf}
 use Rattle.rules.specs.Verdict as paper
-use Rattle.rules.specs.Verdict.{credited, returned, wrongShape, wrongControl, outOfBounds, found, accountAt, shaped, inBounds, judged, verdict}
+use Rattle.rules.specs.Verdict.{credited, returned, verdict}
 use Rattle.rules.specs.Written.{Book, toAccount, toBank}
 use Rattle.rules.specs.Calls.{detailPosting, detailPostings}
 use Rattle.laws.specs.Parts.{cut, from, from-take}
 use Rattle.laws.specs.Writing.{Wrote, Left, left-turn, left-none, left-length}
 use Rattle.register.specs.Passed.{temporary-at, iban-at, LinePlace}
-use Rattle.verdict.specs.Answers.{verdictOf}
-use Rattle.verdict.specs.Judging.{found-below}
-use Rattle.verdict.specs.Details.{JudgedAt}
+use Rattle.details.specs.Message.{detailsIn, detailAt}
+use Rattle.details.specs.Kept.{LinesIn, AmountsIn, kept-next, kept-end}
+use Rattle.verdict.specs.Answers.{verdictOf, judgedIn, Listed, listed, listed-line}
+use Rattle.verdict.specs.Details.{VerdictsIn, JudgedAs, judged-as}
 use Rattle.verdict.specs.declared.Verdict.{Verdict}
 use Rattle.verdict.specs.declared.Verdict.the-variants.{Credited, Returned}
 use Rattle.verdict.specs.declared.detail.Judged as J
 use Rattle.written.specs.Values.{bookOf}
 use Rattle.written.specs.declared.Book as W
-use Rattle.conditions.specs.Walk.{walked}
-use Rattle.detail_lines.specs.Details.{walked-next, walked-stop, walked-none}
-
--- ---- a credited detail's account line is one of the register's
-
-never : {A : Type 0} {c : paper.Cause} {i : ℕ} → returned c ≡ credited i → A
-never h = absurd (let z : _≡_ {A = ℕ} 0 1 = cc in omega arith)
-
-credited-listed : (r : Register) (cs : List ℕ) (i : ℕ) → verdict r cs ≡ credited i → i < length (r .accounts)
-unfolding verdict judged
-credited-listed r cs i h = go (shaped cs) (control (take 22 cs)) (found (take 22 cs) 0 (r .accounts)) refl h
-  where
-    last : (j : ℕ) (b : Bool) → found (take 22 cs) 0 (r .accounts) ≡ some j → cond b (credited j) (returned outOfBounds) ≡ credited i → i < length (r .accounts)
-    last j true f k = let q : j ≡ i = cc in let m : j < 0 + length (r .accounts) = found-below (take 22 cs) 0 (r .accounts) j f in omega arith
-    last j false f k = never k
-
-    go : (t u : Bool) (o : Option ℕ) → found (take 22 cs) 0 (r .accounts) ≡ o → cond (not t) (returned wrongShape) (cond (not u) (returned wrongControl) (judged r cs o)) ≡ credited i → i < length (r .accounts)
-    go true true (some j) f k = last j (inBounds (accountAt r j) cs) f k
-    go true true none f k = never k
-    go true false o f k = never k
-    go false u o f k = never k
-
--- the line that a verdict names
-pub record Listed (text : List ℕ) (v : Verdict) : Type 0 where
-  pub line : (i : ℕ) → v ≡ Credited i → i < length (registerOf text .accounts)
-
-pub listed : (text cs : List ℕ) (v : Verdict) → verdictOf v ≡ verdict (registerOf text) cs → Listed text v
-listed text cs v h = record { line = λ i e. credited-listed (registerOf text) cs i (sym h ∙ ap verdictOf e) }
-
-pub listed-line : (text : List ℕ) (v : Verdict) (i : ℕ) → Listed text v → v ≡ Credited i → i < length (registerOf text .accounts)
-listed-line text v i l e = l .line i e
 
 -- ---- one detail
 
@@ -87,26 +55,25 @@ module _ (text : List ℕ) (h : isSome (register text) ≡ true) (b : W.Book) (v
 
 -- ---- detail by detail
 
-module _ (text s : List ℕ) (b : Book) (p k : ℕ) {o at : ℕ} {out whole start : List ℕ} (l : Left (detailPostings (registerOf text) b (walked k (from s p))) o out whole at start) where
-  module _ (h : 0 < k) (j : J.Judged) (w : JudgedAt text s p j) where
-    credits-step : j .ok ≡ true
-        → detailPostings (registerOf text) b (walked k (from s p)) ≡ verdictPosting (registerOf text) b (j .amount) (verdictOf (j .verdict)) ++ detailPostings (registerOf text) b (walked (k - 1) (from s (j .next)))
+module _ (text s amounts places verdicts : List ℕ) (n i : ℕ) (k : LinesIn s places n) (a : AmountsIn s amounts n) (v : VerdictsIn text s verdicts n) (h : i < n) (j : J.Judged) (e : j ≡ judgedIn amounts places verdicts i) where
+  its : JudgedAs text s (detailAt (detailsIn s) i) j
+  its = judged-as text s amounts places verdicts n i j k a v h e
+
+  pub judged-listed : Listed text (j .verdict)
+  judged-listed = listed text (account59 (detailAt (detailsIn s) i)) (j .verdict) (its .verdict)
+
+  module _ (b : Book) {o at : ℕ} {out whole start : List ℕ} (l : Left (detailPostings (registerOf text) b (drop i (detailsIn s))) o out whole at start) where
+    credits-step : detailPostings (registerOf text) b (drop i (detailsIn s)) ≡ verdictPosting (registerOf text) b (j .amount) (verdictOf (j .verdict)) ++ detailPostings (registerOf text) b (drop (i + 1) (detailsIn s))
     unfolding detailPostings
-    credits-step e =
-        let d : Detail = w .detail in
-        rw (walked-next text s p j w k h e, w .verdict, w .amount)
-        (ap (λ (l : List ℕ). l ++ detailPostings (registerOf text) b (walked (k - 1) (from s (j .next)))) (detail-amount (registerOf text) b d (verdict (registerOf text) (account59 d))))
+    credits-step =
+        rw (kept-next s places n k i h, its .verdict, its .amount)
+        (ap (λ (l : List ℕ). l ++ detailPostings (registerOf text) b (drop (i + 1) (detailsIn s))) (detail-amount (registerOf text) b (detailAt (detailsIn s) i) (verdict (registerOf text) (account59 (detailAt (detailsIn s) i)))))
 
-    pub credits-more : j .ok ≡ true → {o' : ℕ} {out' : List ℕ} → Wrote (verdictPosting (registerOf text) b (j .amount) (verdictOf (j .verdict))) o out o' out'
-        → Left (detailPostings (registerOf text) b (walked (k - 1) (from s (j .next)))) o' out' whole at start
-    credits-more e u = left-turn (rw (credits-step e) at l) u
+    pub credits-more : {o' : ℕ} {out' : List ℕ} → Wrote (verdictPosting (registerOf text) b (j .amount) (verdictOf (j .verdict))) o out o' out' → Left (detailPostings (registerOf text) b (drop (i + 1) (detailsIn s))) o' out' whole at start
+    credits-more u = left-turn (rw credits-step at l) u
 
-    pub credits-stop : j .ok ≡ false → Wrote whole at start o out
-    unfolding detailPostings
-    credits-stop e = left-none (rw (walked-stop text s p j w k h e) at l)
+pub credits-end : (text s places : List ℕ) (n i : ℕ) (b : Book) {o at : ℕ} {out whole start : List ℕ} → Left (detailPostings (registerOf text) b (drop i (detailsIn s))) o out whole at start → LinesIn s places n → n ≤ i → Wrote whole at start o out
+unfolding detailPostings
+credits-end text s places n i b l k h = left-none (rw (kept-end s places n k i h) at l)
 
-  pub credits-end : k ≤ 0 → Wrote whole at start o out
-  unfolding detailPostings
-  credits-end h = left-none (rw (walked-none k (from s p) h) at l)
-
-pub ruleset crediting = (left-length, listed, listed-line, posting-returned, posting-credited, credits-more, credits-stop, credits-end)
+pub ruleset crediting = (left-length, listed-line, posting-returned, posting-credited, judged-listed, credits-more, credits-end)

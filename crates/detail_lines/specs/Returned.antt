@@ -2,24 +2,25 @@
 use mathlib.Core.Path.{_≡_, refl, sym, ap, _∙_}
 use mathlib.Core.Bool.{Bool, true, false, cond}
 use mathlib.Core.List.{List, [], _∷_, _++_}
-use Prim.Native.Nat.{ℕ, zero, suc, _+_, _-_, _≤_, _<_}
+use Prim.Native.Nat.{ℕ, zero, suc, _+_, _-_, _*_, _≤_, _<_}
+use native.Mathlib.Nat.{sub-zero}
 use native.Mathlib.Omega.{arith}
-use lib.ListN.{length, take, drop}
+use lib.ListN.{length, getD, take, drop}
 use lib.Seq.{take-nil}
 use Rattle.rules.specs.Messages.{Detail}
-use Rattle.rules.specs.Register.{registerOf}
+use Rattle.rules.specs.Register.{Register, registerOf}
 use Rattle.rules.specs.Verdict.{isReturned}
 use Rattle.rules.specs.Written.{returnedRows, allReturned}
 use Rattle.rules.specs.Calls.{returnedOf}
-use Rattle.laws.specs.Parts.{from}
 use Rattle.laws.specs.Writing.{Wrote, Left, left-turn, left-none, left-length}
-use Rattle.verdict.specs.Answers.{verdictOf}
-use Rattle.verdict.specs.Details.{JudgedAt, line-inside}
+use Rattle.details.specs.Message.{detailsIn, detailAt}
+use Rattle.details.specs.Kept.{LineOf, LinesIn, kept-next, kept-end}
+use Rattle.verdict.specs.Answers.{verdictOf, verdictBy, judgedIn}
+use Rattle.verdict.specs.Details.{VerdictsIn, judged-verdict, judged-branch, judged-account, judged-baeref}
 use Rattle.verdict.specs.declared.Verdict.{Verdict}
 use Rattle.verdict.specs.declared.Verdict.the-variants.{Credited, Returned}
 use Rattle.verdict.specs.declared.detail.Judged as J
-use Rattle.conditions.specs.Walk.{walked}
-use Rattle.detail_lines.specs.Details.{walked-next, walked-stop, walked-none}
+use Rattle.forms.specs.Spans.{SpanIn}
 use Rattle.detail_lines.specs.declared.returned.Place.{Place}
 use Rattle.detail_lines.specs.Rows.{rowsOf, rows-held}
 
@@ -34,118 +35,142 @@ module _ (v : Verdict) where
   unfolding isReturned
   return-goes e = rw e
 
--- the returned of k details from the place p on
+-- the returned of k details of a message, from detail i on
 unfoldable pub returnedAt : List ℕ → List ℕ → ℕ → ℕ → List Detail
-returnedAt text s p k = returnedOf (registerOf text) (walked k (from s p))
+returnedAt s verdicts i zero = []
+returnedAt s verdicts i (suc k) = let more = returnedAt s verdicts (i + 1) k in cond (isReturned (verdictOf (verdictBy (getD verdicts i 0)))) (detailAt (detailsIn s) i ∷ more) more
 
--- ---- one detail on
+-- how many they are
+unfoldable pub countAt : List ℕ → ℕ → ℕ → ℕ
+countAt verdicts i zero = 0
+countAt verdicts i (suc k) = let more = countAt verdicts (i + 1) k in cond (isReturned (verdictOf (verdictBy (getD verdicts i 0)))) (more + 1) more
 
-module _ (text s : List ℕ) (p k : ℕ) where
-  returned-end : k ≤ 0 → returnedAt text s p k ≡ []
+count-is : (s verdicts : List ℕ) (k i : ℕ) → length (returnedAt s verdicts i k) ≡ countAt verdicts i k
+unfolding returnedAt countAt
+count-is s verdicts zero i = refl
+count-is s verdicts (suc k) i = go (isReturned (verdictOf (verdictBy (getD verdicts i 0)))) (count-is s verdicts k (i + 1))
+  where
+    go : (b : Bool) → length (returnedAt s verdicts (i + 1) k) ≡ countAt verdicts (i + 1) k
+        → length (cond b (detailAt (detailsIn s) i ∷ returnedAt s verdicts (i + 1) k) (returnedAt s verdicts (i + 1) k)) ≡ cond b (countAt verdicts (i + 1) k + 1) (countAt verdicts (i + 1) k)
+    go true e = rw e (omega arith)
+    go false e = e
+
+-- they are the paper's
+module _ (text s places verdicts : List ℕ) (n : ℕ) (k : LinesIn s places n) (v : VerdictsIn text s verdicts n) where
+  returned-from : (m i : ℕ) → i + m ≡ n → returnedAt s verdicts i m ≡ returnedOf (registerOf text) (drop i (detailsIn s))
   unfolding returnedAt returnedOf
-  returned-end h = rw (walked-none k (from s p) h)
+  returned-from zero i e = rw (kept-end s places n k i (omega arith))
+  returned-from (suc m) i e = rw (kept-next s places n k i (omega arith), v .each i (omega arith), returned-from m (i + 1) (omega arith))
 
-  module _ (h : 0 < k) (j : J.Judged) (w : JudgedAt text s p j) where
-    returned-stop : j .ok ≡ false → returnedAt text s p k ≡ []
-    unfolding returnedAt returnedOf
-    returned-stop e = rw (walked-stop text s p j w k h e)
+  pub returned-all : returnedAt s verdicts 0 n ≡ returnedOf (registerOf text) (detailsIn s)
+  returned-all = returned-from n 0 (omega arith)
 
-    module _ (e : j .ok ≡ true) (b : Bool) (u : b ≡ isReturned (verdictOf (j .verdict))) where
-      returned-step : returnedAt text s p k ≡ cond b (w .detail ∷ returnedAt text s (j .next) (k - 1)) (returnedAt text s (j .next) (k - 1))
-      unfolding returnedAt returnedOf
-      returned-step = rw (walked-next text s p j w k h e, u, w .verdict)
+-- ---- one detail on, i of n being passed
 
-      returned-one : b ≡ true → returnedAt text s p k ≡ w .detail ∷ returnedAt text s (j .next) (k - 1)
-      returned-one d = returned-step ∙ rw d
+module _ (s verdicts : List ℕ) (n i : ℕ) where
+  returned-end : n ≤ i → returnedAt s verdicts i (n - i) ≡ []
+  unfolding returnedAt
+  returned-end h = let e : n - i ≡ 0 = omega arith in rw e
 
-      returned-none : b ≡ false → returnedAt text s p k ≡ returnedAt text s (j .next) (k - 1)
-      returned-none d = returned-step ∙ rw d
+  count-end : n ≤ i → countAt verdicts i (n - i) ≡ 0
+  unfolding countAt
+  count-end h = let e : n - i ≡ 0 = omega arith in rw e
+
+  module _ (h : i < n) (w : Verdict) (e : w ≡ verdictBy (getD verdicts i 0)) (b : Bool) (u : b ≡ isReturned (verdictOf w)) where
+    told : isReturned (verdictOf (verdictBy (getD verdicts i 0))) ≡ b
+    told = ap (λ (x : Verdict). isReturned (verdictOf x)) (sym e) ∙ sym u
+
+    next : n - i ≡ suc (n - (i + 1))
+    next = omega arith
+
+    returned-one : b ≡ true → returnedAt s verdicts i (n - i) ≡ detailAt (detailsIn s) i ∷ returnedAt s verdicts (i + 1) (n - (i + 1))
+    unfolding returnedAt
+    returned-one d = rw (next, told, d)
+
+    returned-none : b ≡ false → returnedAt s verdicts i (n - i) ≡ returnedAt s verdicts (i + 1) (n - (i + 1))
+    unfolding returnedAt
+    returned-none d = rw (next, told, d)
+
+    count-one : b ≡ true → countAt verdicts i (n - i) ≡ countAt verdicts (i + 1) (n - (i + 1)) + 1
+    unfolding countAt
+    count-one d = rw (next, told, d)
+
+    count-none : b ≡ false → countAt verdicts i (n - i) ≡ countAt verdicts (i + 1) (n - (i + 1))
+    unfolding countAt
+    count-none d = rw (next, told, d)
 
 -- ---- how many they are
 
--- r is their number among the first n details
-pub record ReturnedCount (text s : List ℕ) (first n r : ℕ) : Type 0 where
-  pub value : r ≡ length (returnedAt text s first n)
+-- r is the number of the returned of n details
+pub record ReturnedCount (verdicts : List ℕ) (n r : ℕ) : Type 0 where
+  pub value : r ≡ countAt verdicts 0 n
   pub most : r ≤ n
 
--- n are counted, k details from p on are left
-pub record Counting (text s : List ℕ) (p k n first count : ℕ) : Type 0 where
-  pub within : p ≤ length s
-  pub same : n + length (returnedAt text s p k) ≡ length (returnedAt text s first count)
-  pub room : n + k ≤ count
+pub count-paper : (text s places verdicts : List ℕ) (n r : ℕ) → LinesIn s places n → VerdictsIn text s verdicts n → ReturnedCount verdicts n r → r ≡ length (returnedOf (registerOf text) (detailsIn s))
+count-paper text s places verdicts n r k v c = c .value ∙ sym (count-is s verdicts n 0) ∙ ap length (returned-all text s places verdicts n k v)
 
-pub counting-start : (text s : List ℕ) (first count : ℕ) → first ≤ length s → Counting text s first count 0 first count
-counting-start text s first count h = record { within = h; same = omega arith; room = omega arith }
+-- r are counted of the first i
+pub record Counting (verdicts : List ℕ) (n i r : ℕ) : Type 0 where
+  pub same : r + countAt verdicts i (n - i) ≡ countAt verdicts 0 n
+  pub room : r ≤ i
 
-module _ (text s : List ℕ) (p k n first count : ℕ) (l : Counting text s p k n first count) where
-  pub counting-end : k ≤ 0 → ReturnedCount text s first count n
-  counting-end h = record { value = omega (arith, l .same, ap length (returned-end text s p k h)); most = omega (arith, l .room) }
+pub counting-start : (verdicts : List ℕ) (n : ℕ) → Counting verdicts n 0 0
+counting-start verdicts n = record { same = rw (sub-zero n) (omega arith); room = omega arith }
 
-  module _ (h : 0 < k) (j : J.Judged) (w : JudgedAt text s p j) where
-    pub counting-stop : j .ok ≡ false → ReturnedCount text s first count n
-    counting-stop e = record { value = omega (arith, l .same, ap length (returned-stop text s p k h j w e)); most = omega (arith, l .room) }
+module _ (verdicts : List ℕ) (n i r : ℕ) (l : Counting verdicts n i r) where
+  pub counting-end : n ≤ i → i ≤ n → ReturnedCount verdicts n r
+  counting-end h k = record { value = omega (arith, l .same, count-end [] verdicts n i h); most = omega (arith, l .room) }
 
-    module _ (e : j .ok ≡ true) (b : Bool) (u : b ≡ isReturned (verdictOf (j .verdict))) where
-      pub counting-more : b ≡ true → Counting text s (j .next) (k - 1) (n + 1) first count
-      counting-more d = record { within = w .next; same = omega (arith, l .same, ap length (returned-one text s p k h j w e b u d)); room = omega (arith, l .room) }
+  module _ (h : i < n) (w : Verdict) (e : w ≡ verdictBy (getD verdicts i 0)) (b : Bool) (u : b ≡ isReturned (verdictOf w)) where
+    pub counting-more : b ≡ true → Counting verdicts n (i + 1) (r + 1)
+    counting-more d = record { same = omega (arith, l .same, count-one [] verdicts n i h w e b u d); room = omega (arith, l .room) }
 
-      pub counting-pass : b ≡ false → Counting text s (j .next) (k - 1) n first count
-      counting-pass d = record { within = w .next; same = omega (arith, l .same, ap length (returned-none text s p k h j w e b u d)); room = omega (arith, l .room) }
+    pub counting-pass : b ≡ false → Counting verdicts n (i + 1) r
+    counting-pass d = record { same = omega (arith, l .same, count-none [] verdicts n i h w e b u d); room = omega (arith, l .room) }
 
 -- ---- past the first of them
 
--- behind the first i of them left details stand from at on
-pub record Passed (text s : List ℕ) (first count i at left : ℕ) : Type 0 where
-  pub within : at ≤ length s
-  pub fewer : left ≤ count
-  pub same : returnedAt text s at left ≡ drop i (returnedAt text s first count)
+-- behind the first `most` of them the details from `at` on are left
+pub record Passed (s verdicts : List ℕ) (first n most at : ℕ) : Type 0 where
+  pub within : at ≤ n
+  pub same : returnedAt s verdicts at (n - at) ≡ drop most (returnedAt s verdicts first (n - first))
 
--- i of them are still to be passed, k details from p on are left
-pub record Passing (text s : List ℕ) (p k i first count all : ℕ) : Type 0 where
-  pub within : p ≤ length s
-  pub fewer : k ≤ count
-  pub same : drop i (returnedAt text s p k) ≡ drop all (returnedAt text s first count)
+-- m of them are still to be passed, and the details from i on are left
+pub record Passing (s verdicts : List ℕ) (first n most i m : ℕ) : Type 0 where
+  pub within : i ≤ n
+  pub same : drop m (returnedAt s verdicts i (n - i)) ≡ drop most (returnedAt s verdicts first (n - first))
 
-pub passing-start : (text s : List ℕ) (first count all : ℕ) → first ≤ length s → Passing text s first count all first count all
-passing-start text s first count all h = record { within = h; fewer = omega arith; same = refl }
+pub passing-start : (s verdicts : List ℕ) (first n most : ℕ) → first ≤ n → Passing s verdicts first n most first most
+passing-start s verdicts first n most h = record { within = h; same = refl }
 
 drop-none : {A : Type 0} (i : ℕ) → _≡_ {A = List A} (drop i []) []
 drop-none zero = refl
 drop-none (suc i) = refl
 
-drop-one : {A : Type 0} (x : A) (xs : List A) (i : ℕ) → 0 < i → drop i (x ∷ xs) ≡ drop (i - 1) xs
-drop-one x xs zero h = absurd (omega arith)
+drop-one : {A : Type 0} (x : A) (xs : List A) (i : ℕ) → (i ≡ 0 → ⊥) → drop i (x ∷ xs) ≡ drop (i - 1) xs
+drop-one x xs zero h = absurd (h refl)
 drop-one x xs (suc i) h = let e : suc i - 1 ≡ i = omega arith in rw e
 
-module _ (text s : List ℕ) (p k i first count all : ℕ) (l : Passing text s p k i first count all) where
-  pub passing-done : i ≡ 0 → Passed text s first count all p k
-  passing-done e = record { within = l .within; fewer = l .fewer; same = ap (λ (n : ℕ). drop n (returnedAt text s p k)) (sym e) ∙ l .same }
+module _ (s verdicts : List ℕ) (first n most i m : ℕ) (l : Passing s verdicts first n most i m) where
+  pub passing-done : m ≡ 0 → Passed s verdicts first n most i
+  passing-done e = record { within = l .within; same = ap (λ (x : ℕ). drop x (returnedAt s verdicts i (n - i))) (sym e) ∙ l .same }
 
-  nothing-left : returnedAt text s p k ≡ [] → Passed text s first count all p 0
-  nothing-left e = record {
+  pub passing-end : n ≤ i → Passed s verdicts first n most i
+  passing-end h = record {
     within = l .within;
-    fewer = omega arith;
-    same = returned-end text s p 0 (omega arith) ∙ sym (drop-none i) ∙ ap (λ (ds : List Detail). drop i ds) (sym e) ∙ l .same;
+    same = returned-end s verdicts n i h ∙ sym (drop-none m) ∙ ap (λ (ds : List Detail). drop m ds) (sym (returned-end s verdicts n i h)) ∙ l .same;
   }
 
-  pub passing-end : k ≤ 0 → Passed text s first count all p 0
-  passing-end h = nothing-left (returned-end text s p k h)
+  module _ (amounts places : List ℕ) (h : i < n) (j : J.Judged) (e : j ≡ judgedIn amounts places verdicts i) (b : Bool) (u : b ≡ isReturned (verdictOf (j .verdict))) where
+    pub passing-more : b ≡ true → (m ≡ 0 → ⊥) → Passing s verdicts first n most (i + 1) (m - 1)
+    passing-more d z = record {
+      within = omega arith;
+      same = sym (drop-one (detailAt (detailsIn s) i) (returnedAt s verdicts (i + 1) (n - (i + 1))) m z)
+          ∙ ap (λ (ds : List Detail). drop m ds) (sym (returned-one s verdicts n i h (j .verdict) (judged-verdict amounts places verdicts i j e) b u d)) ∙ l .same;
+    }
 
-  module _ (h : 0 < k) (j : J.Judged) (w : JudgedAt text s p j) where
-    pub passing-stop : j .ok ≡ false → Passed text s first count all p 0
-    passing-stop e = nothing-left (returned-stop text s p k h j w e)
-
-    module _ (e : j .ok ≡ true) (b : Bool) (u : b ≡ isReturned (verdictOf (j .verdict))) where
-      pub passing-more : b ≡ true → (i ≡ 0 → ⊥) → Passing text s (j .next) (k - 1) (i - 1) first count all
-      passing-more d n = record {
-        within = w .next;
-        fewer = omega (arith, l .fewer);
-        same = sym (drop-one (w .detail) (returnedAt text s (j .next) (k - 1)) i (omega (arith, n)))
-            ∙ ap (λ (ds : List Detail). drop i ds) (sym (returned-one text s p k h j w e b u d)) ∙ l .same;
-      }
-
-      pub passing-on : b ≡ false → Passing text s (j .next) (k - 1) i first count all
-      passing-on d = record { within = w .next; fewer = omega (arith, l .fewer); same = ap (λ (ds : List Detail). drop i ds) (sym (returned-none text s p k h j w e b u d)) ∙ l .same }
+    pub passing-on : b ≡ false → Passing s verdicts first n most (i + 1) m
+    passing-on d = record { within = omega arith; same = ap (λ (ds : List Detail). drop m ds) (sym (returned-none s verdicts n i h (j .verdict) (judged-verdict amounts places verdicts i j e) b u d)) ∙ l .same }
 
 -- ---- their rows, m of them at most
 
@@ -153,39 +178,49 @@ take-one : {A : Type 0} (x : A) (xs : List A) (m : ℕ) → (m ≡ 0 → ⊥) �
 take-one x xs zero h = absurd (h refl)
 take-one x xs (suc m) h = let e : suc m - 1 ≡ m = omega arith in rw e
 
-module _ (text s : List ℕ) (p k m : ℕ) {o at : ℕ} {out whole start : List ℕ} (l : Left (allReturned (take m (returnedAt text s p k))) o out whole at start) where
-  no-row : take m (returnedAt text s p k) ≡ [] → Wrote whole at start o out
+module _ (s verdicts : List ℕ) (n i m : ℕ) {o at : ℕ} {out whole start : List ℕ} (l : Left (allReturned (take m (returnedAt s verdicts i (n - i)))) o out whole at start) where
+  no-row : take m (returnedAt s verdicts i (n - i)) ≡ [] → Wrote whole at start o out
   unfolding allReturned
   no-row e = left-none (rw e at l)
 
   pub rows-full : m ≡ 0 → Wrote whole at start o out
   rows-full e = no-row (rw e)
 
-  pub rows-end : k ≤ 0 → Wrote whole at start o out
-  rows-end h = no-row (rw (returned-end text s p k h) (take-nil m))
+  pub rows-end : n ≤ i → Wrote whole at start o out
+  rows-end h = no-row (rw (returned-end s verdicts n i h) (take-nil m))
 
-  module _ (h : 0 < k) (j : J.Judged) (w : JudgedAt text s p j) where
-    pub rows-stop : j .ok ≡ false → Wrote whole at start o out
-    rows-stop e = no-row (rw (returned-stop text s p k h j w e) (take-nil m))
+  module _ (amounts places : List ℕ) (k : LinesIn s places n) (h : i < n) (j : J.Judged) (e : j ≡ judgedIn amounts places verdicts i) (b : Bool) (u : b ≡ isReturned (verdictOf (j .verdict))) where
+    verdict-is : j .verdict ≡ verdictBy (getD verdicts i 0)
+    verdict-is = judged-verdict amounts places verdicts i j e
 
-    module _ (e : j .ok ≡ true) (b : Bool) (u : b ≡ isReturned (verdictOf (j .verdict))) where
-      rows-step : b ≡ true → (m ≡ 0 → ⊥)
-          → allReturned (take m (returnedAt text s p k)) ≡ returnedRows (w .detail) ++ allReturned (take (m - 1) (returnedAt text s (j .next) (k - 1)))
-      unfolding allReturned
-      rows-step d n = rw (returned-one text s p k h j w e b u d, take-one (w .detail) (returnedAt text s (j .next) (k - 1)) m n)
+    rows-step : b ≡ true → (m ≡ 0 → ⊥)
+        → allReturned (take m (returnedAt s verdicts i (n - i))) ≡ returnedRows (detailAt (detailsIn s) i) ++ allReturned (take (m - 1) (returnedAt s verdicts (i + 1) (n - (i + 1))))
+    unfolding allReturned
+    rows-step d z = rw (returned-one s verdicts n i h (j .verdict) verdict-is b u d, take-one (detailAt (detailsIn s) i) (returnedAt s verdicts (i + 1) (n - (i + 1))) m z)
 
-      pub rows-more : b ≡ true → (m ≡ 0 → ⊥) → {o' : ℕ} {out' : List ℕ}
-          → Wrote (rowsOf s (j .branch) (j .account) (j .baeref)) o out o' out'
-          → Left (allReturned (take (m - 1) (returnedAt text s (j .next) (k - 1)))) o' out' whole at start
-      rows-more d n v = left-turn (rw (rows-step d n) at l) (rw (rows-held s (w .detail) _ _ _ (w .branch) (w .account) (w .baeref)) at v)
+    pub rows-more : b ≡ true → (m ≡ 0 → ⊥) → {o' : ℕ} {out' : List ℕ}
+        → Wrote (rowsOf s (j .branch) (j .account) (j .baeref)) o out o' out'
+        → Left (allReturned (take (m - 1) (returnedAt s verdicts (i + 1) (n - (i + 1))))) o' out' whole at start
+    rows-more d z v = left-turn (rw (rows-step d z) at l) (rw (rows-held s (detailAt (detailsIn s) i) (j .branch) (j .account) (j .baeref) (judged-branch amounts places verdicts i j e s n k h) (judged-account amounts places verdicts i j e s n k h) (judged-baeref amounts places verdicts i j e s n k h)) at v)
 
-      pub rows-pass : b ≡ false → Left (allReturned (take m (returnedAt text s (j .next) (k - 1)))) o out whole at start
-      rows-pass d = rw (returned-none text s p k h j w e b u d) at l
+    pub rows-pass : b ≡ false → Left (allReturned (take m (returnedAt s verdicts (i + 1) (n - (i + 1))))) o out whole at start
+    rows-pass d = rw (returned-none s verdicts n i h (j .verdict) verdict-is b u d) at l
+
+-- what a detail record says of its place
+module _ (s amounts places verdicts : List ℕ) (n i : ℕ) (k : LinesIn s places n) (h : i < n) (j : J.Judged) (e : j ≡ judgedIn amounts places verdicts i) where
+  pub branch-in : SpanIn s (j .branch)
+  branch-in = judged-branch amounts places verdicts i j e s n k h .inside
+
+  pub account-in : SpanIn s (j .account)
+  account-in = judged-account amounts places verdicts i j e s n k h .inside
+
+  pub baeref-in : SpanIn s (j .baeref)
+  baeref-in = judged-baeref amounts places verdicts i j e s n k h .inside
 
 -- ---- both: the rows of the first `most` of them, and what is behind those
 
-pub record RowsPut (text s : List ℕ) (first count most at : ℕ) (out : List ℕ) (r : Place) (out' : List ℕ) : Type 0 where
-  pub wrote : Wrote (allReturned (take most (returnedAt text s first count))) at out (r .out) out'
-  pub passed : Passed text s first count most (r .at) (r .left)
+pub record RowsPut (s verdicts : List ℕ) (first n most at : ℕ) (out : List ℕ) (r : Place) (out' : List ℕ) : Type 0 where
+  pub wrote : Wrote (allReturned (take most (returnedAt s verdicts first (n - first)))) at out (r .out) out'
+  pub passed : Passed s verdicts first n most (r .at)
 
-pub ruleset returning = (left-length, line-inside, credit-stays, return-goes, counting-start, counting-end, counting-stop, counting-more, counting-pass, passing-start, passing-done, passing-end, passing-stop, passing-more, passing-on, rows-full, rows-end, rows-stop, rows-more, rows-pass)
+pub ruleset returning = (left-length, credit-stays, return-goes, counting-start, counting-end, counting-more, counting-pass, branch-in, account-in, baeref-in, passing-start, passing-done, passing-end, passing-more, passing-on, rows-full, rows-end, rows-more, rows-pass)

@@ -13,7 +13,7 @@ use Rattle.laws.specs.Writing.{Wrote}
 use Rattle.forms.specs.Spans.{spanOf, SpanIn}
 use Rattle.forms.specs.Fields.{Behind, behind-in, behind-bytes}
 use Rattle.forms.specs.declared.rows.Span.{Span}
-use Rattle.verdict.specs.Details.{LineOf}
+use Rattle.details.specs.Kept.{LineOf}
 
 -- ---- what stands behind the first k bytes of a line, or n bytes of it
 

@@ -1,7 +1,7 @@
 // The posting lines of a message's details.
 use register::account_place;
 use verdict::Verdict;
-use verdict::judge_detail;
+use verdict::judged_at;
 use written::Book;
 use written::put_to_account;
 use written::put_to_bank;
@@ -12,11 +12,12 @@ ghost use lib.ListN.{length};
 ghost use Rattle.rules.specs.Text.{isSome};
 ghost use Rattle.rules.specs.Register.{register, registerOf};
 ghost use Rattle.rules.specs.Calls.{detailPostings};
-ghost use Rattle.laws.specs.Parts.{from};
 ghost use Rattle.laws.specs.Writing.{Wrote};
-ghost use Rattle.verdict.specs.Answers.{verdictOf};
-ghost use Rattle.conditions.specs.Walk.{walked};
-ghost use Rattle.detail_lines.specs.Postings.{Listed, bookBy, verdictPosting};
+ghost use Rattle.details.specs.Message.{detailsIn};
+ghost use Rattle.details.specs.Kept.{LinesIn, AmountsIn};
+ghost use Rattle.verdict.specs.Answers.{verdictOf, Listed};
+ghost use Rattle.verdict.specs.Details.{VerdictsIn};
+ghost use Rattle.detail_lines.specs.Postings.{bookBy, verdictPosting};
 
 // The posting line of an amount by its verdict: a credit, or a return.
 fn put_verdict_posting(
@@ -41,35 +42,32 @@ fn put_verdict_posting(
     }
 }
 
-// The posting lines of count details, from the place first on, in their order.
+// The posting lines of the n details of the message s, in their order.
 pub fn put_detail_postings(
     out: &mut [u8],
     at: usize,
     book: Book,
     text: &[u8],
     s: &[u8],
-    first: usize,
-    count: usize,
+    amounts: &[u64; 16],
+    places: &[u16; 96],
+    verdicts: &[u8; 16],
+    n: u32,
 ) -> usize
     requires { ⌜ isSome (register (now text)) ≡ true ⌝ }
     requires { ⌜ 22 ≤ length (now text) ⌝ }
-    requires { ⌜ first ≤ length (now s) ⌝ }
-    requires { ⌜ length (now s) ≤ 4096 ⌝ }
-    ensures { λ r. ⌜ Wrote (detailPostings (registerOf (now (text .entry))) (bookBy (now (text .entry)) book) (walked count (from (now (s .entry)) first))) at (now (out .entry)) r (now (out .exit)) ⌝ }
+    requires { ⌜ LinesIn (now s) (now places) n ⌝ }
+    requires { ⌜ AmountsIn (now s) (now amounts) n ⌝ }
+    requires { ⌜ VerdictsIn (now text) (now s) (now verdicts) n ⌝ }
+    ensures { λ r. ⌜ Wrote (detailPostings (registerOf (now (text .entry))) (bookBy (now (text .entry)) book) (detailsIn (now (s .entry)))) at (now (out .entry)) r (now (out .exit)) ⌝ }
 {
     let mut o = at;
-    let mut p = first;
-    let mut k = count;
-    while k > 0 {
-        let j = judge_detail(text, s, p);
-        if j.ok {
-            let v = j.verdict;
-            o = put_verdict_posting(out, o, book, text, v, j.amount);
-            p = j.next;
-            k -= 1;
-        } else {
-            return o;
-        }
+    let mut i: u32 = 0;
+    while i < n {
+        let j = judged_at(amounts, places, verdicts, i);
+        let v = j.verdict;
+        o = put_verdict_posting(out, o, book, text, v, j.amount);
+        i += 1;
     }
     o
 }

@@ -1,14 +1,12 @@
 // The returned details of a message: counted, and their rows written.
 use crate::rows::put_returned_rows;
 use verdict::Verdict;
-use verdict::judge_detail;
+use verdict::judged_at;
+use verdict::verdict_by;
 ghost use mathlib.Core.Path.{_≡_};
-ghost use mathlib.Core.Bool.{true};
 ghost use Prim.Native.Nat.{_≤_};
-ghost use lib.ListN.{length};
-ghost use Rattle.rules.specs.Text.{isSome};
-ghost use Rattle.rules.specs.Register.{register};
 ghost use Rattle.rules.specs.Verdict.{isReturned};
+ghost use Rattle.details.specs.Kept.{LinesIn};
 ghost use Rattle.verdict.specs.Answers.{verdictOf};
 ghost use Rattle.detail_lines.specs.Returned.{ReturnedCount, RowsPut};
 
@@ -22,92 +20,62 @@ fn is_returned(v: Verdict) -> bool
     }
 }
 
-// How many of count details, from the place first on, are returned.
-pub fn count_returned(text: &[u8], s: &[u8], first: usize, count: usize) -> usize
-    requires { ⌜ isSome (register (now text)) ≡ true ⌝ }
-    requires { ⌜ first ≤ length (now s) ⌝ }
-    requires { ⌜ length (now s) ≤ 4096 ⌝ }
-    ensures { λ r. ⌜ ReturnedCount (now (text .entry)) (now (s .entry)) first count r ⌝ }
+// How many of the n details are returned.
+pub fn count_returned(verdicts: &[u8; 16], n: u32) -> u32
+    requires { ⌜ n ≤ 16 ⌝ }
+    ensures { λ r. ⌜ ReturnedCount (now (verdicts .entry)) n r ⌝ }
 {
-    let mut n: usize = 0;
-    let mut p = first;
-    let mut k = count;
-    while k > 0 {
-        let j = judge_detail(text, s, p);
-        if j.ok {
-            let v = j.verdict;
-            if is_returned(v) {
-                n += 1;
-                p = j.next;
-                k -= 1;
-            } else {
-                p = j.next;
-                k -= 1;
-            }
+    let mut returned: u32 = 0;
+    let mut i: u32 = 0;
+    while i < n {
+        if is_returned(verdict_by(verdicts[i as usize])) {
+            returned += 1;
+            i += 1;
         } else {
-            return n;
+            i += 1;
         }
     }
-    n
+    returned
 }
 
-// Where writing goes on, where the walk over the details goes on, and how many of them are left.
+// Where writing goes on, and the detail at which the walk goes on.
 pub struct Place {
     pub out: usize,
-    pub at: usize,
-    pub left: usize,
+    pub at: u32,
 }
 
-// The rows of the returned of count details, `most` of them at most.
+// The rows of the returned of the n details of the message s, from detail `first` on, `most` of them at most.
 pub fn put_returned(
     out: &mut [u8],
     at: usize,
-    text: &[u8],
     s: &[u8],
-    first: usize,
-    count: usize,
-    most: usize,
+    amounts: &[u64; 16],
+    places: &[u16; 96],
+    verdicts: &[u8; 16],
+    first: u32,
+    n: u32,
+    most: u32,
 ) -> Place
-    requires { ⌜ isSome (register (now text)) ≡ true ⌝ }
-    requires { ⌜ first ≤ length (now s) ⌝ }
-    requires { ⌜ length (now s) ≤ 4096 ⌝ }
-    ensures { λ r. ⌜ RowsPut (now (text .entry)) (now (s .entry)) first count most at (now (out .entry)) r (now (out .exit)) ⌝ }
+    requires { ⌜ LinesIn (now s) (now places) n ⌝ }
+    requires { ⌜ first ≤ n ⌝ }
+    ensures { λ r. ⌜ RowsPut (now (s .entry)) (now (verdicts .entry)) first n most at (now (out .entry)) r (now (out .exit)) ⌝ }
 {
     let mut o = at;
-    let mut p = first;
-    let mut k = count;
+    let mut i = first;
     let mut m = most;
-    while k > 0 {
+    while i < n {
         if m == 0 {
-            return Place {
-                out: o,
-                at: p,
-                left: k,
-            };
+            return Place { out: o, at: i };
         }
-        let j = judge_detail(text, s, p);
-        if j.ok {
-            let v = j.verdict;
-            if is_returned(v) {
-                o = put_returned_rows(out, o, s, j.branch, j.account, j.baeref);
-                m -= 1;
-                p = j.next;
-                k -= 1;
-            } else {
-                p = j.next;
-                k -= 1;
-            }
+        let j = judged_at(amounts, places, verdicts, i);
+        let v = j.verdict;
+        if is_returned(v) {
+            o = put_returned_rows(out, o, s, j.branch, j.account, j.baeref);
+            m -= 1;
+            i += 1;
         } else {
-            return Place {
-                out: o,
-                at: p,
-                left: 0,
-            };
+            i += 1;
         }
     }
-    Place {
-        out: o,
-        at: p,
-        left: 0,
-    }
+    Place { out: o, at: i }
 }

@@ -3,17 +3,18 @@ use mathlib.Core.Path.{_≡_, refl, sym, ap, _∙_}
 use mathlib.Core.Bool.{Bool, true, false, _&&_, cond}
 use mathlib.Core.List.{List, [], _∷_}
 use Prim.Native.Nat.{ℕ, _+_, _-_, _*_, _≤_, _<_}
+use native.Mathlib.Nat.{add-zero}
 use native.Mathlib.Omega.{arith}
 use borrow.Author.Tests.{eq-eqb, ne-eqb}
-use lib.Dec.{eqb, lit<}
+use lib.Dec.{eqb, lit<, lit≤}
 use lib.ListN.{length}
 use Rattle.rules.specs.Text.{any}
 use Rattle.rules.specs.Engine.{Position, isOpen, positionOf}
 use Rattle.rules.specs.Area.{positionIn}
-use Rattle.written.specs.Values.{positionOf as valueOf}
+use Rattle.text.specs.Numbers.{NumberAt}
 use Rattle.written.specs.declared.Position as W
 use Rattle.engine.specs.declared.find.Totals.{Totals}
-use Rattle.engine.specs.Positions.{positionAt, positionsAt, values-next, values-none, PositionAt}
+use Rattle.engine.specs.Positions.{valueAt, positionAt, positionsAt, values-next, values-none, in-record, PositionAt}
 
 -- r has what the position of bank and date has, each total of six bytes
 pub record TotalsOf (ps : List Position) (bank date : ℕ) (r : Totals) : Type 0 where
@@ -23,12 +24,31 @@ pub record TotalsOf (ps : List Position) (bank date : ℕ) (r : Totals) : Type 0
   pub small : r .transferred < 281474976710656
   pub few : r .detailed < 281474976710656
 
--- two numbers each alike
-pub both-first : (a b c d : ℕ) → a ≡ b → eqb c d ≡ (eqb a b && eqb c d)
-both-first a b c d e = rw (eq-eqb a b e)
+-- the position at a place is of this bank and date
+abbrev pub isOf : List ℕ → ℕ → ℕ → ℕ → Bool
+isOf area p bank date = eqb (positionAt area p .bank) bank && eqb (positionAt area p .date) date
 
-pub both-not : (a b c d : ℕ) → (a ≡ b → ⊥) → false ≡ (eqb a b && eqb c d)
-both-not a b c d e = rw (ne-eqb a b e)
+module _ (area : List ℕ) (p bank date d : ℕ) (n : NumberAt area (p + 8) 3 d) where
+  date-is : positionAt area p .date ≡ d
+  unfolding valueAt positionIn
+  date-is = sym (in-record area p 8 3 (lit≤ tt) n)
+
+  pub of-other : (d ≡ date → ⊥) → false ≡ isOf area p bank date
+  of-other h = rw (date-is, ne-eqb d date h) (go (eqb (positionAt area p .bank) bank))
+    where
+      go : (t : Bool) → false ≡ (t && false)
+      go true = refl
+      go false = refl
+
+  pub of-bank : d ≡ date → (b : ℕ) → NumberAt area p 8 b → eqb b bank ≡ isOf area p bank date
+  unfolding valueAt positionIn
+  of-bank h b m =
+      let e : b ≡ positionAt area p .bank = in-record area p 0 8 (lit≤ tt) (rw (← add-zero p) at m) in
+      rw (date-is, eq-eqb d date h, e) (go (eqb (positionAt area p .bank) bank))
+    where
+      go : (t : Bool) → t ≡ (t && true)
+      go true = refl
+      go false = refl
 
 -- the k positions from p on answer for all of them
 pub record Seeking (area : List ℕ) (p k bank date : ℕ) (all : List Position) : Type 0 where
@@ -51,16 +71,13 @@ module _ (area : List ℕ) (bank date : ℕ) where
       few = lit< tt;
     }
 
-    module _ (h : 0 < k) (q : W.Position) (v : PositionAt area p q) (t : Bool) (u : t ≡ (eqb (q .bank) bank && eqb (q .date) date)) where
-      here : t ≡ (eqb (positionAt area p .bank) bank && eqb (positionAt area p .date) date)
-      here = u ∙ ap (λ (x : Position). eqb (x .bank) bank && eqb (x .date) date) (v .value)
-
-      pub seek-found : t ≡ true → TotalsOf all bank date (record { «is_open» = true; transferred = q .transferred; detailed = q .detailed })
+    module _ (h : 0 < k) (t : Bool) (u : t ≡ isOf area p bank date) where
+      pub seek-found : t ≡ true → (q : W.Position) → PositionAt area p q → TotalsOf all bank date (record { «is_open» = true; transferred = q .transferred; detailed = q .detailed })
       unfolding isOpen any positionOf
-      seek-found d = record {
-        opens = rw (values-next positionIn area p k h, ← here, d) at (s .opens);
-        transferred = ap (λ (x : Position). x .transferred) (v .value ∙ (rw (values-next positionIn area p k h, ← here, d) at (s .position)));
-        detailed = ap (λ (x : Position). x .detailed) (v .value ∙ (rw (values-next positionIn area p k h, ← here, d) at (s .position)));
+      seek-found d q v = record {
+        opens = rw (values-next positionIn area p k h, ← u, d) at (s .opens);
+        transferred = ap (λ (x : Position). x .transferred) (v .value ∙ (rw (values-next positionIn area p k h, ← u, d) at (s .position)));
+        detailed = ap (λ (x : Position). x .detailed) (v .value ∙ (rw (values-next positionIn area p k h, ← u, d) at (s .position)));
         small = v .transferred;
         few = v .detailed;
       }
@@ -69,8 +86,8 @@ module _ (area : List ℕ) (bank date : ℕ) where
       unfolding isOpen any positionOf
       seek-on d = record {
         room = omega (arith, s .room);
-        opens = rw (values-next positionIn area p k h, ← here, d) at (s .opens);
-        position = rw (values-next positionIn area p k h, ← here, d) at (s .position);
+        opens = rw (values-next positionIn area p k h, ← u, d) at (s .opens);
+        position = rw (values-next positionIn area p k h, ← u, d) at (s .position);
       }
 
-pub ruleset finding = (both-first, both-not, seek-start, seek-end, seek-found, seek-on)
+pub ruleset finding = (of-other, of-bank, seek-start, seek-end, seek-found, seek-on)

@@ -1,18 +1,18 @@
 -- A bank's reference held against those of an area: its bytes against a text that ends at the first zero. Assumes nothing.
 use mathlib.Core.Path.{_≡_, refl, sym, ap, _∙_}
-use mathlib.Core.Bool.{Bool, true, false, cond}
+use mathlib.Core.Bool.{Bool, true, false, _&&_, cond}
 use mathlib.Core.List.{List, [], _∷_}
 use Prim.Native.Nat.{ℕ, _+_, _-_, _*_, _≤_, _<_}
 use native.Mathlib.Nat.{add-zero}
 use native.Mathlib.Omega.{arith}
-use borrow.Author.Tests.{eq-eqb, ne-eqb, leb-true}
+use borrow.Author.Tests.{eq-eqb, ne-eqb, eqb-true, leb-true}
 use lib.Dec.{leb, eqb, lit≤}
 use lib.ListN.{length, getD, take, drop}
 use Rattle.rules.specs.Text.{isText, every, equal, any}
 use Rattle.rules.specs.Engine.{Reference, sameReference}
 use Rattle.rules.specs.Area.{untilZero, referenceIn}
-use Rattle.laws.specs.Parts.{cut, cut-step, cut-done, cut-drop, cut-take}
-use Rattle.laws.specs.Tests.{cond-right, and-left}
+use Rattle.laws.specs.Parts.{cut, cut-step, cut-done, cut-length, cut-drop, cut-take}
+use Rattle.laws.specs.Tests.{cond-left, cond-right, and-left}
 use Rattle.text.specs.Numbers.{NumberAt}
 use Rattle.engine.specs.Positions.{valueAt, valuesAt, values-next, values-none, in-record}
 
@@ -42,82 +42,74 @@ module _ (area : List ℕ) (j e : ℕ) where
   unfolding equal untilZero
   ends-room h l = rw (cut-done area j e h l)
 
--- ---- a text against the bytes of s: from i and from j on they answer for the whole
+-- ---- a text against bytes that are a text's, so none of them is zero
 
-text-some : (c : ℕ) → isText c ≡ true → (c ≡ 0 → ⊥)
+text-some : (c : ℕ) → isText c ≡ true → eqb c 0 ≡ false
 unfolding isText
-text-some c h e = let k : 32 ≤ c = leb-true 32 c (and-left _ _ (and-left _ _ h)) in omega arith
+text-some c h = let k : 32 ≤ c = leb-true 32 c (and-left _ _ (and-left _ _ h)) in ne-eqb c 0 (λ (e : c ≡ 0). omega arith)
 
-every-first : (p : ℕ → Bool) (c : ℕ) (cs : List ℕ) → every p (c ∷ cs) ≡ true → p c ≡ true
-unfolding every
-every-first p c cs h = go (p c) refl
+-- its first bytes are they, and it ends behind them
+until-equal : (xs ys : List ℕ) → every isText xs ≡ true → length xs ≤ length ys
+    → equal xs (untilZero ys) ≡ cond (equal xs (take (length xs) ys)) (equal [] (untilZero (drop (length xs) ys))) false
+unfolding every equal untilZero
+until-equal [] ys t h = refl
+until-equal (x ∷ xs) [] t h = absurd (omega arith)
+until-equal (x ∷ xs) (y ∷ ys) t h = go (eqb y 0) refl (eqb x y) refl (until-equal xs ys (cond-right (isText x) (every isText xs) t) (omega arith))
   where
-    go : (t : Bool) → p c ≡ t → p c ≡ true
-    go true e = e
-    go false e = absurd (let z : _≡_ {A = Bool} false true = rw e at h in let w : _≡_ {A = ℕ} 0 1 = cc in omega arith)
+    go : (z : Bool) → eqb y 0 ≡ z → (e : Bool) → eqb x y ≡ e → equal xs (untilZero ys) ≡ cond (equal xs (take (length xs) ys)) (equal [] (untilZero (drop (length xs) ys))) false
+        → equal (x ∷ xs) (untilZero (y ∷ ys)) ≡ cond (equal (x ∷ xs) (y ∷ take (length xs) ys)) (equal [] (untilZero (drop (length xs) ys))) false
+    go true f e g i =
+        let w : eqb x y ≡ false = ap (eqb x) (eqb-true y 0 f) ∙ text-some x (cond-left (isText x) (every isText xs) t) in
+        rw (f, w)
+    go false f true g i = rw (f, g) i
+    go false f false g i = rw (f, g)
 
-pub record Matching (area : List ℕ) (j e : ℕ) (s : List ℕ) (i b : ℕ) (x : Bool) : Type 0 where
-  pub within : i ≤ b
-  pub room : j + (b - i) ≤ e
-  pub text : every isText (cut s i b) ≡ true
-  pub same : equal (cut s i b) (untilZero (cut area j e)) ≡ x
+module _ (area s : List ℕ) (q a b r : ℕ) (h : a ≤ b) (k : b ≤ length s) (m : b - a ≤ 16) (l : q + 16 ≤ length area) (t : every isText (cut s a b) ≡ true) where
+  whole : equal (cut s a b) (untilZero (cut area q (q + 16))) ≡ cond (equal (cut s a b) (cut area q (q + (b - a)))) (equal [] (untilZero (cut area (q + (b - a)) (q + 16)))) false
+  whole =
+      let n : length (cut s a b) ≡ b - a = cut-length s a b k in
+      let o : length (cut area q (q + 16)) ≡ 16 = cut-length area q (q + 16) l ∙ omega arith in
+      rw (n, cut-take area q (q + 16) (b - a) (omega arith), cut-drop area q (q + 16) (b - a)) at (until-equal (cut s a b) (cut area q (q + 16)) t (omega arith))
 
-module _ (area : List ℕ) (q : ℕ) (s : List ℕ) (a b : ℕ) where
-  pub match-start : a ≤ b → b - a ≤ 16 → every isText (cut s a b) ≡ true → Matching area q (q + 16) s a b (equal (cut s a b) (untilZero (cut area q (q + 16))))
-  match-start h l t = record { within = h; room = omega arith; text = t; same = refl }
+  module _ (u : eqb r 0 ≡ equal (cut s a (a + (b - a))) (cut area q (q + (b - a)))) where
+    told : eqb r 0 ≡ equal (cut s a b) (cut area q (q + (b - a)))
+    told = let e : a + (b - a) ≡ b = omega arith in rw e at u
 
-module _ (area : List ℕ) (j e : ℕ) (s : List ℕ) (i b : ℕ) (x : Bool) (m : Matching area j e s i b x) (l : e ≤ length area) (k : b ≤ length s) where
-  module _ (h : i < b) where
-    some-byte : getD s i 0 ≡ 0 → ⊥
-    some-byte = text-some (getD s i 0) (every-first isText (getD s i 0) (cut s (i + 1) b) (rw (cut-step s i b h k) at (m .text)))
+    pub text-other : (r ≡ 0 → ⊥) → false ≡ equal (cut s a b) (untilZero (cut area q (q + 16)))
+    text-other d = sym (whole ∙ rw (← told, ne-eqb r 0 d))
 
-    both : equal (getD s i 0 ∷ cut s (i + 1) b) (untilZero (getD area j 0 ∷ cut area (j + 1) e)) ≡ x
-    both = rw (← cut-step s i b h k, ← cut-step area j e (omega (arith, m .room)) l) (m .same)
-
-    pub match-on : getD s i 0 ≡ getD area j 0 → Matching area (j + 1) e s (i + 1) b x
-    unfolding equal untilZero every
-    match-on c =
-        let n : getD area j 0 ≡ 0 → ⊥ = λ z. some-byte (c ∙ z) in record {
-          within = omega arith;
-          room = omega (arith, m .room);
-          text = cond-right (isText (getD s i 0)) (every isText (cut s (i + 1) b)) (rw (cut-step s i b h k) at (m .text));
-          same = rw (ne-eqb _ _ n, eq-eqb _ _ c) at both;
-        }
-
-    pub match-not : (getD s i 0 ≡ getD area j 0 → ⊥) → false ≡ x
-    unfolding equal untilZero
-    match-not c = go (eqb (getD area j 0) 0) refl
-      where
-        go : (t : Bool) → eqb (getD area j 0) 0 ≡ t → false ≡ x
-        go true z = rw z at both
-        go false z = rw (z, ne-eqb _ _ c) at both
-
-  pub match-end : b ≤ i → {r : Bool} → r ≡ equal [] (untilZero (cut area j e)) → r ≡ x
-  match-end h u = u ∙ (rw (cut-done s i b (m .within) h) at (m .same))
-
-  pub match-room : j ≤ e
-  match-room = omega (arith, m .room)
+    pub text-same : r ≡ 0 → (x : Bool) → x ≡ equal [] (untilZero (cut area (q + (b - a)) (q + 16))) → x ≡ equal (cut s a b) (untilZero (cut area q (q + 16)))
+    text-same d x v = v ∙ sym (whole ∙ rw (← told, eq-eqb r 0 d))
 
 -- ---- one reference
 
-module _ (area : List ℕ) (p bank : ℕ) (cs : List ℕ) (v : ℕ) (n : NumberAt area p 8 v) where
-  sender-is : referenceAt area p .sender ≡ v
-  unfolding valueAt referenceIn
-  sender-is = sym (in-record area p 0 8 (lit≤ tt) (rw (← add-zero p) at n))
-
+module _ (area : List ℕ) (p bank : ℕ) (cs : List ℕ) where
   text-is : referenceAt area p .text ≡ untilZero (cut area (p + 8) (p + 8 + 16))
   unfolding valueAt referenceIn
   text-is =
       let e : p + 8 + 16 ≡ p + 24 = omega arith in
       ap untilZero (ap (take 16) (cut-drop area p (p + 24) 8) ∙ cut-take area (p + 8) (p + 24) 16 (omega arith))
 
-  pub reference-bank : bank ≡ v → {r : Bool} → r ≡ equal cs (untilZero (cut area (p + 8) (p + 8 + 16))) → r ≡ sameReference (ofBank bank cs) (referenceAt area p)
-  unfolding sameReference
-  reference-bank e u = u ∙ rw (sender-is, text-is, eq-eqb _ _ e)
+  sender-is : (v : ℕ) → NumberAt area p 8 v → referenceAt area p .sender ≡ v
+  unfolding valueAt referenceIn
+  sender-is v n = sym (in-record area p 0 8 (lit≤ tt) (rw (← add-zero p) at n))
 
-  pub reference-other : (bank ≡ v → ⊥) → false ≡ sameReference (ofBank bank cs) (referenceAt area p)
-  unfolding sameReference
-  reference-other e = rw (sender-is, ne-eqb _ _ e)
+  module _ (t : Bool) (u : t ≡ equal cs (untilZero (cut area (p + 8) (p + 8 + 16)))) where
+    pub reference-other : t ≡ false → false ≡ sameReference (ofBank bank cs) (referenceAt area p)
+    unfolding sameReference
+    reference-other d = rw (text-is, ← u, d) (go (eqb bank (referenceAt area p .sender)))
+      where
+        go : (x : Bool) → false ≡ (x && false)
+        go true = refl
+        go false = refl
+
+    pub reference-bank : t ≡ true → (v : ℕ) → NumberAt area p 8 v → eqb bank v ≡ sameReference (ofBank bank cs) (referenceAt area p)
+    unfolding sameReference
+    reference-bank d v n = rw (sender-is v n, text-is, ← u, d) (go (eqb bank v))
+      where
+        go : (x : Bool) → x ≡ (x && true)
+        go true = refl
+        go false = refl
 
 -- ---- among those of an area: the k records from p on answer for all
 
@@ -143,4 +135,4 @@ module _ (area : List ℕ) (r : Reference) where
       unfolding any
       among-on d = record { room = omega (arith, m .room); same = rw (values-next referenceIn area p k h, ← u, d) at (m .same) }
 
-pub ruleset used = (ends-byte, ends-room, match-start, match-on, match-not, match-end, match-room, reference-bank, reference-other, among-start, among-end, among-found, among-on)
+pub ruleset used = (ends-byte, ends-room, text-other, text-same, reference-other, reference-bank, among-start, among-end, among-found, among-on)

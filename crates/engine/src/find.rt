@@ -1,13 +1,11 @@
 // A position looked up by its bank and date.
 use crate::positions::position_at;
-use written::Position;
+use text::number_at;
 ghost use mathlib.Core.Path.{_≡_};
-ghost use mathlib.Core.Bool.{_&&_};
-ghost use Prim.Native.Nat.{_+_, _*_, _≤_};
-ghost use lib.Dec.{eqb};
+ghost use Prim.Native.Nat.{_+_, _≤_};
 ghost use lib.ListN.{length};
 ghost use Rattle.engine.specs.Positions.{positionsAt};
-ghost use Rattle.engine.specs.Find.{TotalsOf};
+ghost use Rattle.engine.specs.Find.{isOf, TotalsOf};
 
 // The totals of a position, and whether it is open; a missing one has 0 and 0.
 pub struct Totals {
@@ -16,18 +14,19 @@ pub struct Totals {
     pub detailed: u64,
 }
 
-// Is the position of this bank and date?
-fn is_of(q: Position, bank: u64, date: u32) -> bool
-    ensures { λ r. ⌜ r ≡ (eqb (q .bank) bank && eqb (q .date) date) ⌝ }
+// Is the position at a place of this bank and date?
+fn is_of(area: &[u8], p: usize, bank: u64, date: u32) -> bool
+    requires { ⌜ p + 24 ≤ length (now area) ⌝ }
+    ensures { λ r. ⌜ r ≡ isOf (now (area .entry)) p bank date ⌝ }
 {
-    if q.bank == bank {
-        return q.date == date;
+    if number_at(area, p + 8, 3) == date as u64 {
+        return number_at(area, p, 8) == bank;
     }
     false
 }
 
 // The position of a bank and date among the first n.
-pub fn find_position(area: &[u8], n: usize, bank: u64, date: u32) -> Totals
+pub fn find_position(area: &[u8], n: u32, bank: u64, date: u32) -> Totals
     requires { ⌜ n ≤ 32 ⌝ }
     requires { ⌜ 2320 ≤ length (now area) ⌝ }
     ensures { λ r. ⌜ TotalsOf (positionsAt (now (area .entry)) 1552 n) bank date r ⌝ }
@@ -35,8 +34,8 @@ pub fn find_position(area: &[u8], n: usize, bank: u64, date: u32) -> Totals
     let mut p: usize = 1552;
     let mut k = n;
     while k > 0 {
-        let q = position_at(area, p);
-        if is_of(q, bank, date) {
+        if is_of(area, p, bank, date) {
+            let q = position_at(area, p);
             return Totals {
                 is_open: true,
                 transferred: q.transferred,

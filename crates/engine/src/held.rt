@@ -20,7 +20,7 @@ pub fn totals_of(area: &[u8], bank: u64, date: u32) -> Totals
     requires { ⌜ isSome (holds (now area)) ≡ true ⌝ }
     ensures { λ r. ⌜ TotalsOf (decode (now (area .entry)) .positions) bank date r ⌝ }
 {
-    find_position(area, number_at(area, 7, 1) as usize, bank, date)
+    find_position(area, number_at(area, 7, 1) as u32, bank, date)
 }
 
 // Was this bank's reference, the bytes of s from a up to b, accepted today?
@@ -32,7 +32,7 @@ pub fn is_used(area: &[u8], bank: u64, s: &[u8], a: usize, b: usize) -> bool
     requires { ⌜ every isText (cut (now s) a b) ≡ true ⌝ }
     ensures { λ r. ⌜ r ≡ any (sameReference (ofBank bank (cut (now (s .entry)) a b))) (decode (now (area .entry)) .references) ⌝ }
 {
-    reference_used(area, number_at(area, 8, 1) as usize, bank, s, a, b)
+    reference_used(area, number_at(area, 8, 1) as u32, bank, s, a, b)
 }
 
 // Where the register's text ends, which begins at 2,320.

@@ -4,6 +4,7 @@ ghost use mathlib.Core.Path.{_≡_};
 ghost use mathlib.Core.Bool.{true};
 ghost use mathlib.Core.List.{[]};
 ghost use Prim.Native.Nat.{_+_, _-_, _≤_};
+ghost use lib.Dec.{eqb};
 ghost use lib.ListN.{length};
 ghost use Rattle.rules.specs.Text.{isText, every, equal, any};
 ghost use Rattle.rules.specs.Engine.{sameReference};
@@ -23,6 +24,24 @@ fn ends_at(area: &[u8], j: usize, e: usize) -> bool
     true
 }
 
+// Where the n bytes of s from a and those of the area from q differ last, counted from 1: 0 where they are the same.
+fn differ_at(area: &[u8], q: usize, s: &[u8], a: usize, n: u32) -> u32
+    requires { ⌜ q + n ≤ length (now area) ⌝ }
+    requires { ⌜ a + n ≤ length (now s) ⌝ }
+    ensures { λ r. ⌜ eqb r 0 ≡ equal (cut (now (s .entry)) a (a + n)) (cut (now (area .entry)) q (q + n)) ⌝ }
+{
+    let mut k = n;
+    while k > 0 {
+        let same = s[a + k as usize - 1] == area[q + k as usize - 1];
+        if same {
+            k -= 1;
+        } else {
+            return k;
+        }
+    }
+    k
+}
+
 // Are the bytes of s from a up to b the text of the 16 bytes at q?
 fn same_text(area: &[u8], q: usize, s: &[u8], a: usize, b: usize) -> bool
     requires { ⌜ a ≤ b ⌝ }
@@ -32,17 +51,11 @@ fn same_text(area: &[u8], q: usize, s: &[u8], a: usize, b: usize) -> bool
     requires { ⌜ every isText (cut (now s) a b) ≡ true ⌝ }
     ensures { λ r. ⌜ r ≡ equal (cut (now (s .entry)) a b) (untilZero (cut (now (area .entry)) q (q + 16))) ⌝ }
 {
-    let mut i = a;
-    let mut j = q;
-    while i < b {
-        if s[i] == area[j] {
-            i += 1;
-            j += 1;
-        } else {
-            return false;
-        }
+    let n = (b - a) as u32;
+    if differ_at(area, q, s, a, n) != 0 {
+        return false;
     }
-    ends_at(area, j, q + 16)
+    ends_at(area, q + n as usize, q + 16)
 }
 
 // Is the record at p this bank's reference?
@@ -54,15 +67,14 @@ fn same_reference(area: &[u8], p: usize, bank: u64, s: &[u8], a: usize, b: usize
     requires { ⌜ every isText (cut (now s) a b) ≡ true ⌝ }
     ensures { λ r. ⌜ r ≡ sameReference (ofBank bank (cut (now (s .entry)) a b)) (referenceAt (now (area .entry)) p) ⌝ }
 {
-    let sender = number_at(area, p, 8);
-    if bank == sender {
-        return same_text(area, p + 8, s, a, b);
+    if same_text(area, p + 8, s, a, b) {
+        return bank == number_at(area, p, 8);
     }
     false
 }
 
 // Is this bank's reference among the first n?
-pub fn reference_used(area: &[u8], n: usize, bank: u64, s: &[u8], a: usize, b: usize) -> bool
+pub fn reference_used(area: &[u8], n: u32, bank: u64, s: &[u8], a: usize, b: usize) -> bool
     requires { ⌜ n ≤ 64 ⌝ }
     requires { ⌜ 1552 ≤ length (now area) ⌝ }
     requires { ⌜ a ≤ b ⌝ }

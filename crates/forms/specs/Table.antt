@@ -1,5 +1,5 @@
 -- The table of rows as the code holds it, and that it is document 01's.
-use mathlib.Core.Path.{_≡_, refl, ap}
+use mathlib.Core.Path.{_≡_, refl, _∙_}
 use mathlib.Core.Bool.{Bool, true, false}
 use mathlib.Core.List.{List, [], _∷_, _++_, map}
 use Prim.Native.Nat.{ℕ, zero, suc, _+_, _-_, _*_, _/_, _%_, _^_, _≤_, _<_}
@@ -9,7 +9,7 @@ use native.Mathlib.Numerals.{add-one}
 use lib.Dec.{leb, eqb}
 use lib.ListN.{length, getD, take, drop}
 use lib.Seq.{drop-cons}
-use borrow.Author.Tests.{leb-true, eqb-true}
+use borrow.Author.Tests.{leb-true, eqb-true, eq-eqb, ne-eqb}
 use Rattle.rules.specs.Text.{ascii, numberFrom, number, fitsSign, fits}
 use Rattle.rules.specs.Forms as F
 use Rattle.rules.specs.Forms.{nothing, text, reference, account, name, sum, transferRows, detailRows}
@@ -20,9 +20,9 @@ use Rattle.forms.specs.declared.table.Rest.{Rest}
 use Rattle.forms.specs.declared.table.Rest.the-variants.{Nothing, Text, Reference, Account, Name, Sum}
 use Rattle.forms.specs.declared.table.Row.{Row}
 
--- the patterns of all rows, one behind the other, and blanks up to a whole number of eights
+-- the patterns of all rows, one behind the other, and blanks up to a whole number of fours
 unfoldable pub heads : List ℕ
-heads = ascii ":20::23B:CRED:32A:nnnnnnaaa:50K:/:52D:aaaannnn:57D:aaaannnn:59:/:71A:aaa:72:/DTYPE/PORD/BAEREF/nnnnnn/CENTRB/:21::32B:aaa:50H:/ccccccccccccccccccccccPAYnnnnnn:70:CENTRBnnnnnnBAEREFnnnnnn      "
+heads = ascii ":20::23B:CRED:32A:nnnnnnaaa:50K:/:52D:aaaannnn:57D:aaaannnn:59:/:71A:aaa:72:/DTYPE/PORD/BAEREF/nnnnnn/CENTRB/:21::32B:aaa:50H:/ccccccccccccccccccccccPAYnnnnnn:70:CENTRBnnnnnnBAEREFnnnnnn  "
 
 abbrev row : ℕ → ℕ → Rest → Bool → Row
 row b n r m = record { 0 = b; 1 = n; 2 = r; 3 = m }
@@ -118,29 +118,29 @@ all-roomy = refl
 pub row-told : {k : ℕ} {r : Row} → k < 40 → r ≡ codeAt k → RowAt k r
 row-told {k} l e = record { same = e; room = rw e (leb-true _ _ (below-at roomy 40 all-roomy k l)) }
 
-pub heads-length : length heads ≡ 192
+pub heads-length : length heads ≡ 188
 unfolding heads
 heads-length = refl
 
--- ---- the heads as numbers of eight signs each
+-- ---- the heads as numbers of four signs each
 
 unfoldable pub wordAt : ℕ → ℕ
-wordAt j = number (cut heads (j * 8) (j * 8 + 8))
+wordAt j = number (cut heads (j * 4) (j * 4 + 4))
 
 -- a sign in its number
 abbrev pub signIn : ℕ → ℕ → ℕ
-signIn w j = w / 2 ^ (56 - j * 8) % 256
+signIn w j = w / 2 ^ (24 - j * 8) % 256
 
 abbrev agrees : ℕ → Bool
-agrees i = eqb (signIn (wordAt (i / 8)) (i % 8)) (getD heads i 0)
+agrees i = eqb (signIn (wordAt (i / 4)) (i % 4)) (getD heads i 0)
 
-all-agree : below agrees 192 ≡ true
+all-agree : below agrees 186 ≡ true
 unfolding heads wordAt cut numberFrom
 all-agree = refl
 
 -- each sign stands in its number
-pub sign-told : (i w : ℕ) → i < 192 → w ≡ wordAt (i / 8) → signIn w (i % 8) ≡ getD heads i 0
-sign-told i w l e = rw e (eqb-true _ _ (below-at agrees 192 all-agree i l))
+pub sign-told : (i w : ℕ) → i < 186 → w ≡ wordAt (i / 4) → signIn w (i % 4) ≡ getD heads i 0
+sign-told i w l e = rw e (eqb-true _ _ (below-at agrees 186 all-agree i l))
 
 -- ---- bytes held against the heads, sign by sign
 
@@ -152,11 +152,11 @@ module _ (b : ℕ) (s : List ℕ) (a n k : ℕ) (x : Bool) (inv : fits (cut head
     pub head-more : q ≡ true → fits (cut heads (b + (k + 1)) (b + n)) (cut s (a + (k + 1)) (a + n)) ≡ x
     head-more d = pairs-more fits fitsSign fits-pairs heads s b a n k x inv h (omega (arith, heads-length)) m q sign-held d
 
-    pub head-bad : q ≡ false → false ≡ x
-    head-bad d = pairs-bad fits fitsSign fits-pairs heads s b a n k x inv h (omega (arith, heads-length)) m q sign-held d
+    pub head-bad : q ≡ false → eqb k n ≡ x
+    head-bad d = ne-eqb k n (λ (z : k ≡ n). omega arith) ∙ pairs-bad fits fitsSign fits-pairs heads s b a n k x inv h (omega (arith, heads-length)) m q sign-held d
 
-  pub head-end : k ≤ n → n ≤ k → true ≡ x
-  head-end h l = pairs-end fits fitsSign fits-pairs heads s b a n k x inv h l
+  pub head-end : k ≤ n → n ≤ k → eqb k n ≡ x
+  head-end h l = eq-eqb k n (omega arith) ∙ pairs-end fits fitsSign fits-pairs heads s b a n k x inv h l
 
 pub ruleset signs = (add-zero, sign-told, head-more, head-bad, head-end)
 

@@ -53,13 +53,13 @@ pub fn row_fits(s: &[u8], a: usize, e: usize, row: Row) -> bool
     requires { ⌜ row .0 + row .1 ≤ 186 ⌝ }
     ensures { λ r. ⌜ r ≡ fitsRow (rowOf row) (cut (now (s .entry)) a e) ⌝ }
 {
-    let start = row.0 as usize;
+    let start = row.0 as u32;
     let size = row.1 as usize;
     let rest = row.2;
     if e - a < size {
         return false;
     }
-    if head_fits(start, s, a, size) {
+    if head_fits(start, s, a, size as u32) {
         return rest_fits(rest, s, a + size, e);
     }
     false

@@ -2,6 +2,7 @@
 use text::fits_sign;
 ghost use mathlib.Core.Path.{_≡_};
 ghost use Prim.Native.Nat.{_+_, _<_, _≤_};
+ghost use lib.Dec.{eqb};
 ghost use lib.ListN.{length, getD};
 ghost use Rattle.rules.specs.Text.{fits};
 ghost use Rattle.laws.specs.Parts.{cut};
@@ -69,62 +70,94 @@ pub fn row_at(k: usize) -> Row
     }
 }
 
-// The signs of all heads, one behind the other, eight to a number.
-fn eight_signs(i: usize) -> u64
-    requires { ⌜ i < 24 ⌝ }
+// The signs of all heads, one behind the other, four to a number.
+fn four_signs(i: u32) -> u32
+    requires { ⌜ i < 47 ⌝ }
     ensures { λ r. ⌜ r ≡ wordAt i ⌝ }
 {
     match i {
-        0 => 0x3a32303a3a323342, // :20::23B
-        1 => 0x3a435245443a3332, // :CRED:32
-        2 => 0x413a6e6e6e6e6e6e, // A:nnnnnn
-        3 => 0x6161613a35304b3a, // aaa:50K:
-        4 => 0x2f3a3532443a6161, // /:52D:aa
-        5 => 0x61616e6e6e6e3a35, // aannnn:5
-        6 => 0x37443a616161616e, // 7D:aaaan
-        7 => 0x6e6e6e3a35393a2f, // nnn:59:/
-        8 => 0x3a3731413a616161, // :71A:aaa
-        9 => 0x3a37323a2f445459, // :72:/DTY
-        10 => 0x50452f504f52442f, // PE/PORD/
-        11 => 0x4241455245462f6e, // BAEREF/n
-        12 => 0x6e6e6e6e6e2f4345, // nnnnn/CE
-        13 => 0x4e5452422f3a3231, // NTRB/:21
-        14 => 0x3a3a3332423a6161, // ::32B:aa
-        15 => 0x613a3530483a2f63, // a:50H:/c
-        16 => 0x6363636363636363, // cccccccc
-        17 => 0x6363636363636363, // cccccccc
-        18 => 0x6363636363504159, // cccccPAY
-        19 => 0x6e6e6e6e6e6e3a37, // nnnnnn:7
-        20 => 0x303a43454e545242, // 0:CENTRB
-        21 => 0x6e6e6e6e6e6e4241, // nnnnnnBA
-        22 => 0x455245466e6e6e6e, // EREFnnnn
-        _ => 0x6e6e202020202020, // nn
+        0 => 0x3a32303a, // :20:
+        1 => 0x3a323342, // :23B
+        2 => 0x3a435245, // :CRE
+        3 => 0x443a3332, // D:32
+        4 => 0x413a6e6e, // A:nn
+        5 => 0x6e6e6e6e, // nnnn
+        6 => 0x6161613a, // aaa:
+        7 => 0x35304b3a, // 50K:
+        8 => 0x2f3a3532, // /:52
+        9 => 0x443a6161, // D:aa
+        10 => 0x61616e6e, // aann
+        11 => 0x6e6e3a35, // nn:5
+        12 => 0x37443a61, // 7D:a
+        13 => 0x6161616e, // aaan
+        14 => 0x6e6e6e3a, // nnn:
+        15 => 0x35393a2f, // 59:/
+        16 => 0x3a373141, // :71A
+        17 => 0x3a616161, // :aaa
+        18 => 0x3a37323a, // :72:
+        19 => 0x2f445459, // /DTY
+        20 => 0x50452f50, // PE/P
+        21 => 0x4f52442f, // ORD/
+        22 => 0x42414552, // BAER
+        23 => 0x45462f6e, // EF/n
+        24 => 0x6e6e6e6e, // nnnn
+        25 => 0x6e2f4345, // n/CE
+        26 => 0x4e545242, // NTRB
+        27 => 0x2f3a3231, // /:21
+        28 => 0x3a3a3332, // ::32
+        29 => 0x423a6161, // B:aa
+        30 => 0x613a3530, // a:50
+        31 => 0x483a2f63, // H:/c
+        32 => 0x63636363, // cccc
+        33 => 0x63636363, // cccc
+        34 => 0x63636363, // cccc
+        35 => 0x63636363, // cccc
+        36 => 0x63636363, // cccc
+        37 => 0x63504159, // cPAY
+        38 => 0x6e6e6e6e, // nnnn
+        39 => 0x6e6e3a37, // nn:7
+        40 => 0x303a4345, // 0:CE
+        41 => 0x4e545242, // NTRB
+        42 => 0x6e6e6e6e, // nnnn
+        43 => 0x6e6e4241, // nnBA
+        44 => 0x45524546, // EREF
+        45 => 0x6e6e6e6e, // nnnn
+        _ => 0x6e6e2020, // nn
     }
 }
 
 // One of them.
-fn sign_at(i: usize) -> u8
-    requires { ⌜ i < 192 ⌝ }
+fn sign_at(i: u32) -> u8
+    requires { ⌜ i < 186 ⌝ }
     ensures { λ r. ⌜ r ≡ getD heads i 0 ⌝ }
 {
-    let word = eight_signs(i / 8);
-    let below = 56 - i % 8 * 8;
+    let word = four_signs(i / 4);
+    let below = 24 - i % 4 * 8;
     ((word >> below) % 256) as u8
 }
 
+// How many of the n bytes from a fit their signs, of the heads from b on: n where all do.
+fn signs_held(b: u32, s: &[u8], a: usize, n: u32) -> u32
+    requires { ⌜ b + n ≤ 186 ⌝ }
+    requires { ⌜ a + n ≤ length (now s) ⌝ }
+    ensures { λ r. ⌜ eqb r n ≡ fits (cut heads b (b + n)) (cut (now (s .entry)) a (a + n)) ⌝ }
+{
+    let mut k: u32 = 0;
+    while k < n {
+        if fits_sign(sign_at(b + k), s[a + k as usize]) {
+            k += 1;
+        } else {
+            return k;
+        }
+    }
+    k
+}
+
 // Do the n bytes from a fit the n signs of the heads from b?
-pub fn head_fits(b: usize, s: &[u8], a: usize, n: usize) -> bool
+pub fn head_fits(b: u32, s: &[u8], a: usize, n: u32) -> bool
     requires { ⌜ b + n ≤ 186 ⌝ }
     requires { ⌜ a + n ≤ length (now s) ⌝ }
     ensures { λ r. ⌜ r ≡ fits (cut heads b (b + n)) (cut (now (s .entry)) a (a + n)) ⌝ }
 {
-    let mut k = 0;
-    while k < n {
-        if fits_sign(sign_at(b + k), s[a + k]) {
-            k += 1;
-        } else {
-            return false;
-        }
-    }
-    true
+    signs_held(b, s, a, n) == n
 }

@@ -1,83 +1,87 @@
--- Numbers in places, to any base: how a loop writes them from the last place to the first, and how many a decimal number has.
--- Assumes nothing.
+-- Numbers in places, to any base: parts of them, groups of them, and how many a decimal number has. Assumes nothing.
 use mathlib.Core.Path.{_≡_, refl, sym, ap, _∙_}
 use mathlib.Core.Bool.{Bool, true, false, cond}
 use mathlib.Core.List.{List, [], _∷_, _++_}
-use Prim.Native.Nat.{ℕ, zero, suc, _+_, _-_, _*_, _/_, _%_, _^_, _≤_, _<_}
-use native.Mathlib.Nat.{pow-zero, pow-suc, pow-succ', div-one, div-div-eq-div-mul, div-mul-le-self, mod-eq-sub-div-mul, mod-lt, div-lt-iff-lt-mul, lt-of-lt-of-le}
+use Prim.Native.Nat.{ℕ, zero, suc, _+_, _-_, _*_, _/_, _%_, _^_, _≤_, _<_, max}
+use native.Mathlib.Nat.{zero-add, add-zero, suc-add, mul-comm, mul-assoc, pow-zero, pow-suc, pow-le-pow-right, div-one, zero-div, zero-mod, div-eq-of-lt, div-div-eq-div-mul, div-lt-iff-lt-mul, le-div-iff-mul-le, mod-add-div, add-mul-div-left, add-mul-mod-self-left}
 use native.Mathlib.Omega.{arith}
 use lib.Dec.{lit<, lit≤, leb}
-use lib.ListN.{length}
-use borrow.Author.Tests.{le-leb, lt-leb, leb-true}
-use Rattle.rules.specs.Text.{places, width, fixed, decimal}
-use Rattle.rules.specs.Amounts.{written}
-use Rattle.laws.specs.Laid.{laid, laid-append, laid-apart, laid-length}
-use Rattle.laws.specs.Writing.{Wrote, ahead, furthest, laid-ahead, wrote-then}
+use lib.Pow.{pow-add}
+use lib.ListN.{length, take, drop}
+use lib.Seq.{take-at, drop-at}
+use borrow.Author.Tests.{le-leb, lt-leb, leb-true, leb-false}
+use Rattle.rules.specs.Text.{places, width, fixed, bytes, decimal}
+use Rattle.laws.specs.Parts.{cut}
+use Rattle.laws.specs.Writing.{ahead, filled}
 
 pub places-length : (base null k v : ℕ) → length (places base null k v) ≡ k
 unfolding places
 places-length base null zero v = refl
 places-length base null (suc k) v = ap suc (places-length base null k v)
 
--- the last place stands behind the places of the number without it
-pub places-last : (base null k v : ℕ) → places base null (suc k) v ≡ places base null k (v / base) ++ (null + v % base) ∷ []
-unfolding places
-places-last base null zero v = rw (pow-zero, div-one)
-places-last base null (suc k) v =
-    let e : v / base ^ suc k ≡ v / base / base ^ k = ap (λ (n : ℕ). v / n) (pow-succ' base k) ∙ sym (div-div-eq-div-mul v base (base ^ k)) in
-    ap (λ (l : List ℕ). (null + v / base ^ suc k % base) ∷ l) (places-last base null k v) ∙ rw e
-
--- q is the quotient of a number, and what q makes up of it leaves the remainder
-pub record Divided (v by q : ℕ) : Type 0 where
-  pub quotient : q ≡ v / by
-  pub below : q * by ≤ v
-  pub rest : v - q * by ≡ v % by
-  pub small : v % by < by
-
-pub divided : (v by q : ℕ) → 0 < by → q ≡ v / by → Divided v by q
-divided v by q h e = record {
-  quotient = e;
-  below = rw e (div-mul-le-self v by);
-  rest = rw e (sym (mod-eq-sub-div-mul v by));
-  small = mod-lt v h;
-}
-
 -- the place behind them
 pub ahead-places : (base null k v at r : ℕ) → r ≡ ahead at k → r ≡ ahead at (length (places base null k v))
 ahead-places base null k v at r e = rw places-length e
 
--- ---- a loop that writes k places of v, the last first: the first m are left, and they are those of the number rest
+-- ---- parts of the places
 
-pub record Placing (base null m rest at : ℕ) (out : List ℕ) (k v : ℕ) (start : List ℕ) : Type 0 where
-  pub fewer : m ≤ k
-  pub output : laid (places base null m rest) at out ≡ laid (places base null k v) at start
-  pub short : length out ≤ furthest
+-- two groups: the upper ones are those of the quotient
+pub places-split : (base null j k v : ℕ) → places base null (j + k) v ≡ places base null j (v / base ^ k) ++ places base null k v
+unfolding places
+places-split base null zero k v = rw zero-add
+places-split base null (suc j) k v =
+    let e : v / base ^ (j + k) ≡ v / base ^ k / base ^ j = ap (λ (n : ℕ). v / n) (pow-add base j k ∙ mul-comm (base ^ j) (base ^ k)) ∙ sym (div-div-eq-div-mul v (base ^ k) (base ^ j)) in
+    rw (suc-add, e, places-split base null j k v)
 
-module _ {base null m rest at k v : ℕ} {out start : List ℕ} (l : Placing base null m rest at out k v start) where
-  pub placing-turn : {p q d r : ℕ} {out' : List ℕ} → 0 < m → p ≡ ahead at (m - 1) → Divided rest base q → d ≡ null + rest % base
-      → Wrote (d ∷ []) p out r out' → Placing base null (m - 1) q at out' k v start
-  placing-turn {p} {q} {d} {r} {out'} h ep eq ed w =
-      let j : ℕ = m - 1 in
-      let e : m ≡ suc j = omega arith in
-      let one : out' ≡ laid (d ∷ []) (at + j) out = w .output ∙ rw (ep, laid-ahead (d ∷ []) at j out (l .short)) in
-      let all : laid (places base null m rest) at out ≡ laid (d ∷ []) (at + j) (laid (places base null j q) at out) =
-      ap (λ (n : ℕ). laid (places base null n rest) at out) e ∙ rw (places-last base null j rest, ← eq .quotient, ← ed, laid-append, places-length) in record {
-        fewer = omega arith;
-        output = rw (one, laid-apart (places base null j q) (d ∷ []) at (at + j) out (rw places-length (omega arith)), ← all) (l .output);
-        short = rw (one, laid-length) (l .short);
-      }
+-- what stands between b places above and c below
+places-between : (base null a b c v : ℕ) → cut (places base null (a + b + c) v) a (a + b) ≡ places base null b (v / base ^ c)
+unfolding cut
+places-between base null a b c v =
+    let w : ℕ = v / base ^ c in
+    let low : take (a + b) (places base null (a + b + c) v) ≡ places base null (a + b) w =
+    rw places-split (take-at (places base null (a + b) w) (places base null c v) (a + b) (places-length base null (a + b) w)) in
+    ap (drop a) low ∙ rw places-split (drop-at (places base null a (w / base ^ b)) (places base null b w) a (places-length base null a (w / base ^ b)))
 
-  pub placing-length : length out ≡ length start
-  placing-length = sym (laid-length (places base null m rest) at out) ∙ ap length (l .output) ∙ laid-length (places base null k v) at start
+pub places-part : (base null n a b v : ℕ) → a ≤ b → b ≤ n → cut (places base null n v) a b ≡ places base null (b - a) (v / base ^ (n - b))
+places-part base null n a b v h l =
+    let e : n ≡ a + (b - a) + (n - b) = omega arith in
+    let f : b ≡ a + (b - a) = omega arith in
+    ap (λ (m : ℕ). cut (places base null m v) a b) e ∙ ap (cut (places base null (a + (b - a) + (n - b)) v) a) f ∙ places-between base null a (b - a) (n - b) v
 
-  pub placing-end : {r : ℕ} → m ≤ 0 → r ≡ ahead at k → Wrote (places base null k v) at start r out
-  unfolding places laid
-  placing-end h e =
-      let z : m ≡ 0 = omega arith in record {
-        cursor = rw places-length e;
-        output = rw z at (l .output);
-        short = rw placing-length at (l .short);
-      }
+-- the last k of n
+pub places-end : (base null n k v : ℕ) → k ≤ n → cut (places base null n v) (n - k) n ≡ places base null k v
+places-end base null n k v h =
+    let e : n - (n - k) ≡ k = omega arith in
+    let z : n - n ≡ 0 = omega arith in
+    places-part base null n (n - k) n v (omega arith) (omega arith) ∙ rw (e, z, pow-zero, div-one)
+
+power-some : (base k : ℕ) → 0 < base → 0 < base ^ k
+power-some base k h = let p : base ^ 0 ≤ base ^ k = pow-le-pow-right h (omega arith) in rw pow-zero at p
+
+-- k places say nothing of what stands above them
+places-low : (base null k x m : ℕ) → 0 < base → places base null k (m + base ^ k * x) ≡ places base null k m
+unfolding places
+places-low base null zero x m h = refl
+places-low base null (suc k) x m h =
+    let e : base ^ suc k * x ≡ base ^ k * (base * x) = ap (λ (n : ℕ). n * x) (pow-suc base k) ∙ mul-assoc (base ^ k) base x in
+    let d : (m + base ^ k * (base * x)) / base ^ k % base ≡ m / base ^ k % base = rw (add-mul-div-left m (base * x) (power-some base k h)) (add-mul-mod-self-left (m / base ^ k) base x) in
+    rw (e, d, places-low base null k (base * x) m h)
+
+pub places-rest : (base null n k v : ℕ) → 0 < base → k ≤ n → places base null k (v % base ^ n) ≡ places base null k v
+places-rest base null n k v h l =
+    let b : n ≡ k + (n - k) = omega arith in
+    let p : base ^ n ≡ base ^ k * base ^ (n - k) = ap (λ (m : ℕ). base ^ m) b ∙ pow-add base k (n - k) in
+    let e : base ^ k * (base ^ (n - k) * (v / base ^ n)) ≡ base ^ n * (v / base ^ n) = sym (mul-assoc (base ^ k) (base ^ (n - k)) (v / base ^ n)) ∙ ap (λ (m : ℕ). m * (v / base ^ n)) (sym p) in
+    sym (places-low base null k (base ^ (n - k) * (v / base ^ n)) (v % base ^ n) h) ∙ ap (places base null k) (rw e (mod-add-div v (base ^ n)))
+
+-- above a number's places all are null
+places-null : (base null j : ℕ) → places base null j 0 ≡ filled j null
+unfolding places filled
+places-null base null zero = refl
+places-null base null (suc j) = rw (zero-div, zero-mod, add-zero, places-null base null j)
+
+pub places-front : (base null j k v : ℕ) → v < base ^ k → places base null (j + k) v ≡ filled j null ++ places base null k v
+places-front base null j k v h = places-split base null j k v ∙ rw (div-eq-of-lt h, places-null)
 
 -- ---- how many digits a number has
 
@@ -132,35 +136,67 @@ width-power (suc k) v h = go (leb v 9) refl (width-power k (v / 10) (tenth-small
     go true e l = omega (arith, leb-true v 9 e)
     go false e l = rw pow-suc (div-lt-iff-lt-mul (lit< tt) .0 l)
 
--- ---- a loop that counts digits: k are counted, the last of them being the first of rest
+-- a number of k + 1 digits
+pub width-at : (n k v : ℕ) → k ≤ n → 10 ^ k ≤ v → v < 10 ^ suc k → width n v ≡ suc k
+width-at n zero v h l m = width-one n v (omega arith)
+width-at zero (suc k) v h l m = absurd (omega arith)
+width-at (suc n) (suc k) v h l m =
+    let low : 10 ^ k ≤ v / 10 = le-div-iff-mul-le (lit< tt) .1 (rw pow-suc at l) in
+    let high : v / 10 < 10 ^ suc k = tenth-small (suc k) v m in
+    let one : 9 < v = omega (arith, low, power-some 10 k (lit< tt)) in
+    width-more n v one ∙ ap suc (width-at n k (v / 10) (omega arith) low high)
 
-pub record Counted (k rest v : ℕ) : Type 0 where
-  pub few : k ≤ 20
-  pub small : rest < 10 ^ 20
-  pub count : k + width 19 rest ≡ 1 + width 19 v
+-- as comparisons find it
+pub width-is : (k v r : ℕ) → k ≤ 19 → 10 ^ k ≤ v → v < 10 ^ suc k → r ≡ suc k → r ≡ width 19 v
+width-is k v r h l m e = e ∙ sym (width-at 19 k v h l m)
 
-pub count-start : (v : ℕ) → v < 2 ^ 64 → Counted 1 v v
-count-start v h = record { few = lit≤ tt; small = lt-of-lt-of-le h (lit≤ tt); count = refl }
+pub width-first : (v r : ℕ) → v < 10 → r ≡ 1 → r ≡ width 19 v
+width-first v r m e = e ∙ sym (width-one 19 v (omega arith))
 
-module _ {k rest v : ℕ} (c : Counted k rest v) where
-  pub count-turn : {r : ℕ} → 9 < rest → Divided rest 10 r → Counted (k + 1) r v
-  count-turn {r} h d =
-      let n : width 19 rest ≡ suc (width 19 r) =
-      width-more 18 rest h ∙ ap suc (sym (width-bound 18 (rest / 10) (tenth-small 19 rest (c .small))) ∙ rw (d .quotient)) in record {
-        few = omega (arith, c .count, width-some 19 r, width-most 19 v);
-        small = omega (arith, c .small, d .quotient);
-        count = omega (arith, c .count);
-      }
+-- a digit less, and the number without its last one
+width-tenth : (v : ℕ) → v < 10 ^ 20 → 9 < v → width 19 v ≡ suc (width 19 (v / 10))
+width-tenth v h l = width-more 18 v l ∙ ap suc (sym (width-bound 18 (v / 10) (tenth-small 19 v h)))
 
-  pub count-end : rest ≤ 9 → k ≡ width 19 v
-  count-end h = omega (arith, c .count, width-one 19 rest h)
+-- the levs of some stotinki have two digits less, and one at least
+pub width-levs : (v : ℕ) → v < 10 ^ 20 → width 19 (v / 100) ≡ max 1 (width 19 v - 2)
+width-levs v h = go (leb v 9) refl (leb (v / 10) 9) refl
+  where
+    go : (b : Bool) → leb v 9 ≡ b → (d : Bool) → leb (v / 10) 9 ≡ d → width 19 (v / 100) ≡ max 1 (width 19 v - 2)
+    go true e d f = omega (arith, leb-true v 9 e, width-one 19 v (leb-true v 9 e), width-one 19 (v / 100) (omega (arith, leb-true v 9 e)))
+    go false e true f = omega (arith, leb-true (v / 10) 9 f, width-tenth v h (leb-false v 9 e), width-one 19 (v / 10) (leb-true (v / 10) 9 f), width-one 19 (v / 100) (omega (arith, leb-true (v / 10) 9 f)))
+    go false e false f =
+        let q : v / 10 / 10 ≡ v / 100 = omega arith in
+        let t : width 19 (v / 10) ≡ suc (width 19 (v / 100)) = rw q at (width-tenth (v / 10) (omega arith) (leb-false (v / 10) 9 f)) in
+        omega (arith, width-tenth v h (leb-false v 9 e), t, width-some 19 (v / 100))
 
--- the decimal number, where its width was counted
-pub decimal-wrote : (k v : ℕ) {at r : ℕ} {out out' : List ℕ} → k ≡ width 19 v → Wrote (fixed k v) at out r out' → Wrote (decimal v) at out r out'
-decimal-wrote k v e w = rw e at w
+-- ---- groups of places
 
--- an amount: levs, a mark, and what is over in two digits
-pub amount-wrote : (v q mark : ℕ) {at m n r : ℕ} {out out₁ out₂ out' : List ℕ} → Divided v 100 q → Wrote (decimal q) at out m out₁ → Wrote (mark ∷ []) m out₁ n out₂
-    → Wrote (fixed 2 (v - q * 100)) n out₂ r out' → Wrote (written (mark ∷ []) v) at out r out'
-unfolding written
-amount-wrote v q mark d x y z = wrote-then (wrote-then (rw (d .quotient) at x) y) (rw (d .rest) at z)
+four-same : (a b c d x y z w : ℕ) → a ≡ x → b ≡ y → c ≡ z → d ≡ w → a ∷ b ∷ c ∷ d ∷ [] ≡ x ∷ y ∷ z ∷ w ∷ []
+four-same a b c d x y z w e f g h = rw (e, f, g, h)
+
+joined : (xs ys zs ws : List ℕ) → xs ≡ zs → ys ≡ ws → xs ++ ys ≡ zs ++ ws
+joined xs ys zs ws e f = rw (e, f)
+
+-- eight places: four of the quotient, four of the rest
+two-fours : (base null v h l : ℕ) → 0 < base → h ≡ v / base ^ 4 → l ≡ v % base ^ 4 → places base null 4 h ++ places base null 4 l ≡ places base null 8 v
+two-fours base null v h l b p q = rw (p, q, places-rest base null 4 4 v b (lit≤ tt)) (sym (places-split base null 4 4 v))
+
+-- four digits, by repeated division
+four-is : (v : ℕ) → v < 10000 → (48 + v / 10 / 10 / 10) ∷ (48 + (v / 10 / 10 - v / 10 / 10 / 10 * 10)) ∷ (48 + (v / 10 - v / 10 / 10 * 10)) ∷ (48 + (v - v / 10 * 10)) ∷ [] ≡ fixed 4 v
+unfolding places
+four-is v h = four-same _ _ _ _ (48 + v / 10 ^ 3 % 10) (48 + v / 10 ^ 2 % 10) (48 + v / 10 ^ 1 % 10) (48 + v / 10 ^ 0 % 10) (omega arith) (omega arith) (omega arith) (omega arith)
+
+pub eight-is : (v h l : ℕ) → v < 100000000 → h ≡ v / 10000 → l ≡ v - h * 10000 →
+    (48 + h / 10 / 10 / 10) ∷ (48 + (h / 10 / 10 - h / 10 / 10 / 10 * 10)) ∷ (48 + (h / 10 - h / 10 / 10 * 10)) ∷ (48 + (h - h / 10 * 10))
+    ∷ (48 + l / 10 / 10 / 10) ∷ (48 + (l / 10 / 10 - l / 10 / 10 / 10 * 10)) ∷ (48 + (l / 10 - l / 10 / 10 * 10)) ∷ (48 + (l - l / 10 * 10)) ∷ []
+    ≡ fixed 8 v
+eight-is v h l b p q = joined _ _ _ _ (four-is h (omega arith)) (four-is l (omega arith)) ∙ two-fours 10 48 v h l (lit< tt) p (omega arith)
+
+-- four bytes of a number
+four-bytes : (v : ℕ) → v < 4294967296 → (v / 16777216) ∷ (v / 65536 % 256) ∷ (v / 256 % 256) ∷ (v % 256) ∷ [] ≡ bytes 4 v
+unfolding places
+four-bytes v h = four-same _ _ _ _ (0 + v / 256 ^ 3 % 256) (0 + v / 256 ^ 2 % 256) (0 + v / 256 ^ 1 % 256) (0 + v / 256 ^ 0 % 256) (omega arith) (omega arith) (omega arith) (omega arith)
+
+pub eight-bytes : (v h l : ℕ) → v < 2 ^ 64 → h ≡ v / 4294967296 → l ≡ v % 4294967296 →
+    (h / 16777216) ∷ (h / 65536 % 256) ∷ (h / 256 % 256) ∷ (h % 256) ∷ (l / 16777216) ∷ (l / 65536 % 256) ∷ (l / 256 % 256) ∷ (l % 256) ∷ [] ≡ bytes 8 v
+eight-bytes v h l b p q = joined _ _ _ _ (four-bytes h (omega arith)) (four-bytes l (omega arith)) ∙ two-fours 256 0 v h l (lit< tt) p q

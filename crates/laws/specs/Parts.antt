@@ -6,7 +6,7 @@ use Prim.Native.Nat.{ℕ, zero, suc, _+_, _-_, _≤_, _<_, min}
 use native.Mathlib.Nat.{zero-add, suc-add}
 use native.Mathlib.Numerals.{add-one}
 use native.Mathlib.Omega.{arith}
-use lib.ListN.{length, getD, take, drop, length-take, length-drop, drop-of-length-le}
+use lib.ListN.{length, getD, take, drop, length-take, length-drop, drop-of-length-le, take-append-drop}
 use lib.Seq.{slice-cons, slice-empty, length-slice, take-nil, take-take, take-all, take-length, take-suc, length-take-le, drop-drop, drop-cons, drop-append-le, getD-take, getD-drop}
 
 -- the bytes from index a up to, and without, index b
@@ -63,6 +63,10 @@ module _ (s : List ℕ) (a b : ℕ) where
   pub cut-cut : (k m : ℕ) → a + m ≤ b → cut (cut s a b) k m ≡ cut s (a + k) (a + m)
   unfolding cut
   cut-cut k m h = ap (λ (l : List ℕ). drop k l) (cut-take m h) ∙ drop-drop k a (take (a + m) s)
+
+-- two parts, one behind the other
+pub cut-join : (s : List ℕ) (a k b : ℕ) → a + k ≤ b → cut s a (a + k) ++ cut s (a + k) b ≡ cut s a b
+cut-join s a k b h = rw (← cut-take s a b k h, ← cut-drop s a b k) (take-append-drop k (cut s a b))
 
 -- the whole list
 pub cut-all : (s : List ℕ) → cut s 0 (length s) ≡ s

@@ -55,6 +55,9 @@ and-held a b t r u h e = rw (← u, h) e
 pub and-failed : (a b t : Bool) → t ≡ a → t ≡ false → t ≡ (a && b)
 and-failed a b t u h = rw (← u, h)
 
+pub and-off : (a b t : Bool) → t ≡ a → t ≡ false → false ≡ (a && b)
+and-off a b t u h = rw (← u, h)
+
 -- the answer of `a || b` in code
 pub or-held : (a b t : Bool) → t ≡ a → t ≡ true → t ≡ (a || b)
 or-held a b t u h = rw (← u, h)

@@ -5,12 +5,12 @@ use mathlib.Core.Path.{_≡_, refl, sym, ap, _∙_}
 use mathlib.Core.Logic.{_⊎_, inl, inr}
 use mathlib.Core.List.{List, [], _∷_, _++_}
 use Prim.Native.Nat.{ℕ, zero, suc, _+_, _-_, _^_, _≤_, _<_, min}
-use native.Mathlib.Nat.{eq-or-lt-of-le}
+use native.Mathlib.Nat.{add-zero, eq-or-lt-of-le}
 use native.Mathlib.Omega.{arith}
 use native.Mathlib.Numerals.{add-one}
-use lib.ListN.{length, getD, set, length-append}
+use lib.ListN.{length, getD, set, replicate, length-append, length-replicate, replicate-append-replicate}
 use lib.Seq.{slice-cons, slice-empty}
-use Rattle.rules.specs.Text.{over}
+use Rattle.rules.specs.Text.{ascii, over}
 use Rattle.rules.specs.Area.{zeros}
 use Rattle.laws.specs.Parts.{cut, cut-length}
 use Rattle.laws.specs.Laid.{laid, laid-append, laid-length, laid-behind, over-laid}
@@ -79,6 +79,11 @@ pub laid-inside : (b at : ℕ) (out : List ℕ) → set out at b ≡ laid (b ∷
 unfolding laid
 laid-inside b at out = refl
 
+-- a byte stored where there is room
+pub stored : (b at : ℕ) (out : List ℕ) → at < length out → length out ≤ furthest → Wrote (b ∷ []) at out (at + 1) (set out at b)
+unfolding ahead
+stored b at out h s = record { cursor = omega arith; output = laid-inside b at out; short = s }
+
 pub wrote-length : {bs out out' : List ℕ} {at r : ℕ} → Wrote bs at out r out' → length out' ≡ length out
 wrote-length {bs} {out} {at = at} w = ap length (w .output) ∙ laid-length bs at out
 
@@ -90,6 +95,14 @@ wrote-then {a} {b} {out} {at = at} v w = record {
       (laid-ahead b at (length a) (laid a at out) (rw laid-length (v .short)));
   short = v .short;
 }
+
+-- the end of a line, by its two bytes
+pub end-wrote : {out out₁ out₂ : List ℕ} {at m r : ℕ} → Wrote (13 ∷ []) at out m out₁ → Wrote (10 ∷ []) m out₁ r out₂ → Wrote (ascii "\r\n") at out r out₂
+end-wrote v w = wrote-then v w
+
+-- a part told by its length
+pub part-wrote : (s : List ℕ) (a b : ℕ) {out out' : List ℕ} {at r : ℕ} → a ≤ b → Wrote (cut s a (a + (b - a))) at out r out' → Wrote (cut s a b) at out r out'
+part-wrote s a b h w = let e : a + (b - a) ≡ b = omega arith in rw e at w
 
 -- a text was written from the first place on, perhaps over nothing: against a room of m bytes its end tells its length
 module _ {text out out' : List ℕ} {r : ℕ} (w : Wrote text 0 out r out') (m : ℕ) where
@@ -139,17 +152,65 @@ module _ (src : List ℕ) (i end : ℕ) {whole start out : List ℕ} {at o : ℕ
   unfolding cut
   copy-end l h k = let e : i ≡ end = omega arith in left-none (rw (e, slice-empty) at l)
 
--- ---- a loop that writes zeros: k of them are left
+-- and one that stores them itself: k of n are stored
+pub copy-start : (src : List ℕ) (a n : ℕ) {out : List ℕ} {at : ℕ} → length out ≤ furthest → Left (cut src (a + 0) (a + n)) (at + 0) out (cut src a (a + n)) at out
+copy-start src a n {at = at} h = record { cursor = rw (add-zero, add-zero); output = rw (add-zero, add-zero); short = h }
 
-zeros-front : (k : ℕ) → 0 < k → zeros k ≡ (0 ∷ []) ++ zeros (k - 1)
-unfolding zeros
-zeros-front zero h = absurd (omega arith)
-zeros-front (suc k) h = let e : suc k - 1 ≡ k = omega arith in rw e
+pub copy-on : (src : List ℕ) (a n k : ℕ) {whole start out : List ℕ} {at : ℕ} → Left (cut src (a + k) (a + n)) (at + k) out whole at start → k < n → a + n ≤ length src → at + n ≤ length out
+    → Left (cut src (a + (k + 1)) (a + n)) (at + (k + 1)) (set out (at + k) (getD src (a + k) 0)) whole at start
+copy-on src a n k {at = at} l h m r =
+    let e : a + (k + 1) ≡ a + k + 1 = omega arith in
+    let f : at + (k + 1) ≡ at + k + 1 = omega arith in
+    rw (e, f) (copy-turn src (a + k) (a + n) l (omega arith) m (stored _ _ _ (omega arith) (l .short)))
 
-module _ (k : ℕ) {whole start out : List ℕ} {at o : ℕ} where
-  pub zeros-turn : {o' : ℕ} {out' : List ℕ} → Left (zeros k) o out whole at start → 0 < k → Wrote (0 ∷ []) o out o' out' → Left (zeros (k - 1)) o' out' whole at start
-  zeros-turn l h w = left-turn {b = 0 ∷ []} (rw (zeros-front k h) at l) w
+-- ---- one byte again and again
 
-  pub zeros-end : Left (zeros k) o out whole at start → k ≤ 0 → Wrote whole at start o out
-  unfolding zeros
-  zeros-end l h = let e : k ≡ 0 = omega arith in left-none (rw e at l)
+-- a byte n times
+unfoldable pub filled : ℕ → ℕ → List ℕ
+filled n b = replicate n b
+
+pub filled-length : (n b : ℕ) → length (filled n b) ≡ n
+unfolding filled
+filled-length n b = length-replicate n b
+
+pub ahead-filled : (n b at r : ℕ) → r ≡ ahead at n → r ≡ ahead at (length (filled n b))
+ahead-filled n b at r e = rw filled-length e
+
+filled-front : (n b : ℕ) → 0 < n → filled n b ≡ (b ∷ []) ++ filled (n - 1) b
+unfolding filled
+filled-front zero b h = absurd (omega arith)
+filled-front (suc n) b h = let e : suc n - 1 ≡ n = omega arith in rw e
+
+-- the loop that stores them, up to the place end
+pub fill-start : (b n at : ℕ) {out : List ℕ} → length out ≤ furthest → Left (filled (at + n - at) b) at out (filled n b) at out
+fill-start b n at h = let e : at + n - at ≡ n = omega arith in rw e record { cursor = refl; output = refl; short = h }
+
+module _ (b i end : ℕ) {whole start out : List ℕ} {at : ℕ} (l : Left (filled (end - i) b) i out whole at start) where
+  pub fill-turn : i < end → end ≤ length out → Left (filled (end - (i + 1)) b) (i + 1) (set out i b) whole at start
+  fill-turn h m =
+      let e : end - i - 1 ≡ end - (i + 1) = omega arith in
+      rw e at (left-turn {b = b ∷ []} (rw (filled-front (end - i) b (omega arith)) at l) (stored b i out (omega arith) (l .short)))
+
+  pub fill-end : end ≤ i → out ≡ laid whole at start
+  unfolding filled
+  fill-end h = let e : end - i ≡ 0 = omega arith in left-none (rw e at l) .output
+
+-- as many of them as the output has room for
+laid-filled : (n m b at : ℕ) (out : List ℕ) → m ≡ min n (length out - at) → laid (filled m b) at out ≡ laid (filled n b) at out
+unfolding filled laid
+laid-filled n m b at out e = sym (ap (λ (k : ℕ). laid (replicate k b) at out) j ∙ rw (← replicate-append-replicate, laid-append, length-replicate) (pick (eq-or-lt-of-le (omega arith))))
+  where
+    j : n ≡ m + (n - m)
+    j = omega arith
+
+    pick : (m ≡ n) ⊎ (m < n) → laid (replicate (n - m) b) (at + m) (laid (replicate m b) at out) ≡ laid (replicate m b) at out
+    pick (inl q) = let z : n - m ≡ 0 = omega arith in rw z
+    pick (inr l) = laid-behind (replicate (n - m) b) (at + m) (laid (replicate m b) at out) (rw laid-length (omega arith))
+
+pub filled-wrote : (n m b at r : ℕ) {out out' : List ℕ} → out' ≡ laid (filled m b) at out → m ≡ min n (length out - at) → length out ≤ furthest → r ≡ ahead at n → Wrote (filled n b) at out r out'
+filled-wrote n m b at r {out} w e s c = record { cursor = rw filled-length c; output = w ∙ laid-filled n m b at out e; short = s }
+
+-- zeros
+pub zeros-wrote : (n : ℕ) {at r : ℕ} {out out' : List ℕ} → Wrote (filled n 0) at out r out' → Wrote (zeros n) at out r out'
+unfolding filled zeros
+zeros-wrote n w = w

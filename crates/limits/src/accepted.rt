@@ -1,45 +1,30 @@
 // The section of the references accepted today: each of the right form, all distinct, and zeros behind them.
+use crate::header::zeros_at;
 use crate::header::zeros_hold;
-use text::Class;
 ghost use mathlib.Core.Path.{_≡_};
-ghost use mathlib.Core.Bool.{not};
 ghost use Prim.Native.Nat.{_+_, _*_, _≤_};
+ghost use lib.Dec.{eqb};
 ghost use lib.ListN.{length};
+ghost use Rattle.rules.specs.Text.{equal};
 ghost use Rattle.laws.specs.Parts.{cut};
 ghost use Rattle.area.specs.Walk.{walk, always};
 ghost use Rattle.area.specs.Tests.{textFits, referenceTest, otherTest, newTest, referencesTest};
-ghost use Rattle.area.specs.Texts.{Ends, endedFits};
+ghost use Rattle.area.specs.Texts.{endedFits};
 
-// Where the text that begins at a ends: before the first zero, at b at the latest.
-pub fn text_end(s: &[u8], a: usize, b: usize) -> usize
-    requires { ⌜ a ≤ b ⌝ }
-    requires { ⌜ b ≤ length (now s) ⌝ }
-    ensures { λ r. ⌜ Ends (now (s .entry)) a b r ⌝ }
+// Are the n bytes at a, a text's, a reference that 5 lets pass, with zeros behind them up to 16?
+fn ended_fits(s: &[u8], a: usize, n: u32) -> bool
+    requires { ⌜ n ≤ 16 ⌝ }
+    requires { ⌜ a + 16 ≤ length (now s) ⌝ }
+    ensures { λ r. ⌜ r ≡ endedFits (now (s .entry)) a n ⌝ }
 {
-    let mut i = a;
-    while i < b {
-        if s[i] == 0 {
-            return i;
-        }
-        i += 1;
-    }
-    i
-}
-
-// Is the text from a up to e a reference that 5 lets pass, with zeros behind it up to b?
-fn ended_fits(s: &[u8], a: usize, e: usize, b: usize) -> bool
-    requires { ⌜ a ≤ e ⌝ }
-    requires { ⌜ e ≤ b ⌝ }
-    requires { ⌜ b ≤ length (now s) ⌝ }
-    ensures { λ r. ⌜ r ≡ endedFits (now (s .entry)) a e b ⌝ }
-{
-    if !text::run_in(Class::Text, 1, 16, s, a, e) {
+    if n < 1 {
         return false;
     }
-    if references::is_slashed(s, a, e) {
+    let end = a + n as usize;
+    if references::is_slashed(s, a, end) {
         return false;
     }
-    zeros_hold(s, e, b)
+    zeros_at(s, end, 16 - n) == 16 - n
 }
 
 // Do the 16 bytes at a hold a reference's text?
@@ -47,8 +32,7 @@ fn text_fits(s: &[u8], a: usize) -> bool
     requires { ⌜ a + 16 ≤ length (now s) ⌝ }
     ensures { λ r. ⌜ r ≡ textFits (cut (now (s .entry)) a (a + 16)) ⌝ }
 {
-    let b = a + 16;
-    ended_fits(s, a, text_end(s, a, b), b)
+    ended_fits(s, a, text::texts_at(s, a, 16))
 }
 
 // Is the record there a bank's reference?
@@ -63,7 +47,7 @@ fn reference_fits(area: &[u8], p: usize) -> bool
 }
 
 // Is each of the n records a bank's reference?
-fn references_fit(area: &[u8], n: usize) -> bool
+fn references_fit(area: &[u8], n: u32) -> bool
     requires { ⌜ n ≤ 64 ⌝ }
     requires { ⌜ 2320 ≤ length (now area) ⌝ }
     ensures { λ r. ⌜ r ≡ walk (always (referenceTest (now (area .entry)))) n 16 ⌝ }
@@ -81,17 +65,35 @@ fn references_fit(area: &[u8], n: usize) -> bool
     true
 }
 
+// Where the records at two places differ last, counted from 1: 0 where they are equal.
+fn differ_at(area: &[u8], p: usize, q: usize) -> u32
+    requires { ⌜ p + 24 ≤ length (now area) ⌝ }
+    requires { ⌜ q + 24 ≤ length (now area) ⌝ }
+    ensures { λ r. ⌜ eqb r 0 ≡ equal (cut (now (area .entry)) p (p + 24)) (cut (now (area .entry)) q (q + 24)) ⌝ }
+{
+    let mut k: u32 = 24;
+    while k > 0 {
+        let same = area[p + k as usize - 1] == area[q + k as usize - 1];
+        if same {
+            k -= 1;
+        } else {
+            return k;
+        }
+    }
+    k
+}
+
 // Do the records at two places differ?
 fn differs(area: &[u8], p: usize, q: usize) -> bool
     requires { ⌜ p + 24 ≤ length (now area) ⌝ }
     requires { ⌜ q + 24 ≤ length (now area) ⌝ }
     ensures { λ r. ⌜ r ≡ otherTest (now (area .entry)) p q ⌝ }
 {
-    !text::equal_parts(area, p, area, q, 24)
+    differ_at(area, p, q) != 0
 }
 
 // Does the record there differ from the n behind it?
-fn is_new(area: &[u8], p: usize, n: usize) -> bool
+fn is_new(area: &[u8], p: usize, n: u32) -> bool
     requires { ⌜ p + 24 + 24 * n ≤ length (now area) ⌝ }
     ensures { λ r. ⌜ r ≡ newTest (now (area .entry)) n p ⌝ }
 {
@@ -109,7 +111,7 @@ fn is_new(area: &[u8], p: usize, n: usize) -> bool
 }
 
 // Are the n records distinct?
-fn references_new(area: &[u8], n: usize) -> bool
+fn references_new(area: &[u8], n: u32) -> bool
     requires { ⌜ n ≤ 64 ⌝ }
     requires { ⌜ 2320 ≤ length (now area) ⌝ }
     ensures { λ r. ⌜ r ≡ walk (newTest (now (area .entry))) n 16 ⌝ }
@@ -128,7 +130,7 @@ fn references_new(area: &[u8], n: usize) -> bool
 }
 
 // Does the section of n references pass?
-pub fn references_hold(area: &[u8], n: usize) -> bool
+pub fn references_hold(area: &[u8], n: u32) -> bool
     requires { ⌜ n ≤ 64 ⌝ }
     requires { ⌜ 2320 ≤ length (now area) ⌝ }
     ensures { λ r. ⌜ r ≡ referencesTest (now (area .entry)) n ⌝ }
@@ -139,5 +141,5 @@ pub fn references_hold(area: &[u8], n: usize) -> bool
     if !references_new(area, n) {
         return false;
     }
-    zeros_hold(area, 16 + 24 * n, 1552)
+    zeros_hold(area, (16 + 24 * n) as usize, 1552)
 }

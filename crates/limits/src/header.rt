@@ -1,12 +1,14 @@
 // Numbers and zeros of an area, and its header.
 ghost use mathlib.Core.Path.{_≡_};
 ghost use mathlib.Core.Bool.{_&&_};
-ghost use Prim.Native.Nat.{_-_, _≤_};
+ghost use Prim.Native.Nat.{_+_, _-_, _*_, _≤_};
+ghost use lib.Dec.{eqb};
 ghost use lib.ListN.{length};
 ghost use Rattle.rules.specs.Text.{every, equal, number};
 ghost use Rattle.rules.specs.Dates.{exists};
 ghost use Rattle.rules.specs.Area.{mark};
 ghost use Rattle.laws.specs.Parts.{cut};
+ghost use Rattle.laws.specs.Places.{Passed};
 ghost use Rattle.area.specs.Tests.{isZero, countsTest, headerTest};
 
 // A number of at most 4 bytes.
@@ -19,22 +21,70 @@ pub fn small_at(s: &[u8], a: usize, b: usize) -> u32
     text::read_be(s, a, b) as u32
 }
 
+// How many of the n bytes from a are zero, up to the first that is not.
+pub fn zeros_at(s: &[u8], a: usize, n: u32) -> u32
+    requires { ⌜ a + n ≤ length (now s) ⌝ }
+    ensures { λ r. ⌜ Passed isZero (now (s .entry)) a n r ⌝ }
+{
+    let mut k: u32 = 0;
+    while k < n {
+        let zero = s[a + k as usize] == 0;
+        if zero {
+            k += 1;
+        } else {
+            return k;
+        }
+    }
+    k
+}
+
+// The or of the four bytes there.
+fn or_four(s: &[u8], a: usize) -> u8
+    requires { ⌜ a + 4 ≤ length (now s) ⌝ }
+    ensures { λ r. ⌜ eqb r 0 ≡ every isZero (cut (now (s .entry)) a (a + 4)) ⌝ }
+{
+    s[a] | s[a + 1] | s[a + 2] | s[a + 3]
+}
+
+// Are the eight bytes there zero?
+fn eight_zero(s: &[u8], a: usize) -> bool
+    requires { ⌜ a + 8 ≤ length (now s) ⌝ }
+    ensures { λ r. ⌜ r ≡ every isZero (cut (now (s .entry)) a (a + 8)) ⌝ }
+{
+    or_four(s, a) | or_four(s, a + 4) == 0
+}
+
+// How many of the n eights of bytes from a are zero, up to the first that is not.
+fn eights_at(s: &[u8], a: usize, n: u32) -> u32
+    requires { ⌜ n ≤ 768 ⌝ }
+    requires { ⌜ a + 8 * n ≤ length (now s) ⌝ }
+    ensures { λ r. ⌜ eqb r n ≡ every isZero (cut (now (s .entry)) a (a + 8 * n)) ⌝ }
+{
+    let mut k: u32 = 0;
+    while k < n {
+        if eight_zero(s, a + (8 * k) as usize) {
+            k += 1;
+        } else {
+            return k;
+        }
+    }
+    k
+}
+
 // Is each byte from a up to b zero?
 pub fn zeros_hold(s: &[u8], a: usize, b: usize) -> bool
     requires { ⌜ a ≤ b ⌝ }
+    requires { ⌜ b - a ≤ 6144 ⌝ }
     requires { ⌜ b ≤ length (now s) ⌝ }
     ensures { λ r. ⌜ r ≡ every isZero (cut (now (s .entry)) a b) ⌝ }
 {
-    let mut i = a;
-    while i < b {
-        let zero = s[i] == 0;
-        if zero {
-            i += 1;
-        } else {
-            return false;
-        }
+    let n = (b - a) as u32;
+    let m = n / 8;
+    if eights_at(s, a, m) != m {
+        return false;
     }
-    true
+    let rest = n - 8 * m;
+    zeros_at(s, a + (8 * m) as usize, rest) == rest
 }
 
 // Are the outgoing count and the numbers of positions and references within their limits?

@@ -58,7 +58,7 @@ fn position_fits(area: &[u8], p: usize, day: u32) -> bool
 }
 
 // Is each of the n positions within the limits?
-fn positions_fit(area: &[u8], n: usize, day: u32) -> bool
+fn positions_fit(area: &[u8], n: u32, day: u32) -> bool
     requires { ⌜ n ≤ 32 ⌝ }
     requires { ⌜ 2320 ≤ length (now area) ⌝ }
     ensures { λ r. ⌜ r ≡ walk (always (positionTest day (now (area .entry)))) n 1552 ⌝ }
@@ -107,7 +107,7 @@ fn in_order(area: &[u8], p: usize) -> bool
 }
 
 // One less, and 0 where there is none.
-fn before_last(n: usize) -> usize
+fn before_last(n: u32) -> u32
     ensures { λ r. ⌜ r ≡ n - 1 ⌝ }
 {
     if n < 1 {
@@ -117,7 +117,7 @@ fn before_last(n: usize) -> usize
 }
 
 // Do the n positions stand in order?
-fn positions_ordered(area: &[u8], n: usize) -> bool
+fn positions_ordered(area: &[u8], n: u32) -> bool
     requires { ⌜ n ≤ 32 ⌝ }
     requires { ⌜ 2320 ≤ length (now area) ⌝ }
     ensures { λ r. ⌜ r ≡ walk (always (orderTest (now (area .entry)))) (n - 1) 1552 ⌝ }
@@ -136,7 +136,7 @@ fn positions_ordered(area: &[u8], n: usize) -> bool
 }
 
 // Does the section of n positions pass?
-pub fn positions_hold(area: &[u8], n: usize, day: u32) -> bool
+pub fn positions_hold(area: &[u8], n: u32, day: u32) -> bool
     requires { ⌜ n ≤ 32 ⌝ }
     requires { ⌜ 2320 ≤ length (now area) ⌝ }
     ensures { λ r. ⌜ r ≡ positionsTest day (now (area .entry)) n ⌝ }
@@ -147,5 +147,5 @@ pub fn positions_hold(area: &[u8], n: usize, day: u32) -> bool
     if !positions_ordered(area, n) {
         return false;
     }
-    zeros_hold(area, 1552 + 24 * n, 2320)
+    zeros_hold(area, (1552 + 24 * n) as usize, 2320)
 }

@@ -43,7 +43,7 @@ fn references_pass(area: &[u8]) -> bool
     requires { ⌜ number (cut (now area) 8 9) ≤ 64 ⌝ }
     ensures { λ r. ⌜ r ≡ referencesTest (now (area .entry)) (number (cut (now (area .entry)) 8 9)) ⌝ }
 {
-    references_hold(area, small_at(area, 8, 9) as usize)
+    references_hold(area, small_at(area, 8, 9))
 }
 
 // Do the positions pass?
@@ -52,7 +52,7 @@ fn positions_pass(area: &[u8]) -> bool
     requires { ⌜ number (cut (now area) 7 8) ≤ 32 ⌝ }
     ensures { λ r. ⌜ r ≡ positionsTest (number (cut (now (area .entry)) 2 5)) (now (area .entry)) (number (cut (now (area .entry)) 7 8)) ⌝ }
 {
-    positions_hold(area, small_at(area, 7, 8) as usize, small_at(area, 2, 5))
+    positions_hold(area, small_at(area, 7, 8), small_at(area, 2, 5))
 }
 
 // Do the texts pass?

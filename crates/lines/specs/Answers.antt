@@ -2,10 +2,10 @@
 use mathlib.Core.Path.{_≡_, subst}
 use mathlib.Core.List.{List}
 use mathlib.Core.Option.{none, some}
-use Prim.Native.Nat.{ℕ, _+_, _≤_}
-use lib.ListN.{length}
+use Prim.Native.Nat.{ℕ, _+_, _≤_, _<_}
+use lib.ListN.{length, getD}
 use denote.Ref.{RefT}
-use Rattle.rules.specs.Lines.{Taken, line}
+use Rattle.rules.specs.Lines.{Taken, lead, line}
 use Rattle.laws.specs.Parts.{cut, from}
 use Rattle.lines.specs.declared.line.Next.{Next}
 use Rattle.lines.specs.declared.reader.Reader.{Reader}
@@ -40,6 +40,12 @@ module _ (s : List ℕ) (at : ℕ) (r : Next) (h : LineAt s at r) where
 
   pub no-line-told : r ≡ Bad → NoLine s at
   no-line-told k = subst (Told s at) k (h .told)
+
+-- of n bytes from `at` on, r stand before the first CR or LF: they begin the line, whatever goes on behind them
+pub record Plain (s : List ℕ) (at n r : ℕ) : Type 0 where
+  pub few : r ≤ n
+  pub same : lead (cut s at (at + r)) (line (from s (at + r))) ≡ line (from s at)
+  pub stop : r < n → (getD s (at + r) 0 ≡ 13 → ⊥) → getD s (at + r) 0 ≡ 10
 
 -- the line reader over a text, at a place
 abbrev pub over : RefT (List ℕ) → ℕ → Reader

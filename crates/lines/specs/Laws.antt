@@ -1,20 +1,23 @@
 -- Lines taken off a text one by one: a law for each way out of the loop to a line's end, and how the lines of a text and its closing line follow from its
 -- first line and what stands behind it.
 use mathlib.Core.Path.{_≡_, refl, sym, ap, _∙_}
-use mathlib.Core.Bool.{Bool, true, false, cond}
+use mathlib.Core.Bool.{Bool, true, false, _&&_, cond}
 use mathlib.Core.List.{List, [], _∷_, _++_, append-assoc, append-nil}
 use mathlib.Core.Option.{Option, none, some, Option·map}
-use Prim.Native.Nat.{ℕ, _+_, _-_, _≤_, _<_}
+use mathlib.Core.Logic.{_⊎_, inl, inr}
+use Prim.Native.Nat.{ℕ, zero, suc, _+_, _-_, _≤_, _<_}
+use native.Mathlib.Nat.{add-zero, eq-or-lt-of-le}
 use native.Mathlib.Omega.{arith}
-use lib.ListN.{length, getD}
-use lib.Dec.{eqb}
+use lib.ListN.{length, getD, drop, length-append}
+use lib.Seq.{drop-at, drop-drop}
+use lib.Dec.{leb, eqb}
 use borrow.Author.Tests.{le-leb, lt-leb, eq-eqb, ne-eqb, eqb-true}
 use Rattle.rules.specs.Text.{ascii, equal, fits, then}
 use Rattle.rules.specs.Lines.{Line, Taken, lead, line, lines, begun, before, closes, inLines, closing, opening, framed}
-use Rattle.laws.specs.Parts.{cut, from, cut-done, cut-snoc, cut-all, from-step, from-done, from-length, from-cut}
+use Rattle.laws.specs.Parts.{cut, from, cut-done, cut-snoc, cut-all, from-step, from-done, from-length, from-cut, from-all}
 use Rattle.laws.specs.Equal.{equal-true}
-use Rattle.laws.specs.Tests.{not-held}
-use Rattle.lines.specs.Answers.{taken, LineEnd, NoLine, line-told, no-line-told}
+use Rattle.laws.specs.Tests.{not-held, never, and-left, and-right}
+use Rattle.lines.specs.Answers.{taken, LineEnd, NoLine, Plain, line-told, no-line-told}
 
 -- ---- bytes before a line
 
@@ -90,6 +93,36 @@ module _ (s : List ℕ) (at i : ℕ) (x : Option Taken) (inv : lead (cut s at i)
 
       pub line-on : (getD s i 0 ≡ 10 → ⊥) → at ≤ i → lead (cut s at (i + 1)) (line (from s (i + 1))) ≡ x
       line-on d k = rw (cut-snoc s at i k (omega arith), lead-more, from-step s (i + 1) h, ← byte-on _ _ (from s (i + 1 + 1)) c d) two
+
+-- ---- the bytes before the first CR or LF, counted from `at` on
+
+pub plain-starts : (s : List ℕ) (at : ℕ) → lead (cut s at (at + 0)) (line (from s (at + 0))) ≡ line (from s at)
+plain-starts s at = rw add-zero (line-starts s at)
+
+module _ (s : List ℕ) (at n k : ℕ) (inv : lead (cut s at (at + k)) (line (from s (at + k))) ≡ line (from s at)) where
+  module _ (h : k < n) (l : at + n ≤ length s) where
+    pub plain-on : (getD s (at + k) 0 ≡ 13 → ⊥) → (getD s (at + k) 0 ≡ 10 → ⊥) → lead (cut s at (at + (k + 1))) (line (from s (at + (k + 1)))) ≡ line (from s at)
+    plain-on c d = let e : at + (k + 1) ≡ at + k + 1 = omega arith in rw e (go (eq-or-lt-of-le (omega arith)))
+      where
+        go : (at + k + 1 ≡ length s) ⊎ (at + k + 1 < length s) → lead (cut s at (at + k + 1)) (line (from s (at + k + 1))) ≡ line (from s at)
+        go (inl q) = rw (few s (at + k + 1) (omega arith), lead-none) (sym (line-out s at (at + k) _ inv (omega arith)))
+        go (inr q) = line-on s at (at + k) _ inv q c d (omega arith)
+
+    pub plain-far : 14 ≤ getD s (at + k) 0 → lead (cut s at (at + (k + 1))) (line (from s (at + (k + 1)))) ≡ line (from s at)
+    plain-far c = plain-on (λ d. omega arith) (λ d. omega arith)
+
+    pub plain-cr : getD s (at + k) 0 ≡ 13 → Plain s at n k
+    plain-cr c = record { few = omega arith; same = inv; stop = λ h d. absurd (d c) }
+
+    pub plain-lf : getD s (at + k) 0 ≡ 10 → Plain s at n k
+    plain-lf c = record { few = omega arith; same = inv; stop = λ h d. c }
+
+  pub plain-end : k ≤ n → n ≤ k → Plain s at n k
+  plain-end h l = record { few = h; same = inv; stop = λ j d. absurd (omega arith) }
+
+-- no CR at the first of them: LF
+pub plain-bad : (s : List ℕ) (at n k : ℕ) → Plain s at n k → at + k + 1 < length s → at + n ≡ length s → (getD s (at + k) 0 ≡ 13 → ⊥) → line (from s at) ≡ none
+plain-bad s at n k p h e c = line-lf s at (at + k) _ (p .same) h c (p .stop (omega arith) c)
 
 -- ---- all lines of a text
 
@@ -196,10 +229,51 @@ module _ (s : List ℕ) (at : ℕ) where
 
 -- ---- the frame
 
+-- the last three bytes of a text that has others before them
+last-three : (p cs : List ℕ) → 3 ≤ length cs → from (p ++ cs) (length (p ++ cs) - 3) ≡ from cs (length cs - 3)
+unfolding from
+last-three p cs h =
+    let e : length (p ++ cs) - 3 ≡ length p + (length cs - 3) = omega (arith, length-append p cs) in
+    rw e (sym (drop-drop (length cs - 3) (length p) (p ++ cs)) ∙ ap (drop (length cs - 3)) (drop-at p cs (length p) refl))
+
+closing-size : (cs : List ℕ) → closing cs ≡ true → length cs ≡ 3
+unfolding closing
+closing-size cs h = ap (λ (l : List ℕ). length l) (equal-true cs (ascii "-\r\n") h)
+
+-- so does what stands behind a first line
+ends-step : (cs : List ℕ) (n : ℕ) → length cs ≤ suc n → inLines (lines cs) ≡ true → ((ds : List ℕ) → length ds ≤ n → inLines (lines ds) ≡ true → closing (from ds (length ds - 3)) ≡ true)
+    → closing (from cs (length cs - 3)) ≡ true
+ends-step cs n l h rec = go (line cs) refl (closing cs) refl
+  where
+    go : (o : Option Taken) → line cs ≡ o → (b : Bool) → closing cs ≡ b → closing (from cs (length cs - 3)) ≡ true
+    go none e b f = never (sym (none-closes cs e) ∙ h)
+    go (some t) e true f = let z : length cs - 3 ≡ 0 = omega (arith, closing-size cs f) in rw (z, from-all) f
+    go (some t) e false f =
+        let p : cs ≡ t .line ++ (13 ∷ 10 ∷ []) ++ t .others = line-splits cs t e ∙ sym (append-assoc (t .line) (13 ∷ 10 ∷ []) (t .others)) in
+        let k : inLines (lines (t .others)) ≡ true = closes-behind (t .line) (t .others) (rw (← line-splits cs t e) f) ∙ sym (rw (lines-taken cs t e)) ∙ h in
+        let m : length cs ≡ length (t .line) + 2 + length (t .others) = ap (λ (x : List ℕ). length x) p ∙ rw (length-append, length-append) in
+        let r : closing (from (t .others) (length (t .others) - 3)) ≡ true = rec (t .others) (omega arith) k in
+        let z : 3 ≤ length (t .others) = omega (arith, closing-size _ r, from-length (t .others) (length (t .others) - 3)) in
+        ap (λ (x : List ℕ). closing (from x (length x - 3))) p ∙ rw (last-three (t .line ++ (13 ∷ 10 ∷ [])) (t .others) z) r
+
+-- a text in lines ends in the closing line; n is at least its length
+ends : (n : ℕ) (cs : List ℕ) → length cs ≤ n → inLines (lines cs) ≡ true → closing (from cs (length cs - 3)) ≡ true
+unfolding lines closes
+ends zero cs l h = empty cs l h
+  where
+    empty : (cs : List ℕ) → length cs ≤ 0 → inLines (lines cs) ≡ true → closing (from cs (length cs - 3)) ≡ true
+    empty [] l h = never h
+    empty (c ∷ cs) l h = absurd (omega arith)
+ends (suc n) cs l h = ends-step cs n l h (ends n)
+
 module _ (s : List ℕ) where
   pub framed-long : 4096 < length s → false ≡ framed s
   unfolding framed
   framed-long h = rw (lt-leb _ _ h)
+
+  pub framed-open : (b : Bool) → b ≡ closing (from s (length s - 3)) → b ≡ false → false ≡ framed s
+  unfolding framed
+  framed-open b u k = not-held _ (λ x. never (sym k ∙ u ∙ ends (length s) s (omega arith) (and-right (leb (length s) 4096) (inLines (lines s)) (and-left (leb (length s) 4096 && inLines (lines s)) (opening s) x))))
 
   module _ (h : length s ≤ 4096) (b : Bool) (u : b ≡ inLines (lines s)) where
     pub framed-not : b ≡ false → false ≡ framed s
@@ -210,4 +284,4 @@ module _ (s : List ℕ) where
     unfolding framed opening cut
     framed-opens k r e = rw (le-leb _ _ h, ← u, k) e
 
-pub ruleset framing = (line-told, no-line-told, line-starts, line-out, line-ends, line-cr, line-lf, line-on, closes-never, closes-now, closes-bad, closes-on, closing-long, closing-part, framed-long, framed-not, framed-opens)
+pub ruleset framing = (line-told, no-line-told, line-starts, line-out, line-ends, line-cr, line-lf, line-on, plain-starts, plain-on, plain-far, plain-cr, plain-lf, plain-end, closes-never, closes-now, closes-bad, closes-on, closing-long, closing-part, framed-long, framed-open, framed-not, framed-opens)

@@ -4,7 +4,7 @@ use crate::reader::next_line;
 use text::equal_parts;
 use text::fits_pattern;
 ghost use mathlib.Core.Path.{_≡_};
-ghost use Prim.Native.Nat.{_≤_};
+ghost use Prim.Native.Nat.{_-_, _≤_};
 ghost use lib.ListN.{length};
 ghost use Rattle.rules.specs.Lines.{lines, inLines, closing, framed};
 ghost use Rattle.laws.specs.Parts.{from};
@@ -41,6 +41,16 @@ fn in_lines(s: &[u8]) -> bool
     false
 }
 
+// Do the last bytes make the closing line?
+fn ends_closed(s: &[u8]) -> bool
+    ensures { λ r. ⌜ r ≡ closing (from (now (s .entry)) (length (now (s .entry)) - 3)) ⌝ }
+{
+    if s.len() < 3 {
+        return false;
+    }
+    closes_at(s, s.len() - 3)
+}
+
 // At most 4,096 bytes, in lines, with the closing line and a first line `type,sender,receiver`?
 pub fn is_framed(s: &[u8]) -> bool
     ensures { λ r. ⌜ r ≡ framed (now (s .entry)) ⌝ }
@@ -48,8 +58,11 @@ pub fn is_framed(s: &[u8]) -> bool
     if 4096 < s.len() {
         return false;
     }
-    if in_lines(s) {
-        return fits_pattern(b"nnn,aaaaaacc,aaaaaacc\r\n", s, 0);
+    if ends_closed(s) {
+        if in_lines(s) {
+            return fits_pattern(b"nnn,aaaaaacc,aaaaaacc\r\n", s, 0);
+        }
+        return false;
     }
     false
 }

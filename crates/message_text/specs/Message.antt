@@ -1,17 +1,17 @@
 -- The text of a message that is booked, off its bytes and the area. Assumes nothing.
 use mathlib.Core.Path.{_≡_, refl, sym, ap, _∙_}
-use mathlib.Core.Bool.{Bool, true, false, not}
-use mathlib.Core.List.{List, append-nil}
+use mathlib.Core.Bool.{Bool, true, false, not, cond}
+use mathlib.Core.List.{List, [], _++_}
 use Prim.Native.Nat.{ℕ, _+_, _-_, _≤_, _<_}
 use native.Mathlib.Omega.{arith}
 use lib.Dec.{leb}
 use lib.ListN.{length, take, drop}
 use Rattle.rules.specs.Text.{isSome}
-use Rattle.rules.specs.Messages.{dateOf}
+use Rattle.rules.specs.Messages.{Message, dateOf, detailsOf}
 use Rattle.rules.specs.Register.{register, registerOf}
-use Rattle.rules.specs.Engine.{hasDetails}
-use Rattle.rules.specs.Written.{partsOf, verdicts}
-use Rattle.rules.specs.Calls.{bankOf, judged, after, postings, messageText, writes}
+use Rattle.rules.specs.Engine.{Engine, Position, hasDetails}
+use Rattle.rules.specs.Written.{mt199s, partsOf, verdicts}
+use Rattle.rules.specs.Calls.{bankOf, judged, after, returnedOf, postings, messageText, writes}
 use Rattle.rules.specs.Area.{decode, holds}
 use Rattle.laws.specs.Parts.{cut, from, from-take}
 use Rattle.laws.specs.Writing.{Wrote, wrote-then}
@@ -24,13 +24,15 @@ use Rattle.engine.specs.Held.{RegisterEnd}
 use Rattle.engine.specs.declared.find.Totals.{Totals}
 use Rattle.steps.specs.Numbers.{NumbersOf}
 use Rattle.steps.specs.declared.parts.Numbers.{Numbers}
-use Rattle.state.specs.Books.{Books, messageIn, amountIf}
-use Rattle.state.specs.declared.booking.Booking.{Booking}
+use Rattle.details.specs.Message.{messageIn, detailsIn}
+use Rattle.conditions.specs.Books.{Books, amountIf}
+use Rattle.conditions.specs.declared.booking.Booking.{Booking}
+use Rattle.verdict.specs.Details.{JudgedIn}
 use Rattle.written.specs.Values.{positionOf}
 use Rattle.written.specs.declared.Position as W
-use Rattle.detail_lines.specs.Returned.{returnedAt, ReturnedCount}
+use Rattle.detail_lines.specs.Returned.{returnedAt, returned-all, ReturnedCount, count-paper}
 use Rattle.message_text.specs.Parts.{PartsOf}
-use Rattle.message_text.specs.Postings.{bookFor, transfer-is, order-is, details-within, details-few, returned-held}
+use Rattle.message_text.specs.Postings.{bookFor, transfer-is, order-is}
 use Rattle.message_text.specs.declared.message.Header.{Header}
 
 -- ---- what the area says
@@ -38,6 +40,13 @@ use Rattle.message_text.specs.declared.message.Header.{Header}
 -- the register's text, which stands up to e
 abbrev pub textIn : List ℕ → ℕ → List ℕ
 textIn a e = take (e - 2320) (drop 2320 a)
+
+pub text-here : (a : List ℕ) (e : ℕ) → RegisterEnd a e → textIn a e ≡ decode a .register
+unfolding from
+text-here a e r = from-take a 2320 (e - 2320) ∙ ap (λ (k : ℕ). cut a 2320 k) (omega (arith, r .low)) ∙ r .text
+
+pub text-passes : (a : List ℕ) (e : ℕ) → isSome (holds a) ≡ true → RegisterEnd a e → isSome (register (textIn a e)) ≡ true
+text-passes a e h r = rw (text-here a e r) (decoded-limits a h .register)
 
 -- day and outgoing count of the engine that the area holds, and where its register's text ends
 pub record HeaderOf (a : List ℕ) (h : Header) : Type 0 where
@@ -57,9 +66,8 @@ module _ (a : List ℕ) (g : isSome (holds a) ≡ true) where
   day-small x n = rw (n .day) (date-small (decode a .day) (decoded-limits a g .day))
 
   pub header-told : (x : Numbers) → NumbersOf a x → (e : ℕ) → RegisterEnd a e → HeaderOf a (record { day = x .day; count = x .count; end = e })
-  unfolding from
   header-told x n e r =
-      let t : textIn a e ≡ decode a .register = from-take a 2320 (e - 2320) ∙ ap (λ (k : ℕ). cut a 2320 k) (omega (arith, r .low)) ∙ r .text in
+      let t : textIn a e ≡ decode a .register = text-here a e r in
       let size : length (decode a .register) ≡ place (count (decode a .register)) = text-size (decode a .register) (decoded-limits a g .register) in
       record {
         day = n .day;
@@ -71,7 +79,7 @@ module _ (a : List ℕ) (g : isSome (holds a) ≡ true) where
         enough = rw t (omega (arith, size));
         short = rw t (omega (arith, decoded-short a g));
         text = t;
-        passes = rw t (decoded-limits a g .register);
+        passes = text-passes a e g r;
       }
 
 -- ---- the position as the message leaves it
@@ -96,7 +104,7 @@ verdictFollows false detailed = true
 pub transfer-follows : (t : Bool) (detailed : ℕ) → t ≡ true → leb 1 detailed ≡ verdictFollows t detailed
 transfer-follows t detailed e = rw e
 
-follows-is : (s : List ℕ) (b : Booking) → Books s b → (p : W.Position) → judged (messageIn s) (positionOf p) ≡ verdictFollows (b .transfer) (p .detailed)
+follows-is : (s : List ℕ) (b : Booking) → Books s (messageIn s) b → (p : W.Position) → judged (messageIn s) (positionOf p) ≡ verdictFollows (b .transfer) (p .detailed)
 unfolding judged hasDetails
 follows-is s b k p = go (b .transfer) refl
   where
@@ -104,35 +112,72 @@ follows-is s b k p = go (b .transfer) refl
     go true e = rw (transfer-is s b k e .same)
     go false e = rw (order-is s b k e .same)
 
--- ---- the text, and how many messages it is
+-- ---- how many messages are written
 
-module _ (a s : List ℕ) (b : Booking) (k : Books s b) (x : Totals) (y : TotalsOf (decode a .positions) (b .bank) (b .date) x) (p : W.Position) (q : AfterOf b x p) (v : Bool) (f : v ≡ verdictFollows (b .transfer) (p .detailed)) where
-  after-is : positionOf p ≡ after (decode a) (messageIn s)
-  unfolding after
-  after-is = rw (q .bank, q .date, q .transferred, q .detailed, y .transferred, y .detailed, ← k .transferred, ← k .detailed, k .bank, k .date)
+-- r of them, so many details being returned
+pub record WritesOf (b : Booking) (p : W.Position) (returned r : ℕ) : Type 0 where
+  pub value : r ≡ cond (verdictFollows (b .transfer) (p .detailed)) (partsOf returned) 0
+  pub few : r ≤ 4096
 
-  judged-is : judged (messageIn s) (after (decode a) (messageIn s)) ≡ v
-  judged-is = rw (← after-is) (follows-is s b k p) ∙ sym f
+module _ (b : Booking) (p : W.Position) (returned : ℕ) (v : Bool) (f : v ≡ verdictFollows (b .transfer) (p .detailed)) where
+  pub writes-parts : v ≡ true → {r : ℕ} → PartsOf returned r → WritesOf b p returned r
+  writes-parts e u = record { value = u .value ∙ rw (← f, e); few = u .few }
 
-  pub writes-none : v ≡ false → 0 ≡ writes (decode a) (messageIn s)
+  pub writes-none : v ≡ false → WritesOf b p returned 0
+  writes-none e = record { value = rw (← f, e); few = omega arith }
+
+-- r of them, as the paper has it
+pub record Writes (e : Engine) (m : Message) (r : ℕ) : Type 0 where
+  pub value : r ≡ writes e m
+  pub few : r ≤ 4096
+
+module _ (a s : List ℕ) (b : Booking) (k : Books s (messageIn s) b) (p : W.Position) (q : positionOf p ≡ after (decode a) (messageIn s)) where
+  judged-is : judged (messageIn s) (after (decode a) (messageIn s)) ≡ verdictFollows (b .transfer) (p .detailed)
+  judged-is = rw (← q) (follows-is s b k p)
+
+  pub writes-told : (amounts places verdicts : List ℕ) → JudgedIn (decode a .register) s amounts places verdicts (b .count) → {n : ℕ} → ReturnedCount verdicts (b .count) n → {r : ℕ} → WritesOf b p n r → Writes (decode a) (messageIn s) r
   unfolding writes
-  writes-none e = rw (judged-is, e)
+  writes-told amounts places verdicts j {n} c {r} w =
+      let e : n ≡ length (returnedOf (registerOf (decode a .register)) (detailsIn s)) = count-paper (decode a .register) s places verdicts (b .count) n (j .lines-kept) (j .verdicts-kept) c in
+      record { value = w .value ∙ rw (judged-is, e) refl; few = w .few }
 
-  module _ (h : Header) (d : HeaderOf a h) where
-    pub writes-parts : v ≡ true → {n : ℕ} → ReturnedCount (textIn a (h .end)) s (b .first) (b .count) n → {r : ℕ} → PartsOf n r → r ≡ writes (decode a) (messageIn s)
-    unfolding writes
-    writes-parts e c u = u .value ∙ ap partsOf (c .value) ∙ rw (judged-is, e, ← d .text, returned-held s b k (textIn a (h .end)))
+-- ---- the position as the message leaves it is the paper's
 
-    module _ {at m : ℕ} {out out₁ : List ℕ} (w : Wrote (postings (registerOf (textIn a (h .end))) (bookFor (h .day) (textIn a (h .end)) (positionOf p)) (messageIn s)) at out m out₁) where
-      lines-first : Wrote (postings (registerOf (decode a .register)) (record { day = decode a .day; temporary = registerOf (decode a .register) .temporary; bank = bankOf (messageIn s); date = dateOf (messageIn s) }) (messageIn s)) at out m out₁
-      lines-first = rw (← k .bank, ← k .date, ← q .bank, ← q .date, ← d .day, ← d .text) w
+pub after-is : (a s : List ℕ) (b : Booking) → Books s (messageIn s) b → (x : Totals) → TotalsOf (decode a .positions) (b .bank) (b .date) x → (p : W.Position) → AfterOf b x p → positionOf p ≡ after (decode a) (messageIn s)
+unfolding after
+after-is a s b k x y p q = rw (q .bank, q .date, q .transferred, q .detailed, y .transferred, y .detailed, ← k .transferred, ← k .detailed, k .bank, k .date)
 
-      pub message-plain : v ≡ false → Wrote (messageText (decode a) (messageIn s)) at out m out₁
-      unfolding messageText
-      message-plain e = rw (judged-is, e, append-nil) lines-first
+-- ---- the text
 
-      pub message-judged : v ≡ true → {r : ℕ} {out₂ : List ℕ} → Wrote (verdicts (h .day) (h .count) (positionOf p) (returnedAt (textIn a (h .end)) s (b .first) (b .count))) m out₁ r out₂ → Wrote (messageText (decode a) (messageIn s)) at out r out₂
-      unfolding messageText
-      message-judged e u = rw (judged-is, e) (wrote-then lines-first (rw (d .day, d .count, after-is, returned-held s b k (textIn a (h .end)), d .text) at u))
+-- posting lines, and as many parts of an MT199 as messages are written
+text-is : (e : Engine) (m : Message)
+    → messageText e m
+    ≡ postings (registerOf (e .register)) (record { day = e .day; temporary = registerOf (e .register) .temporary; bank = bankOf m; date = dateOf m }) m
+    ++ mt199s (writes e m) (e .day) (e .count) (after e m) 1 (writes e m) (returnedOf (registerOf (e .register)) (detailsOf m))
+unfolding messageText writes verdicts mt199s
+text-is e m = go (judged m (after e m))
+  where
+    go : (t : Bool)
+        → postings (registerOf (e .register)) (record { day = e .day; temporary = registerOf (e .register) .temporary; bank = bankOf m; date = dateOf m }) m
+        ++ cond t (mt199s (partsOf (length (returnedOf (registerOf (e .register)) (detailsOf m)))) (e .day) (e .count) (after e m) 1 (partsOf (length (returnedOf (registerOf (e .register)) (detailsOf m)))) (returnedOf (registerOf (e .register)) (detailsOf m))) []
+        ≡ postings (registerOf (e .register)) (record { day = e .day; temporary = registerOf (e .register) .temporary; bank = bankOf m; date = dateOf m }) m
+        ++ mt199s (cond t (partsOf (length (returnedOf (registerOf (e .register)) (detailsOf m)))) 0) (e .day) (e .count) (after e m) 1 (cond t (partsOf (length (returnedOf (registerOf (e .register)) (detailsOf m)))) 0) (returnedOf (registerOf (e .register)) (detailsOf m))
+    go true = refl
+    go false = refl
 
-pub ruleset messages = (transfer-follows, details-within, details-few, writes-none, writes-parts, message-plain, message-judged)
+module _ (a s : List ℕ) (h : Header) (d : HeaderOf a h) {amounts places verdicts : List ℕ} {n : ℕ} (j : JudgedIn (decode a .register) s amounts places verdicts n) where
+  pub judged-here : JudgedIn (textIn a (h .end)) s amounts places verdicts n
+  judged-here = rw (d .text) j
+
+  module _ (b : Booking) (k : Books s (messageIn s) b) (p : W.Position) (q : positionOf p ≡ after (decode a) (messageIn s)) (parts : ℕ) (w : Writes (decode a) (messageIn s) parts) {at m r : ℕ} {out out₁ out₂ : List ℕ} where
+    pub message-wrote : Wrote (postings (registerOf (textIn a (h .end))) (bookFor (h .day) (textIn a (h .end)) (positionOf p)) (messageIn s)) at out m out₁
+        → Wrote (mt199s parts (h .day) (h .count) (positionOf p) 1 parts (returnedAt s verdicts 0 n)) m out₁ r out₂ → Wrote (messageText (decode a) (messageIn s)) at out r out₂
+    unfolding after
+    message-wrote u v =
+        let bank : positionOf p .bank ≡ bankOf (messageIn s) = ap (λ (x : Position). x .bank) q in
+        let date : positionOf p .date ≡ dateOf (messageIn s) = ap (λ (x : Position). x .date) q in
+        rw (text-is (decode a) (messageIn s))
+        (wrote-then (rw (d .day, d .text, bank, date) at u)
+        (rw (w .value, d .day, d .count, q, returned-all (decode a .register) s places verdicts n (j .lines-kept) (j .verdicts-kept)) at v))
+
+pub ruleset messages = (transfer-follows, writes-parts, writes-none, judged-here, message-wrote)

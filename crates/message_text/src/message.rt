@@ -1,11 +1,10 @@
 // The text of a message that is booked, and how many messages it is.
 use crate::postings::put_postings;
 use crate::verdicts::parts_of;
-use crate::verdicts::put_verdicts;
-use detail_lines::count_returned;
+use crate::verdicts::put_parts;
+use conditions::Booking;
 use engine::Totals;
 use engine::register_end;
-use state::Booking;
 use state::detailed_by;
 use state::transferred_by;
 use steps::numbers_of;
@@ -14,12 +13,14 @@ ghost use mathlib.Core.Path.{_≡_};
 ghost use mathlib.Core.Bool.{true};
 ghost use Prim.Native.Nat.{_≤_, _<_};
 ghost use Rattle.rules.specs.Text.{isSome};
-ghost use Rattle.rules.specs.Calls.{messageText, writes};
+ghost use Rattle.rules.specs.Calls.{after, messageText};
 ghost use Rattle.rules.specs.Area.{decode, holds};
 ghost use Rattle.laws.specs.Writing.{Wrote};
-ghost use Rattle.engine.specs.Find.{TotalsOf};
-ghost use Rattle.state.specs.Books.{Books, messageIn};
-ghost use Rattle.message_text.specs.Message.{HeaderOf, AfterOf, verdictFollows};
+ghost use Rattle.details.specs.Message.{messageIn};
+ghost use Rattle.conditions.specs.Books.{Books};
+ghost use Rattle.verdict.specs.Details.{JudgedIn};
+ghost use Rattle.written.specs.Values.{positionOf};
+ghost use Rattle.message_text.specs.Message.{HeaderOf, AfterOf, WritesOf, Writes, verdictFollows};
 
 // Day and outgoing count of the engine in the area, and where its register's text ends.
 pub struct Header {
@@ -43,7 +44,7 @@ fn header_of(area: &[u8]) -> Header
 }
 
 // The position as the message leaves it, from its totals before.
-fn position_after(b: Booking, x: Totals) -> Position
+pub fn position_after(b: Booking, x: Totals) -> Position
     requires { ⌜ x .transferred < 281474976710656 ⌝ }
     requires { ⌜ x .detailed < 281474976710656 ⌝ }
     requires { ⌜ b .amount ≤ 160000000000000000 ⌝ }
@@ -67,52 +68,62 @@ fn has_verdict(b: Booking, p: Position) -> bool
     true
 }
 
-// The whole text of a message; x are the totals of its position before it.
+// How many messages the message makes the card write, so many of its details being returned: the parts of its MT199.
+pub fn message_writes(b: Booking, p: Position, returned: u32) -> u32
+    requires { ⌜ returned ≤ 16 ⌝ }
+    ensures { λ r. ⌜ WritesOf b p returned r ⌝ }
+{
+    if has_verdict(b, p) {
+        return parts_of(returned);
+    }
+    0
+}
+
+// The whole text of a message; p is its position as it leaves it, and parts how many messages it makes the card write.
 pub fn put_message_text(
     out: &mut [u8],
     at: usize,
     s: &[u8],
+    amounts: &[u64; 16],
+    places: &[u16; 96],
+    verdicts: &[u8; 16],
     area: &[u8],
     b: Booking,
-    x: Totals,
+    p: Position,
+    parts: u32,
 ) -> usize
     requires { ⌜ isSome (holds (now area)) ≡ true ⌝ }
-    requires { ⌜ Books (now s) b ⌝ }
-    requires { ⌜ TotalsOf (decode (now area) .positions) (b .bank) (b .date) x ⌝ }
+    requires { ⌜ Books (now s) (messageIn (now s)) b ⌝ }
+    requires { ⌜ JudgedIn (decode (now area) .register) (now s) (now amounts) (now places) (now verdicts) (b .count) ⌝ }
+    requires { ⌜ positionOf p ≡ after (decode (now area)) (messageIn (now s)) ⌝ }
+    requires { ⌜ Writes (decode (now area)) (messageIn (now s)) parts ⌝ }
     ensures { λ r. ⌜ Wrote (messageText (decode (now (area .entry))) (messageIn (now (s .entry)))) at (now (out .entry)) r (now (out .exit)) ⌝ }
 {
     let h = header_of(area);
-    let p = position_after(b, x);
     let end = h.end;
-    let a = put_postings(out, at, h.day, p, &area[2320..end], s, b);
-    if has_verdict(b, p) {
-        return put_verdicts(
-            out,
-            a,
-            h.day,
-            h.count,
-            p,
-            &area[2320..end],
-            s,
-            b.first,
-            b.count,
-        );
-    }
-    a
-}
-
-// How many messages that is.
-pub fn message_writes(s: &[u8], area: &[u8], b: Booking, x: Totals) -> u32
-    requires { ⌜ isSome (holds (now area)) ≡ true ⌝ }
-    requires { ⌜ Books (now s) b ⌝ }
-    requires { ⌜ TotalsOf (decode (now area) .positions) (b .bank) (b .date) x ⌝ }
-    ensures { λ r. ⌜ r ≡ writes (decode (now (area .entry))) (messageIn (now (s .entry))) ⌝ }
-{
-    let p = position_after(b, x);
-    if has_verdict(b, p) {
-        let h = header_of(area);
-        let end = h.end;
-        return parts_of(count_returned(&area[2320..end], s, b.first, b.count));
-    }
-    0
+    let a = put_postings(
+        out,
+        at,
+        h.day,
+        p,
+        &area[2320..end],
+        s,
+        amounts,
+        places,
+        verdicts,
+        b,
+    );
+    put_parts(
+        out,
+        a,
+        h.day,
+        h.count,
+        p,
+        parts,
+        s,
+        amounts,
+        places,
+        verdicts,
+        b.count as u32,
+    )
 }

@@ -1,6 +1,6 @@
 // The posting lines of a message.
+use conditions::Booking;
 use detail_lines::put_detail_postings;
-use state::Booking;
 use written::Book;
 use written::Position;
 use written::put_from_bank;
@@ -13,7 +13,9 @@ ghost use Rattle.rules.specs.Register.{register, registerOf};
 ghost use Rattle.rules.specs.Calls.{postings};
 ghost use Rattle.laws.specs.Writing.{Wrote};
 ghost use Rattle.written.specs.Values.{positionOf};
-ghost use Rattle.state.specs.Books.{Books, messageIn};
+ghost use Rattle.details.specs.Message.{messageIn};
+ghost use Rattle.conditions.specs.Books.{Books};
+ghost use Rattle.verdict.specs.Details.{JudgedIn};
 ghost use Rattle.message_text.specs.Postings.{bookFor};
 
 // A transfer's, or those of the details; p is the message's position.
@@ -24,11 +26,15 @@ pub fn put_postings(
     p: Position,
     text: &[u8],
     s: &[u8],
+    amounts: &[u64; 16],
+    places: &[u16; 96],
+    verdicts: &[u8; 16],
     b: Booking,
 ) -> usize
     requires { ⌜ isSome (register (now text)) ≡ true ⌝ }
     requires { ⌜ 22 ≤ length (now text) ⌝ }
-    requires { ⌜ Books (now s) b ⌝ }
+    requires { ⌜ Books (now s) (messageIn (now s)) b ⌝ }
+    requires { ⌜ JudgedIn (now text) (now s) (now amounts) (now places) (now verdicts) (b .count) ⌝ }
     ensures { λ r. ⌜ Wrote (postings (registerOf (now (text .entry))) (bookFor day (now (text .entry)) (positionOf p)) (messageIn (now (s .entry)))) at (now (out .entry)) r (now (out .exit)) ⌝ }
 {
     let book = Book {
@@ -39,5 +45,6 @@ pub fn put_postings(
     if b.transfer {
         return put_from_bank(out, at, book, &text[0..22], b.amount);
     }
-    put_detail_postings(out, at, book, text, s, b.first, b.count)
+    let n = b.count as u32;
+    put_detail_postings(out, at, book, text, s, amounts, places, verdicts, n)
 }

@@ -13,7 +13,9 @@ use Rattle.rules.specs.Text.{isDigit}
 use Rattle.rules.specs.Amounts.{decimals, levs, amount}
 use Rattle.laws.specs.Parts.{cut, cut-step, cut-done, cut-get, cut-length}
 use Rattle.laws.specs.Tests.{held-told}
-use Rattle.laws.specs.Reading.{left-step, left-done, power, power-start, power-step, power-room, Placed, digit-small}
+use Rattle.laws.specs.Reading.{digit-small}
+use Rattle.laws.specs.Places.{Passed}
+use Rattle.laws.specs.Values.{Valued, TakesDigits, behind-digits}
 
 -- ---- behind the comma
 
@@ -58,31 +60,37 @@ module _ (s : List ℕ) (a b v : ℕ) (k : b ≤ length s) where
         unfolding decimals
         decimals-two m z r w = rw (cut-step s a b (omega arith) k, cut-step s (a + 1) b (omega arith) k, cut-done s (a + 1 + 1) b (omega arith) (omega arith), ← u, d, ← p, z) (ap some (w .value))
 
--- ---- before it: v levs are read, the part from i is left, and x is what the whole is
+-- ---- before it: the first k bytes are digits, and v is their number
 
-module _ (s : List ℕ) (i e v : ℕ) (x : Option ℕ) (inv : levs v (cut s i e) ≡ x) where
-  module _ (h : i < e) (k : e ≤ length s) (t : Bool) (u : t ≡ isDigit (getD s i 0)) where
-    pub levs-more : t ≡ true → (r : ℕ) → Placed 10 v (getD s i 0 - 48) r → levs r (cut s (i + 1) e) ≡ x
-    unfolding levs
-    levs-more d r p = rw (p .value) (rw (← u, d) at (left-step (levs v) s i e x inv h k))
+levs-take : TakesDigits levs
+unfolding levs
+levs-take = record { takes = λ v c cs h. rw h }
 
-    module _ (d : t ≡ false) where
-      pub levs-comma : getD s i 0 ≡ 44 → (o : Option ℕ) → o ≡ decimals v (cut s (i + 1) e) → o ≡ x
-      unfolding levs
-      levs-comma c o w = w ∙ (rw (← u, d, eq-eqb _ _ c) at (left-step (levs v) s i e x inv h k))
+module _ (s : List ℕ) (a b k v : ℕ) (h : a ≤ b) (l : b ≤ length s) (p : Passed isDigit s a (b - a) k) (w : Valued s a k v) where
+  behind : levs 0 (cut s a b) ≡ levs v (cut s (a + k) b)
+  behind = behind-digits levs levs-take s a k b v w (omega (arith, p .within))
 
-      pub levs-bad : (getD s i 0 ≡ 44 → ⊥) → none ≡ x
-      unfolding levs
-      levs-bad c = rw (← u, d, ne-eqb _ _ c) at (left-step (levs v) s i e x inv h k)
-
-  pub levs-end : i ≤ e → e ≤ i → none ≡ x
+  pub levs-end : k ≡ b - a → none ≡ levs 0 (cut s a b)
   unfolding levs
-  levs-end h k = left-done (levs v) s i e x inv h k
+  levs-end e = rw (behind, cut-done s (a + k) b (omega arith) (omega arith))
 
--- the levs before the comma leave room for the stotinki
-pub levs-room : (a i e v : ℕ) → v < power 10 (i - a) → i < e → e - a ≤ 15 → v < 100000000000000
-unfolding power
-levs-room a i e v b h k = power-room 10 a i e 15 14 v b (omega arith) h k (omega arith)
+  module _ (n : k ≡ b - a → ⊥) where
+    short : k < b - a
+    short = omega (arith, p .within, n)
+
+    byte : levs 0 (cut s a b) ≡ cond (eqb (getD s (a + k) 0) 44) (decimals v (cut s (a + k + 1) b)) none
+    unfolding levs
+    byte = behind ∙ rw (cut-step s (a + k) b (omega (arith, short)) l, p .next short)
+
+    pub levs-comma : getD s (a + k) 0 ≡ 44 → (o : Option ℕ) → o ≡ decimals v (cut s (a + k + 1) b) → o ≡ levs 0 (cut s a b)
+    levs-comma c o e = rw (byte, eq-eqb _ _ c) e
+
+    pub levs-bad : (getD s (a + k) 0 ≡ 44 → ⊥) → none ≡ levs 0 (cut s a b)
+    levs-bad c = rw (byte, ne-eqb _ _ c)
+
+    -- the levs before the comma leave room for the stotinki
+    pub levs-room : b - a ≤ 15 → v < 100000000000000
+    levs-room m = lt-of-lt-of-le (w .small) (pow-le-pow-right (omega arith) {i = k} {j = 14} (omega (arith, short)))
 
 -- ---- the whole
 
@@ -166,7 +174,6 @@ pub ruleset sums = (
   decimals-one,
   decimals-second,
   decimals-two,
-  levs-more,
   levs-comma,
   levs-bad,
   levs-end,
@@ -176,7 +183,4 @@ pub ruleset sums = (
   amount-head,
   amount-levs,
   held-told,
-  power-start,
-  power-step,
-  power-room,
 )

@@ -13,9 +13,8 @@ fn stotinki(v: u64, c: u8, d: u8) -> u64
     requires { ⌜ v < 100000000000000 ⌝ }
     ensures { λ r. ⌜ Worth v c d r ⌝ }
 {
-    let ten = text::less(c, 48) as u64;
-    let one = text::less(d, 48) as u64;
-    v * 100 + ten * 10 + one
+    let over = text::less(c, 48) * 10 + text::less(d, 48);
+    v * 100 + over as u64
 }
 
 // Zero to two digits behind the comma, from a up to b, with v levs before it: a digit that is left out is a zero.
@@ -53,19 +52,15 @@ fn read_levs(s: &[u8], a: usize, b: usize) -> Num
     requires { ⌜ b - a ≤ 15 ⌝ }
     ensures { λ r. ⌜ numOf r ≡ levs 0 (cut (now (s .entry)) a b) ⌝ }
 {
-    let mut v: u64 = 0;
-    let mut i = a;
-    while i < b {
-        let c = s[i];
-        if text::is_digit(c) {
-            v = text::with_digit(v, c);
-            i += 1;
-        } else {
-            if c == 44 {
-                return read_decimals(v, s, i + 1, b);
-            }
-            return Num::Bad;
-        }
+    let n = (b - a) as u32;
+    let k = text::digits_at(s, a, n);
+    let v = text::digits_value(s, a, k);
+    if k == n {
+        return Num::Bad;
+    }
+    let comma = a + k as usize;
+    if s[comma] == 44 {
+        return read_decimals(v, s, comma + 1, b);
     }
     Num::Bad
 }

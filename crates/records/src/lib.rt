@@ -6,42 +6,44 @@ ghost use Rattle.laws.specs.Standing.{moved};
 ghost use Rattle.laws.specs.Moving.{Opens, Lowers};
 
 // The n bytes at one place, moved up to another: the last goes first.
-pub fn shift_up(area: &mut [u8], here: usize, there: usize, n: usize)
+pub fn shift_up(area: &mut [u8], here: usize, there: usize, n: u32)
     requires { ⌜ (here ≤ there) × (there + n ≤ length (now area)) ⌝ }
     ensures { λ _. ⌜ now (area .exit) ≡ moved here there n (now (area .entry)) ⌝ }
 {
     let mut k = n;
     while k > 0 {
         k -= 1;
-        area[there + k] = area[here + k];
+        area[there + k as usize] = area[here + k as usize];
     }
 }
 
 // The n bytes at one place, moved down to another: the first goes first.
-pub fn move_down(area: &mut [u8], here: usize, there: usize, n: usize)
+pub fn move_down(area: &mut [u8], here: usize, there: usize, n: u32)
     requires { ⌜ (there ≤ here) × (here + n ≤ length (now area)) ⌝ }
     ensures { λ _. ⌜ now (area .exit) ≡ moved here there n (now (area .entry)) ⌝ }
 {
-    let mut k = 0;
+    let mut k: u32 = 0;
     while k < n {
-        area[there + k] = area[here + k];
+        area[there + k as usize] = area[here + k as usize];
         k += 1;
     }
 }
 
 // Room before record i of some records of w bytes at base: those from i on are moved up by a record.
-pub fn open_record(area: &mut [u8], base: usize, w: usize, count: usize, i: usize)
+pub fn open_record(area: &mut [u8], base: usize, w: u32, count: u32, i: u32)
+    requires { ⌜ w * count ≤ 6144 ⌝ }
     requires { ⌜ Opens base w count i (length (now area)) ⌝ }
     ensures { λ _. ⌜ now (area .exit) ≡ moved (base + w * i) (base + w * i + w) (w * (count - i)) (now (area .entry)) ⌝ }
 {
-    let p = base + w * i;
-    shift_up(area, p, p + w, w * (count - i));
+    let p = base + (w * i) as usize;
+    shift_up(area, p, p + w as usize, w * (count - i));
 }
 
 // Record i of w bytes at base, kept as record j.
-pub fn keep_record(area: &mut [u8], base: usize, w: usize, i: usize, j: usize)
+pub fn keep_record(area: &mut [u8], base: usize, w: u32, i: u32, j: u32)
+    requires { ⌜ w * i ≤ 6144 ⌝ }
     requires { ⌜ Lowers base w i j (length (now area)) ⌝ }
     ensures { λ _. ⌜ now (area .exit) ≡ moved (base + w * i) (base + w * j) w (now (area .entry)) ⌝ }
 {
-    move_down(area, base + w * i, base + w * j, w);
+    move_down(area, base + (w * i) as usize, base + (w * j) as usize, w);
 }

@@ -2,12 +2,13 @@
 use text::equal_parts;
 ghost use mathlib.Core.Path.{_≡_};
 ghost use mathlib.Core.Bool.{_&&_};
-ghost use Prim.Native.Nat.{_<_, _≤_};
+ghost use Prim.Native.Nat.{_+_, _-_, _≤_};
 ghost use lib.Dec.{eqb};
 ghost use lib.ListN.{length};
 ghost use Rattle.rules.specs.Text.{equal};
-ghost use Rattle.rules.specs.Engine.{slashesFrom, slashed};
+ghost use Rattle.rules.specs.Engine.{slashed};
 ghost use Rattle.laws.specs.Parts.{cut};
+ghost use Rattle.references.specs.Slashes.{Doubled};
 
 // Are both bytes slashes?
 fn two_slashes(c: u8, d: u8) -> bool
@@ -16,35 +17,40 @@ fn two_slashes(c: u8, d: u8) -> bool
     c == 47 && d == 47
 }
 
-// Do the bytes from a up to b end with a slash, or have two one behind the other?
-fn slashes_from(s: &[u8], a: usize, b: usize) -> bool
-    requires { ⌜ a < b ⌝ }
-    requires { ⌜ b ≤ length (now s) ⌝ }
-    ensures { λ r. ⌜ r ≡ slashesFrom (cut (now (s .entry)) a b) ⌝ }
+// Where a slash stands behind a slash among the n bytes from a, n where none does.
+fn double_slash(s: &[u8], a: usize, n: u32) -> u32
+    requires { ⌜ 1 ≤ n ⌝ }
+    requires { ⌜ a + n ≤ length (now s) ⌝ }
+    ensures { λ r. ⌜ Doubled (now (s .entry)) a n r ⌝ }
 {
-    let mut i = a;
-    while i + 1 < b {
-        if two_slashes(s[i], s[i + 1]) {
-            return true;
+    let mut k: u32 = 1;
+    while k < n {
+        if two_slashes(s[a + k as usize - 1], s[a + k as usize]) {
+            return k;
         }
-        i += 1;
+        k += 1;
     }
-    s[i] == 47
+    n
 }
 
 // Does the reference from a up to b begin or end with a slash, or have two one behind the other?
 pub fn is_slashed(s: &[u8], a: usize, b: usize) -> bool
     requires { ⌜ a ≤ b ⌝ }
     requires { ⌜ b ≤ length (now s) ⌝ }
+    requires { ⌜ b - a ≤ 65535 ⌝ }
     ensures { λ r. ⌜ r ≡ slashed (cut (now (s .entry)) a b) ⌝ }
 {
-    if a < b {
-        if s[a] == 47 {
-            return true;
-        }
-        return slashes_from(s, a, b);
+    let n = (b - a) as u32;
+    if n < 1 {
+        return false;
     }
-    false
+    if s[a] == 47 {
+        return true;
+    }
+    if double_slash(s, a, n) < n {
+        return true;
+    }
+    s[b - 1] == 47
 }
 
 // Are the bytes from a up to e and the bytes of t from b up to f equal?
@@ -53,10 +59,11 @@ pub fn same_parts(s: &[u8], a: usize, e: usize, t: &[u8], b: usize, f: usize) ->
     requires { ⌜ e ≤ length (now s) ⌝ }
     requires { ⌜ b ≤ f ⌝ }
     requires { ⌜ f ≤ length (now t) ⌝ }
+    requires { ⌜ e - a ≤ 65535 ⌝ }
     ensures { λ r. ⌜ r ≡ equal (cut (now (s .entry)) a e) (cut (now (t .entry)) b f) ⌝ }
 {
     if e - a != f - b {
         return false;
     }
-    equal_parts(s, a, t, b, e - a)
+    equal_parts(s, a, t, b, (e - a) as u32)
 }

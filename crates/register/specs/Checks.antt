@@ -6,17 +6,18 @@ use Prim.Native.Nat.{ℕ, _+_, _-_, _*_, _/_, _≤_, _<_}
 use native.Mathlib.Omega.{arith}
 use lib.Dec.{leb, eqb}
 use lib.ListN.{length}
-use borrow.Author.Tests.{le-leb, lt-leb, eqb-true, not-true, not-false}
+use borrow.Author.Tests.{le-leb, lt-leb, leb-true, eqb-true, not-true, not-false}
 use Rattle.rules.specs.Text.{digits, isSome}
 use Rattle.rules.specs.Accounts.{passes}
 use Rattle.rules.specs.Register.{register}
 use Rattle.laws.specs.Parts.{cut}
-use Rattle.laws.specs.Tests.{and-left}
+use Rattle.laws.specs.Tests.{and-left, and-right}
 use Rattle.text.specs.Answers.{numOf}
 use Rattle.text.specs.declared.numbers.Num.{Num}
 use Rattle.text.specs.declared.numbers.Num.the-variants.{Value, Bad}
 use Rattle.register.specs.AccountLine.{bound}
-use Rattle.register.specs.Places.{formAt, endsAt, boundAt, ibanIn, lineIn, count, linesIn, lengthIn, firstIn, againIn, passesIn}
+use Rattle.register.specs.Places.{place, formAt, endsAt, boundAt, ibanIn, lineIn, count, linesIn, lengthIn, firstIn, againIn, passesIn}
+use Rattle.register.specs.Formed.{boundsAt, form-bounds}
 use Rattle.register.specs.Passed.{some-given}
 
 -- how many account lines there is room for
@@ -48,25 +49,47 @@ module _ (s : List ℕ) (t : Bool) (u : t ≡ passes (cut s 0 22)) where
   unfolding firstIn
   first-fails d = rw (← u, d)
 
--- an account line: form, end, IBAN, bounds
-module _ (s : List ℕ) (i : ℕ) (t : Bool) (u : t ≡ formAt s (24 + 38 * i)) where
-  pub line-unformed : not t ≡ true → false ≡ lineIn s i
-  unfolding lineIn
-  line-unformed d = rw (← u, not-true t d)
+-- a test that a call answered
+pub call-held : (a t : Bool) → t ≡ a → not t ≡ false → a ≡ true
+call-held a t u d = sym u ∙ not-false t d
 
-  module _ (d : not t ≡ false) (t₂ : Bool) (u₂ : t₂ ≡ endsAt s (24 + 38 * i + 36)) where
-    pub line-unended : not t₂ ≡ true → false ≡ lineIn s i
-    unfolding lineIn
-    line-unended d₂ = rw (← u, not-false t d, ← u₂, not-true t₂ d₂)
+-- an account line: IBAN, bounds, end, order
+module _ (s : List ℕ) (i : ℕ) (l : 24 + 38 * i + 38 ≤ length s) (t : Bool) (u : t ≡ passes (cut s (24 + 38 * i) (24 + 38 * i + 22))) where
+  pub line-unpassed : not t ≡ true → false ≡ lineIn s i
+  unfolding lineIn ibanIn
+  line-unpassed d = rw (← u, not-true t d) (go (formAt s (place i)) (endsAt s (place i + 36)) _)
+    where
+      go : (a b c : Bool) → false ≡ (a && b && false && c)
+      go true true c = refl
+      go true false c = refl
+      go false b c = refl
 
-    module _ (d₂ : not t₂ ≡ false) (t₃ : Bool) (u₃ : t₃ ≡ passes (cut s (24 + 38 * i) (24 + 38 * i + 22))) where
-      pub line-unpassed : not t₃ ≡ true → false ≡ lineIn s i
-      unfolding lineIn ibanIn
-      line-unpassed d₃ = rw (← u, not-false t d, ← u₂, not-false t₂ d₂, ← u₃, not-true t₃ d₃)
+  module _ (d : not t ≡ false) where
+    -- the other tests
+    behind : lineIn s i ≡ (boundsAt s (24 + 38 * i + 22) && endsAt s (24 + 38 * i + 36) && leb (boundAt s (24 + 38 * i + 22 + 1)) (boundAt s (24 + 38 * i + 22 + 8)))
+    unfolding lineIn ibanIn
+    behind =
+        let e : 24 + 38 * i + 22 + 1 ≡ 24 + 38 * i + 23 = omega arith in
+        let f : 24 + 38 * i + 22 + 8 ≡ 24 + 38 * i + 30 = omega arith in
+        let h : passes (cut s (24 + 38 * i) (24 + 38 * i + 22)) ≡ true = sym u ∙ not-false t d in
+        rw (e, f, form-bounds s (24 + 38 * i) (omega arith) h, h) (go (boundsAt s (24 + 38 * i + 22)) (endsAt s (24 + 38 * i + 36)) _)
+      where
+        go : (a b c : Bool) → (a && b && true && c) ≡ (a && b && c)
+        go true true c = refl
+        go true false c = refl
+        go false b c = refl
 
-      pub line-bounded : not t₃ ≡ false → (low high : ℕ) → low ≡ boundAt s (24 + 38 * i + 23) → high ≡ boundAt s (24 + 38 * i + 30) → leb low high ≡ lineIn s i
-      unfolding lineIn ibanIn
-      line-bounded d₃ low high e f = rw (e, f, ← u, not-false t d, ← u₂, not-false t₂ d₂, ← u₃, not-false t₃ d₃)
+    module _ (t₂ : Bool) (u₂ : t₂ ≡ boundsAt s (24 + 38 * i + 22)) where
+      pub line-unbounded : not t₂ ≡ true → false ≡ lineIn s i
+      line-unbounded d₂ = rw (behind, ← u₂, not-true t₂ d₂)
+
+      module _ (d₂ : not t₂ ≡ false) where
+        module _ (t₃ : Bool) (u₃ : t₃ ≡ endsAt s (24 + 38 * i + 36)) where
+          pub line-unended : not t₃ ≡ true → false ≡ lineIn s i
+          line-unended d₃ = rw (behind, ← u₂, not-false t₂ d₂, ← u₃, not-true t₃ d₃)
+
+          pub line-ordered : not t₃ ≡ false → (r : Bool) → r ≡ leb (boundAt s (24 + 38 * i + 22 + 1)) (boundAt s (24 + 38 * i + 22 + 8)) → r ≡ lineIn s i
+          line-ordered d₃ r e = rw (behind, ← u₂, not-false t₂ d₂, ← u₃, not-false t₃ d₃) e
 
 -- the length
 module _ (s : List ℕ) (n : ℕ) where
@@ -90,6 +113,10 @@ module _ (s : List ℕ) (n : ℕ) where
     exact : length s ≡ 24 + 38 * n
     unfolding lengthIn
     exact = eqb-true (length s) (24 + 38 * n) (and-left _ _ (sym u ∙ not-false t d))
+
+    pub few-lines : n ≤ 40
+    unfolding lengthIn
+    few-lines = leb-true n 40 (and-right (eqb (length s) (24 + 38 * n)) _ (sym u ∙ not-false t d))
 
     pub room-lines : 24 + 38 * n ≤ length s
     room-lines = let e : length s ≡ 24 + 38 * n = exact in omega arith
@@ -121,4 +148,4 @@ module _ (s : List ℕ) (n : ℕ) (e : n ≡ count s) where
         unfolding passesIn
         passes-single d₃ t₄ u₄ = (rw (u₄, ← u, not-false t d, ← u₂, not-false t₂ d₂, ← u₃, not-false t₃ d₃)) ∙ by-count
 
-pub ruleset checks = (count-none, count-some, bound-read, bound-none, first-passes, first-fails, line-unformed, line-unended, line-unpassed, line-bounded, length-over, length-few, room-lines, room-first, fails-length, fails-first, fails-lines, passes-single)
+pub ruleset checks = (count-none, count-some, bound-read, bound-none, first-passes, first-fails, line-unpassed, line-unbounded, line-unended, line-ordered, length-over, length-few, few-lines, room-lines, room-first, fails-length, fails-first, fails-lines, passes-single)

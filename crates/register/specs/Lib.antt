@@ -2,6 +2,7 @@ pub mod Blocks
 pub mod AccountLine
 pub mod Answers
 pub mod Places
+pub mod Formed
 pub mod Agree
 pub mod Passed
 pub mod Turns

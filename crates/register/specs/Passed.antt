@@ -44,6 +44,12 @@ module _ (s : List ℕ) (h : isSome (register s) ≡ true) where
   pub text-size : length s ≡ place (count s)
   text-size = in-size s by-places
 
+  pub text-first : 24 ≤ length s
+  text-first = omega (arith, text-size)
+
+  pub text-short : length s ≤ 1544
+  text-short = omega (arith, text-size, in-count s by-places)
+
   pub text-count : count s ≤ 40
   text-count = in-count s by-places
 
@@ -70,6 +76,9 @@ module _ (s : List ℕ) (h : isSome (register s) ≡ true) where
     pub line-within : place i + 38 ≤ length s
     line-within = let e : length s ≡ place (count s) = text-size in let b : i < count s = rw accounts-count at k in omega arith
 
+    pub line-few : i < 40
+    line-few = let e : count s ≤ 40 = text-count in let b : i < count s = rw accounts-count at k in omega arith
+
     pub iban-at : accountAt (registerOf s) i .iban ≡ cut s (place i) (place i + 22)
     unfolding accountIn ibanIn
     iban-at = ap (λ (a : Account). a .iban) account-at
@@ -91,6 +100,9 @@ pub record LinePlace (s : List ℕ) (i r : ℕ) : Type 0 where
 
 module _ (s : List ℕ) (h : isSome (register s) ≡ true) where
   module _ (n : ℕ) (e : n ≡ count s) where
+    pub few-all : n ≤ 40
+    few-all = rw e (text-count s h)
+
     pub room-all : 24 + 38 * n ≤ length s
     room-all = let k : length s ≡ place (count s) = text-size s h in omega arith
 
@@ -109,4 +121,4 @@ module _ (s : List ℕ) (h : isSome (register s) ≡ true) where
       pub high-read : r ≡ boundAt s (at + 30) → r ≡ accountAt (registerOf s) i .high
       high-read e = e ∙ rw (p .same) (sym (high-at s h i k))
 
-pub ruleset passed = (room-all, found-start, line-place, low-read, high-read)
+pub ruleset passed = (few-all, room-all, found-start, line-place, low-read, high-read)

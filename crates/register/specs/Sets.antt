@@ -1,6 +1,7 @@
 -- The laws that the search is handed at the needs of this crate. Assumes nothing.
 use Rattle.register.specs.Turns.{turns}
+use Rattle.register.specs.Formed.{formed}
 use Rattle.register.specs.Checks.{checks}
 use Rattle.register.specs.Passed.{passed}
 
-pub ruleset registers = (turns, checks, passed)
+pub ruleset registers = (turns, formed, checks, passed)

@@ -20,11 +20,12 @@ fn length_passes(text: &[u8], n: usize) -> bool
 }
 
 // Does each of the n account lines pass?
-fn account_lines_pass(text: &[u8], n: usize) -> bool
+fn account_lines_pass(text: &[u8], n: u32) -> bool
+    requires { ⌜ n ≤ 40 ⌝ }
     requires { ⌜ 24 + 38 * n ≤ length (now text) ⌝ }
     ensures { λ r. ⌜ r ≡ linesIn (now (text .entry)) 0 n ⌝ }
 {
-    let mut i = 0;
+    let mut i: u32 = 0;
     while i < n {
         if account_line_passes(text, i) {
             i += 1;
@@ -36,14 +37,15 @@ fn account_lines_pass(text: &[u8], n: usize) -> bool
 }
 
 // Is the IBAN at a place that of an account line, first up to n?
-fn stands_in(text: &[u8], a: usize, first: usize, n: usize) -> bool
+fn stands_in(text: &[u8], a: usize, first: u32, n: u32) -> bool
+    requires { ⌜ n ≤ 40 ⌝ }
     requires { ⌜ a + 22 ≤ length (now text) ⌝ }
     requires { ⌜ 24 + 38 * n ≤ length (now text) ⌝ }
     ensures { λ r. ⌜ r ≡ standsIn (now (text .entry)) a first n ⌝ }
 {
     let mut i = first;
     while i < n {
-        if text::equal_parts(text, a, text, 24 + 38 * i, 22) {
+        if account::same_iban(text, a, text, (24 + 38 * i) as usize) {
             return true;
         }
         i += 1;
@@ -52,16 +54,17 @@ fn stands_in(text: &[u8], a: usize, first: usize, n: usize) -> bool
 }
 
 // Does an IBAN appear twice?
-fn appears_again(text: &[u8], n: usize) -> bool
+fn appears_again(text: &[u8], n: u32) -> bool
+    requires { ⌜ n ≤ 40 ⌝ }
     requires { ⌜ 24 + 38 * n ≤ length (now text) ⌝ }
     ensures { λ r. ⌜ r ≡ againIn (now (text .entry)) n ⌝ }
 {
     if stands_in(text, 0, 0, n) {
         return true;
     }
-    let mut i = 0;
+    let mut i: u32 = 0;
     while i < n {
-        if stands_in(text, 24 + 38 * i, i + 1, n) {
+        if stands_in(text, (24 + 38 * i) as usize, i + 1, n) {
             return true;
         }
         i += 1;
@@ -80,8 +83,9 @@ pub fn register_passes(text: &[u8]) -> bool
     if !first_line_passes(text) {
         return false;
     }
-    if !account_lines_pass(text, n) {
+    let k = n as u32;
+    if !account_lines_pass(text, k) {
         return false;
     }
-    !appears_again(text, n)
+    !appears_again(text, k)
 }

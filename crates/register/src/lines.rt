@@ -1,9 +1,12 @@
 // A single line of the register, and how many there are.
 use text::Num;
 ghost use mathlib.Core.Path.{_≡_};
-ghost use Prim.Native.Nat.{_+_, _*_, _≤_};
+ghost use mathlib.Core.Bool.{true};
+ghost use Prim.Native.Nat.{_+_, _*_, _≤_, _<_};
+ghost use lib.Dec.{leb};
 ghost use lib.ListN.{length};
-ghost use Rattle.register.specs.Places.{count, formAt, endsAt, boundAt, firstIn, lineIn};
+ghost use Rattle.register.specs.Places.{count, endsAt, boundAt, firstIn, lineIn};
+ghost use Rattle.register.specs.Formed.{boundsAt};
 
 // How many account lines there is room for.
 pub fn account_lines(text: &[u8]) -> usize
@@ -26,20 +29,44 @@ pub fn bound_at(text: &[u8], at: usize) -> u64
     }
 }
 
-// Has the account line there its form?
-fn formed_at(text: &[u8], at: usize) -> bool
-    requires { ⌜ at ≤ length (now text) ⌝ }
-    ensures { λ r. ⌜ r ≡ formAt (now (text .entry)) at ⌝ }
+// Do two bounds of six digits stand there, a comma before each?
+fn bounds_at(text: &[u8], at: usize) -> bool
+    requires { ⌜ at + 14 ≤ length (now text) ⌝ }
+    ensures { λ r. ⌜ r ≡ boundsAt (now (text .entry)) at ⌝ }
 {
-    text::fits_pattern(b"cccccccccccccccccccccc,nnnnnn,nnnnnn", text, at)
+    if text[at] != 44 {
+        return false;
+    }
+    if text::digits_at(text, at + 1, 6) < 6 {
+        return false;
+    }
+    if text[at + 7] != 44 {
+        return false;
+    }
+    text::digits_at(text, at + 8, 6) == 6
+}
+
+// Is the first of them at most the second?
+fn in_order(text: &[u8], at: usize) -> bool
+    requires { ⌜ at + 14 ≤ length (now text) ⌝ }
+    requires { ⌜ boundsAt (now text) at ≡ true ⌝ }
+    ensures { λ r. ⌜ r ≡ leb (boundAt (now (text .entry)) (at + 1)) (boundAt (now (text .entry)) (at + 8)) ⌝ }
+{
+    text::small_digits(text, at + 1, 6) <= text::small_digits(text, at + 8, 6)
 }
 
 // Does the line end there, by CR LF?
 fn ends_at(text: &[u8], at: usize) -> bool
-    requires { ⌜ at ≤ length (now text) ⌝ }
+    requires { ⌜ at + 2 ≤ length (now text) ⌝ }
     ensures { λ r. ⌜ r ≡ endsAt (now (text .entry)) at ⌝ }
 {
-    text::fits_pattern(b"\r\n", text, at)
+    if text[at] != 13 {
+        return false;
+    }
+    if text[at + 1] != 10 {
+        return false;
+    }
+    true
 }
 
 // Does the first line pass: the temporary account's IBAN?
@@ -53,20 +80,21 @@ pub fn first_line_passes(text: &[u8]) -> bool
     false
 }
 
-// Does account line i pass: its form, its end, its IBAN, low at most high?
-pub fn account_line_passes(text: &[u8], i: usize) -> bool
+// Does account line i pass: its IBAN, its bounds, its end, low at most high?
+pub fn account_line_passes(text: &[u8], i: u32) -> bool
+    requires { ⌜ i < 40 ⌝ }
     requires { ⌜ 24 + 38 * i + 38 ≤ length (now text) ⌝ }
     ensures { λ r. ⌜ r ≡ lineIn (now (text .entry)) i ⌝ }
 {
-    let at = 24 + 38 * i;
-    if !formed_at(text, at) {
+    let at = (24 + 38 * i) as usize;
+    if !account::iban_passes(text, at) {
+        return false;
+    }
+    if !bounds_at(text, at + 22) {
         return false;
     }
     if !ends_at(text, at + 36) {
         return false;
     }
-    if !account::iban_passes(text, at) {
-        return false;
-    }
-    bound_at(text, at + 23) <= bound_at(text, at + 30)
+    in_order(text, at + 22)
 }

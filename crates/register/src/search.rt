@@ -1,5 +1,4 @@
 // The search in a register that passed.
-use crate::lines::account_lines;
 use crate::lines::bound_at;
 ghost use mathlib.Core.Path.{_≡_};
 ghost use mathlib.Core.Bool.{true};
@@ -10,6 +9,7 @@ ghost use Rattle.rules.specs.Register.{register, registerOf};
 ghost use Rattle.rules.specs.Verdict.{found, accountAt};
 ghost use Rattle.laws.specs.Parts.{cut};
 ghost use Rattle.register.specs.Answers.{foundOf};
+ghost use Rattle.register.specs.Places.{count};
 ghost use Rattle.register.specs.Passed.{LinePlace};
 
 // The account line of an IBAN, counted from 0, or none.
@@ -18,17 +18,25 @@ pub enum Found {
     Nothing,
 }
 
+// How many account lines there are, 40 at most.
+fn lines_in(text: &[u8]) -> u32
+    requires { ⌜ isSome (register (now text)) ≡ true ⌝ }
+    ensures { λ r. ⌜ r ≡ count (now (text .entry)) ⌝ }
+{
+    ((text.len() - 24) as u16 / 38) as u32
+}
+
 // The account line of the IBAN that stands in s at a place.
 pub fn find_account(text: &[u8], s: &[u8], at: usize) -> Found
     requires { ⌜ isSome (register (now text)) ≡ true ⌝ }
     requires { ⌜ at + 22 ≤ length (now s) ⌝ }
     ensures { λ r. ⌜ foundOf r ≡ found (cut (now (s .entry)) at (at + 22)) 0 (registerOf (now (text .entry)) .accounts) ⌝ }
 {
-    let n = account_lines(text);
-    let mut i = 0;
+    let n = lines_in(text);
+    let mut i: u32 = 0;
     while i < n {
-        if text::equal_parts(text, 24 + 38 * i, s, at, 22) {
-            return Found::At(i);
+        if account::same_iban(text, (24 + 38 * i) as usize, s, at) {
+            return Found::At(i as usize);
         }
         i += 1;
     }
@@ -41,7 +49,7 @@ pub fn account_place(text: &[u8], i: usize) -> usize
     requires { ⌜ i < length (registerOf (now text) .accounts) ⌝ }
     ensures { λ r. ⌜ LinePlace (now (text .entry)) i r ⌝ }
 {
-    24 + 38 * i
+    (24 + 38 * i as u32) as usize
 }
 
 // Its low bound.

@@ -19,8 +19,9 @@ use Rattle.engine.specs.References.{ofBank}
 use Rattle.engine.specs.declared.find.Totals.{Totals}
 use Rattle.steps.specs.Numbers.{NumbersOf}
 use Rattle.steps.specs.declared.parts.Numbers.{Numbers}
-use Rattle.state.specs.declared.booking.Booking.{Booking}
-use Rattle.state.specs.Books.{Books, messageIn, amountIf, misdatedBy}
+use Rattle.details.specs.Message.{messageIn}
+use Rattle.conditions.specs.Books.{Books, amountIf, misdatedBy}
+use Rattle.conditions.specs.declared.booking.Booking.{Booking}
 
 -- 11 to 15, the conditions of the state before the output's room
 unfoldable pub limitStops : Engine → Message → List Stop
@@ -120,34 +121,32 @@ module _ (n : ℕ) (t : Totals) (b : Booking) (q : Bool) (u : q ≡ overBy t b) 
 
 -- ---- all of them
 
-module _ (s area : List ℕ) (b : Booking) (k : Books s b) (x : Numbers) (n : NumbersOf area x) where
+pub used-is : (s area : List ℕ) (b : Booking) → Books s (messageIn s) b → {q : Bool} → q ≡ any (sameReference (ofBank (b .bank) (cut s (b .reference .start) (b .reference .end)))) (decode area .references)
+    → q ≡ any (sameReference (ownReference (messageIn s))) (decode area .references)
+used-is s area b k e = e ∙ rw (k .bank, k .reference) refl
+
+module _ (s area : List ℕ) (b : Booking) (k : Books s (messageIn s) b) (x : Numbers) (n : NumbersOf area x) where
   day-is : misdated (decode area .day) (messageIn s) ≡ misdatedBy (b .transfer) (b .date) (x .day)
   day-is = rw (n .day) (k .dated (decode area .day))
-
-  own-is : ofBank (b .bank) (cut s (b .start) (b .end)) ≡ ownReference (messageIn s)
-  own-is = rw (k .bank, k .reference) refl
 
   module _ (t : Bool) (u : t ≡ misdatedBy (b .transfer) (b .date) (x .day)) where
     pub state-day : t ≡ true → 11 ≡ firstOf (limitStops (decode area) (messageIn s))
     unfolding firstOf limitStops
     state-day d = rw (day-is, ← u, d) refl
 
-    module _ (d : t ≡ false) (q : Bool) (v : q ≡ any (sameReference (ofBank (b .bank) (cut s (b .start) (b .end)))) (decode area .references)) where
-      used-is : any (sameReference (ownReference (messageIn s))) (decode area .references) ≡ q
-      used-is = sym (v ∙ rw own-is refl)
-
+    module _ (d : t ≡ false) (q : Bool) (v : q ≡ any (sameReference (ownReference (messageIn s))) (decode area .references)) where
       pub state-used : q ≡ true → 12 ≡ firstOf (limitStops (decode area) (messageIn s))
       unfolding firstOf limitStops
-      state-used w = rw (day-is, ← u, d, used-is, w) refl
+      state-used w = rw (day-is, ← u, d, ← v, w) refl
 
       module _ (w : q ≡ false) where
         pub state-full : 64 ≤ x .references → 13 ≡ firstOf (limitStops (decode area) (messageIn s))
         unfolding firstOf limitStops
-        state-full l = rw (day-is, ← u, d, used-is, w, ← n .references, le-leb _ _ l) refl
+        state-full l = rw (day-is, ← u, d, ← v, w, ← n .references, le-leb _ _ l) refl
 
         pub state-rest : x .references < 64 → (y : Totals) → TotalsOf (decode area .positions) (b .bank) (b .date) y → {r : ℕ} → r ≡ restNumber (x .positions) y b → r ≡ firstOf (limitStops (decode area) (messageIn s))
         unfolding firstOf limitStops restNumber noRoom overLimit overBy after
         state-rest l y g e =
-            e ∙ rw (day-is, ← u, d, used-is, w, ← n .references, lt-leb _ _ l, ← k .bank, ← k .date, ← g .opens, ← g .transferred, ← g .detailed, ← n .positions, k .transferred, k .detailed) refl
+            e ∙ rw (day-is, ← u, d, ← v, w, ← n .references, lt-leb _ _ l, ← k .bank, ← k .date, ← g .opens, ← g .transferred, ← g .detailed, ← n .positions, k .transferred, k .detailed) refl
 
-pub ruleset stops = (held-told, misdated-transfer, misdated-before, misdated-after, total-within, total-above, amount-own, amount-none, sum-none, sum-own, added-small, summed-small, over-first, over-second, rest-open-over, rest-open, rest-full, rest-over, rest-none, state-day, state-used, state-full, state-rest)
+pub ruleset stops = (held-told, misdated-transfer, misdated-before, misdated-after, total-within, total-above, amount-own, amount-none, sum-none, sum-own, added-small, summed-small, over-first, over-second, rest-open-over, rest-open, rest-full, rest-over, rest-none, used-is, state-day, state-used, state-full, state-rest)

@@ -1,16 +1,18 @@
 // The conditions 11 to 15, "stopped by the state".
-use crate::booking::Booking;
+use conditions::Booking;
 use engine::Totals;
 ghost use mathlib.Core.Path.{_≡_};
 ghost use mathlib.Core.Bool.{true, _&&_, _||_, not};
 ghost use Prim.Native.Nat.{_+_, _<_, _≤_};
 ghost use lib.Dec.{leb};
 ghost use lib.ListN.{length};
-ghost use Rattle.rules.specs.Text.{isSome};
-ghost use Rattle.rules.specs.Engine.{limit};
-ghost use Rattle.rules.specs.Calls.{firstOf};
+ghost use Rattle.rules.specs.Text.{isSome, any};
+ghost use Rattle.rules.specs.Engine.{limit, sameReference};
+ghost use Rattle.rules.specs.Calls.{firstOf, ownReference};
 ghost use Rattle.rules.specs.Area.{holds, decode};
-ghost use Rattle.state.specs.Books.{Books, messageIn, amountIf, misdatedBy};
+ghost use Rattle.details.specs.Message.{messageIn};
+ghost use Rattle.conditions.specs.Books.{Books, amountIf, misdatedBy};
+ghost use Rattle.engine.specs.Find.{TotalsOf};
 ghost use Rattle.state.specs.Stops.{limitStops, overBy, restNumber};
 
 // 11: an MT103 not dated on the day, an MT101 dated after it?
@@ -95,22 +97,32 @@ fn rest_number(n: u64, t: Totals, b: Booking) -> u32
     0
 }
 
-// 11 to 15; 0 where none holds.
-pub fn state_number(s: &[u8], area: &[u8], b: Booking) -> u32
+// Was its field 20 accepted today from this sender?
+fn already_accepted(s: &[u8], area: &[u8], b: Booking) -> bool
     requires { ⌜ isSome (holds (now area)) ≡ true ⌝ }
-    requires { ⌜ Books (now s) b ⌝ }
+    requires { ⌜ Books (now s) (messageIn (now s)) b ⌝ }
+    ensures { λ r. ⌜ r ≡ any (sameReference (ownReference (messageIn (now (s .entry))))) (decode (now (area .entry)) .references) ⌝ }
+{
+    let p = b.reference;
+    engine::is_used(area, b.bank, s, p.start as usize, p.end as usize)
+}
+
+// 11 to 15, t being the totals of the message's position; 0 where none holds.
+pub fn state_number(s: &[u8], area: &[u8], b: Booking, t: Totals) -> u32
+    requires { ⌜ isSome (holds (now area)) ≡ true ⌝ }
+    requires { ⌜ Books (now s) (messageIn (now s)) b ⌝ }
+    requires { ⌜ TotalsOf (decode (now area) .positions) (b .bank) (b .date) t ⌝ }
     ensures { λ r. ⌜ r ≡ firstOf (limitStops (decode (now (area .entry))) (messageIn (now (s .entry)))) ⌝ }
 {
     let x = steps::numbers_of(area);
     if is_misdated(b, x.day) {
         return 11;
     }
-    if engine::is_used(area, b.bank, s, b.start, b.end) {
+    if already_accepted(s, area, b) {
         return 12;
     }
     if 64 <= x.references {
         return 13;
     }
-    let t = engine::totals_of(area, b.bank, b.date);
     rest_number(x.positions, t, b)
 }

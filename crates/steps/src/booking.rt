@@ -50,24 +50,25 @@ fn raise(area: &mut [u8], at: usize, bank: u64, date: u64, transferred: u64, det
 // Both totals added to a bank's position of a date, which opens in its place where it is missing. Answers how many positions there are then.
 fn book_position(
     area: &mut [u8],
-    n: usize,
+    n: u32,
     bank: u64,
     date: u64,
     transferred: u64,
     detailed: u64,
-) -> usize
+) -> u32
     requires { ⌜ isSome (holds (now area)) ≡ true ⌝ }
     requires { ⌜ Many (now area) n ⌝ }
     requires { ⌜ Booking (decode (now area)) (position bank date transferred detailed) ⌝ }
     ensures { λ r. ⌜ Positions (booked (position bank date transferred detailed) (decode (now (area .entry)) .positions)) (now (area .entry)) r (now (area .exit)) ⌝ }
 {
     let i = place_of(area, n, bank, date);
+    let at = (1552 + 24 * i) as usize;
     if is_at(area, n, i, bank, date) {
-        raise(area, 1552 + 24 * i, bank, date, transferred, detailed);
+        raise(area, at, bank, date, transferred, detailed);
         return n;
     }
     records::open_record(area, 1552, 24, n, i);
-    put_position(area, 1552 + 24 * i, bank, date, transferred, detailed);
+    put_position(area, at, bank, date, transferred, detailed);
     n + 1
 }
 
@@ -104,13 +105,20 @@ pub fn book_area(
     let x = numbers_of(area);
     let k = book_position(
         area,
-        x.positions as usize,
+        x.positions as u32,
         bank,
         date as u64,
         transferred,
         detailed,
     );
-    put_reference(area, 16 + 24 * x.references as usize, bank, s, a, b);
+    put_reference(
+        area,
+        (16 + 24 * x.references as u32) as usize,
+        bank,
+        s,
+        a,
+        b,
+    );
     put_numbers(
         area,
         x.day,

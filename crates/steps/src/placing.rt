@@ -28,13 +28,13 @@ fn is_earlier(area: &[u8], at: usize, bank: u64, date: u64) -> bool
 }
 
 // Its place: how many stand before it.
-pub fn place_of(area: &[u8], n: usize, bank: u64, date: u64) -> usize
+pub fn place_of(area: &[u8], n: u32, bank: u64, date: u64) -> u32
     requires { ⌜ Many (now area) n ⌝ }
     ensures { λ r. ⌜ PlaceOf bank date (decode (now (area .entry)) .positions) r ⌝ }
 {
-    let mut i = 0;
+    let mut i: u32 = 0;
     while i < n {
-        if is_earlier(area, 1552 + 24 * i, bank, date) {
+        if is_earlier(area, (1552 + 24 * i) as usize, bank, date) {
             i += 1;
         } else {
             return i;
@@ -44,14 +44,14 @@ pub fn place_of(area: &[u8], n: usize, bank: u64, date: u64) -> usize
 }
 
 // Is the position at place i that of a bank and date?
-pub fn is_at(area: &[u8], n: usize, i: usize, bank: u64, date: u64) -> bool
+pub fn is_at(area: &[u8], n: u32, i: u32, bank: u64, date: u64) -> bool
     requires { ⌜ Many (now area) n ⌝ }
     ensures { λ r. ⌜ r ≡ isFirst bank date (drop i (decode (now (area .entry)) .positions)) ⌝ }
 {
     if i >= n {
         return false;
     }
-    let at = 1552 + 24 * i;
+    let at = (1552 + 24 * i) as usize;
     if number_at(area, at, 8) == bank {
         return number_at(area, at + 8, 3) == date;
     }

@@ -25,14 +25,15 @@ fn stays_at(area: &[u8], at: usize) -> bool
 }
 
 // Of n positions those without details are kept, in their order; the room of the others is zero. Answers how many are kept.
-fn remove_detailed(area: &mut [u8], n: usize) -> usize
+fn remove_detailed(area: &mut [u8], n: u32) -> u32
+    requires { ⌜ n ≤ 32 ⌝ }
     requires { ⌜ 1552 + 24 * n ≤ length (now area) ⌝ }
     ensures { λ r. ⌜ Sifted stays 24 n 1552 (now (area .entry)) r (now (area .exit)) ⌝ }
 {
-    let mut i = 0;
-    let mut j = 0;
+    let mut i: u32 = 0;
+    let mut j: u32 = 0;
     while i < n {
-        if stays_at(area, 1552 + 24 * i) {
+        if stays_at(area, (1552 + 24 * i) as usize) {
             records::keep_record(area, 1552, 24, i, j);
             i += 1;
             j += 1;
@@ -40,7 +41,7 @@ fn remove_detailed(area: &mut [u8], n: usize) -> usize
             i += 1;
         }
     }
-    put::put_zeros(area, 1552 + 24 * j, 24 * (n - j));
+    put::put_zeros(area, (1552 + 24 * j) as usize, (24 * (n - j)) as usize);
     j
 }
 
@@ -50,7 +51,7 @@ pub fn turn_area(area: &mut [u8], day: u32, count: u32)
     ensures { λ _. ⌜ now (area .exit) ≡ encode (turned (decode (now (area .entry))) day count) ++ drop 6144 (now (area .entry)) ⌝ }
 {
     let x = numbers_of(area);
-    let kept = remove_detailed(area, x.positions as usize);
+    let kept = remove_detailed(area, x.positions as u32);
     put::put_zeros(area, 16, 1536);
     put_numbers(area, day as u64, count as u64, kept as u64, 0);
 }

@@ -3,7 +3,9 @@ use mathlib.Core.Path.{_≡_}
 use mathlib.Core.Bool.{Bool}
 use mathlib.Core.Option.{Option, none, some}
 use Prim.Native.Nat.{ℕ, _<_}
+use mathlib.Core.List.{List}
 use Rattle.rules.specs.Text.{isDigit, isLetter, isAlnum, isText}
+use Rattle.laws.specs.Places.{Passed}
 use Rattle.text.specs.declared.classes.Class.{Class}
 use Rattle.text.specs.declared.classes.Class.the-variants.{Digit, Letter, Alnum, Text}
 use Rattle.text.specs.declared.numbers.Num.{Num}
@@ -16,9 +18,9 @@ classOf Letter = isLetter
 classOf Alnum = isAlnum
 classOf Text = isText
 
--- the test of the class that a match found
-pub class-told : (k l : Class) (c : ℕ) (r : Bool) → k ≡ l → r ≡ classOf l c → r ≡ classOf k c
-class-told k l c r e h = rw e h
+-- the bytes of the class that a match found
+pub class-told : (k l : Class) (s : List ℕ) (a n r : ℕ) → k ≡ l → Passed (classOf l) s a n r → Passed (classOf k) s a n r
+class-told k l s a n r e h = rw e h
 
 -- a number that was read, or none
 abbrev pub numOf : Num → Option ℕ

@@ -4,26 +4,36 @@ use crate::classes::is_digit;
 use crate::classes::is_letter;
 ghost use mathlib.Core.Path.{_≡_};
 ghost use Prim.Native.Nat.{_+_, _≤_};
+ghost use lib.Dec.{eqb};
 ghost use lib.ListN.{length};
 ghost use Rattle.rules.specs.Text.{equal, fits, fitsSign};
 ghost use Rattle.laws.specs.Parts.{cut};
 
+// How many of the n bytes from a are those of t from b, up to the first that is another.
+pub fn alike(s: &[u8], a: usize, t: &[u8], b: usize, n: u32) -> u32
+    requires { ⌜ a + n ≤ length (now s) ⌝ }
+    requires { ⌜ b + n ≤ length (now t) ⌝ }
+    ensures { λ r. ⌜ eqb r n ≡ equal (cut (now (s .entry)) a (a + n)) (cut (now (t .entry)) b (b + n)) ⌝ }
+{
+    let mut k: u32 = 0;
+    while k < n {
+        let same = s[a + k as usize] == t[b + k as usize];
+        if same {
+            k += 1;
+        } else {
+            return k;
+        }
+    }
+    k
+}
+
 // Are the n bytes from a and the n bytes of t from b equal?
-pub fn equal_parts(s: &[u8], a: usize, t: &[u8], b: usize, n: usize) -> bool
+pub fn equal_parts(s: &[u8], a: usize, t: &[u8], b: usize, n: u32) -> bool
     requires { ⌜ a + n ≤ length (now s) ⌝ }
     requires { ⌜ b + n ≤ length (now t) ⌝ }
     ensures { λ r. ⌜ r ≡ equal (cut (now (s .entry)) a (a + n)) (cut (now (t .entry)) b (b + n)) ⌝ }
 {
-    let mut k = 0;
-    while k < n {
-        let same = s[a + k] == t[b + k];
-        if same {
-            k += 1;
-        } else {
-            return false;
-        }
-    }
-    true
+    alike(s, a, t, b, n) == n
 }
 
 // A byte against the sign of its place: n a digit, a a letter, c a letter or digit, any other sign itself.

@@ -1,9 +1,10 @@
 // Classes of bytes.
 ghost use mathlib.Core.Path.{_≡_};
-ghost use Prim.Native.Nat.{_≤_};
+ghost use Prim.Native.Nat.{_+_, _≤_};
 ghost use lib.ListN.{length};
-ghost use Rattle.rules.specs.Text.{between, isDigit, isLetter, isAlnum, isText, every, run};
+ghost use Rattle.rules.specs.Text.{between, isDigit, isLetter, isAlnum, isText, run};
 ghost use Rattle.laws.specs.Parts.{cut};
+ghost use Rattle.laws.specs.Places.{Passed};
 ghost use Rattle.text.specs.Answers.{classOf};
 
 // low to high
@@ -41,6 +42,70 @@ pub fn is_text(c: u8) -> bool
     is_between(32, 255, c) && c != 125
 }
 
+// How many of the n bytes from a are digits, up to the first that is none.
+pub fn digits_at(s: &[u8], a: usize, n: u32) -> u32
+    requires { ⌜ a + n ≤ length (now s) ⌝ }
+    ensures { λ r. ⌜ Passed isDigit (now (s .entry)) a n r ⌝ }
+{
+    let mut k: u32 = 0;
+    while k < n {
+        if is_digit(s[a + k as usize]) {
+            k += 1;
+        } else {
+            return k;
+        }
+    }
+    k
+}
+
+// How many of the n bytes from a are letters, up to the first that is none.
+pub fn letters_at(s: &[u8], a: usize, n: u32) -> u32
+    requires { ⌜ a + n ≤ length (now s) ⌝ }
+    ensures { λ r. ⌜ Passed isLetter (now (s .entry)) a n r ⌝ }
+{
+    let mut k: u32 = 0;
+    while k < n {
+        if is_letter(s[a + k as usize]) {
+            k += 1;
+        } else {
+            return k;
+        }
+    }
+    k
+}
+
+// How many of the n bytes from a are letters or digits, up to the first that is none.
+pub fn alnums_at(s: &[u8], a: usize, n: u32) -> u32
+    requires { ⌜ a + n ≤ length (now s) ⌝ }
+    ensures { λ r. ⌜ Passed isAlnum (now (s .entry)) a n r ⌝ }
+{
+    let mut k: u32 = 0;
+    while k < n {
+        if is_alnum(s[a + k as usize]) {
+            k += 1;
+        } else {
+            return k;
+        }
+    }
+    k
+}
+
+// How many of the n bytes from a are bytes of a text, up to the first that is none.
+pub fn texts_at(s: &[u8], a: usize, n: u32) -> u32
+    requires { ⌜ a + n ≤ length (now s) ⌝ }
+    ensures { λ r. ⌜ Passed isText (now (s .entry)) a n r ⌝ }
+{
+    let mut k: u32 = 0;
+    while k < n {
+        if is_text(s[a + k as usize]) {
+            k += 1;
+        } else {
+            return k;
+        }
+    }
+    k
+}
+
 // The classes by name.
 pub enum Class {
     Digit,
@@ -49,47 +114,31 @@ pub enum Class {
     Text,
 }
 
-// Is the byte of the class?
-pub fn in_class(class: Class, c: u8) -> bool
-    ensures { λ r. ⌜ r ≡ classOf class c ⌝ }
+// How many of the n bytes from a are of the class, up to the first that is not.
+fn class_at(class: Class, s: &[u8], a: usize, n: u32) -> u32
+    requires { ⌜ a + n ≤ length (now s) ⌝ }
+    ensures { λ r. ⌜ Passed (classOf class) (now (s .entry)) a n r ⌝ }
 {
     match class {
-        Class::Digit => is_digit(c),
-        Class::Letter => is_letter(c),
-        Class::Alnum => is_alnum(c),
-        Class::Text => is_text(c),
+        Class::Digit => digits_at(s, a, n),
+        Class::Letter => letters_at(s, a, n),
+        Class::Alnum => alnums_at(s, a, n),
+        Class::Text => texts_at(s, a, n),
     }
-}
-
-// Is each byte from a up to b of the class?
-pub fn every_in(class: Class, s: &[u8], a: usize, b: usize) -> bool
-    requires { ⌜ a ≤ b ⌝ }
-    requires { ⌜ b ≤ length (now s) ⌝ }
-    ensures { λ r. ⌜ r ≡ every (classOf class) (cut (now (s .entry)) a b) ⌝ }
-{
-    let mut i = a;
-    while i < b {
-        if in_class(class, s[i]) {
-            i += 1;
-        } else {
-            return false;
-        }
-    }
-    true
 }
 
 // Are there low to high bytes from a up to b, each of the class?
-pub fn run_in(class: Class, low: usize, high: usize, s: &[u8], a: usize, b: usize) -> bool
+pub fn run_in(class: Class, low: u32, high: u32, s: &[u8], a: usize, b: usize) -> bool
     requires { ⌜ a ≤ b ⌝ }
     requires { ⌜ b ≤ length (now s) ⌝ }
     ensures { λ r. ⌜ r ≡ run (classOf class) low high (cut (now (s .entry)) a b) ⌝ }
 {
     let n = b - a;
-    if n < low {
+    if n < low as usize {
         return false;
     }
-    if high < n {
+    if n > high as usize {
         return false;
     }
-    every_in(class, s, a, b)
+    class_at(class, s, a, n as u32) == n as u32
 }

@@ -39,10 +39,10 @@ fn say_part(s: &[u8], p: Span) {
     }
 }
 
-// The details, from first on.
-fn say_details(s: &[u8], first: usize, count: usize) {
+// The details from first on: field 21's line, and the amount that is kept.
+fn say_details(s: &[u8], amounts: &[u64; 16], first: usize, count: u8) {
     let mut at = first;
-    let mut i: usize = 0;
+    let mut i: u8 = 0;
     while i < count {
         if s.len() < at {
             return;
@@ -50,39 +50,51 @@ fn say_details(s: &[u8], first: usize, count: usize) {
         if 4096 < s.len() {
             return;
         }
+        if 16 <= i {
+            return;
+        }
         let d = forms::read_detail(s, at);
         say_part(s, d.spans[0]);
-        say_number(d.amount);
+        say_number(amounts[i as usize]);
         at = d.next;
         i += 1;
     }
 }
 
-// The answer of the check.
-fn say_checked(s: &[u8], r: Checked) {
+// Where the details of an MT101 begin, behind its field 20.
+fn first_detail(s: &[u8]) -> usize {
+    if s.len() < 23 {
+        return 0;
+    }
+    if 4096 < s.len() {
+        return 0;
+    }
+    let rows = forms::read_rows(s, 23, 0, 1);
+    rows.next
+}
+
+// The answer of the check, and the amounts that it kept.
+fn say_checked(s: &[u8], r: Checked, amounts: &[u64; 16]) {
     match r {
         Checked::Refused(k) => {
             say_number(k as u64);
         }
-        Checked::Transfer(p) => {
+        Checked::Passed(b) => {
             say_number(0);
-            say_part(s, p.reference);
-            say_number(p.date);
-            say_number(p.amount);
-        }
-        Checked::Order(p) => {
-            say_number(0);
-            say_part(s, p.reference);
-            say_number(p.date);
-            say_number(p.sum);
-            say_details(s, p.first, p.count);
+            say_part(s, b.reference);
+            say_number(b.date as u64);
+            say_number(b.amount);
+            say_details(s, amounts, first_detail(s), b.count);
         }
     }
 }
 
 // A message to the card whose temporary account is BG80BNBG96611020345678.
 fn try_message(s: &[u8]) {
-    say_checked(s, conditions::check_message(s, b"BG80BNBG96611020345678"));
+    let mut amounts = [0u64; 16];
+    let mut places = [0u16; 96];
+    let r = conditions::check_message(s, b"BG80BNBG96611020345678", &mut amounts, &mut places);
+    say_checked(s, r, &amounts);
     io::write_all(1, b"\n");
 }
 

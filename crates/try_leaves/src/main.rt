@@ -63,12 +63,20 @@ fn try_iban(s: &[u8], a: usize, b: usize)
     } else {
         if account::iban_passes(s, a) {
             say(
-                account::iban_control(s, a),
+                account::iban_shape(s, a),
                 b"passes",
-                b"passes, and no control",
+                b"passes, and no shape",
             );
         } else {
-            say(account::iban_shape(s, a), b"control", b"shape");
+            if account::iban_shape(s, a) {
+                say(
+                    account::iban_control(s, a),
+                    b"control holds, and does not pass",
+                    b"control",
+                );
+            } else {
+                say(true, b"shape", b"");
+            }
         }
     }
 }

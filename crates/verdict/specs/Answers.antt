@@ -1,9 +1,24 @@
--- Document 01's verdict for each case of the code's.
+-- Document 01's verdict for each case of the code's, and for each number that keeps one.
+use mathlib.Core.Path.{_≡_, refl, sym, ap, _∙_}
+use mathlib.Core.Bool.{Bool, true, false, not, cond}
+use mathlib.Core.List.{List}
+use mathlib.Core.Option.{Option, none, some}
+use Prim.Native.Nat.{ℕ, _+_, _-_, _*_, _≤_, _<_}
+use native.Mathlib.Omega.{arith}
+use lib.Dec.{eqb}
+use lib.ListN.{length, getD, take}
+use borrow.Author.Tests.{eq-eqb, ne-eqb}
+use Rattle.rules.specs.Accounts.{control}
+use Rattle.rules.specs.Register.{Register, registerOf}
+use Rattle.rules.specs.Verdict as paper
+use Rattle.rules.specs.Verdict.{found, accountAt, shaped, inBounds, judged, verdict}
+use Rattle.details.specs.Lines.{lineAt}
+use Rattle.verdict.specs.Judging.{found-below}
 use Rattle.verdict.specs.declared.Cause.{Cause}
 use Rattle.verdict.specs.declared.Cause.the-variants.{WrongShape, WrongControl, NotInRegister, OutOfBounds}
 use Rattle.verdict.specs.declared.Verdict.{Verdict}
 use Rattle.verdict.specs.declared.Verdict.the-variants.{Credited, Returned}
-use Rattle.rules.specs.Verdict as paper
+use Rattle.verdict.specs.declared.detail.Judged.{Judged}
 
 -- "shape, control, not in the register, code outside its bounds"
 abbrev pub causeOf : Cause → paper.Cause
@@ -16,3 +31,93 @@ causeOf OutOfBounds = paper.outOfBounds
 abbrev pub verdictOf : Verdict → paper.Verdict
 verdictOf (Credited i) = paper.credited i
 verdictOf (Returned c) = paper.returned (causeOf c)
+
+-- ---- a verdict kept as a number: the causes in their order from 0, and the account lines from 4
+
+unfoldable pub verdictBy : ℕ → Verdict
+verdictBy k =
+    cond (eqb k 0) (Returned WrongShape)
+    (cond (eqb k 1) (Returned WrongControl)
+    (cond (eqb k 2) (Returned NotInRegister)
+    (cond (eqb k 3) (Returned OutOfBounds) (Credited (k - 4)))))
+
+pub record CodeOf (v : Verdict) (r : ℕ) : Type 0 where
+  pub same : verdictBy r ≡ v
+
+module _ (k : ℕ) where
+  pub by-shape : k ≡ 0 → Returned WrongShape ≡ verdictBy k
+  unfolding verdictBy
+  by-shape e = rw e
+
+  pub by-control : k ≡ 1 → Returned WrongControl ≡ verdictBy k
+  unfolding verdictBy
+  by-control e = rw e
+
+  pub by-register : k ≡ 2 → Returned NotInRegister ≡ verdictBy k
+  unfolding verdictBy
+  by-register e = rw e
+
+  pub by-bounds : k ≡ 3 → Returned OutOfBounds ≡ verdictBy k
+  unfolding verdictBy
+  by-bounds e = rw e
+
+  pub by-line : (k ≡ 0 → ⊥) → (k ≡ 1 → ⊥) → (k ≡ 2 → ⊥) → (k ≡ 3 → ⊥) → Credited (k - 4) ≡ verdictBy k
+  unfolding verdictBy
+  by-line a b c d = rw (ne-eqb k 0 a, ne-eqb k 1 b, ne-eqb k 2 c, ne-eqb k 3 d)
+
+module _ (v : Verdict) where
+  pub code-line : {i : ℕ} → v ≡ Credited i → CodeOf v (i + 4)
+  unfolding verdictBy
+  code-line {i} e =
+      let n : i + 4 - 4 ≡ i = omega arith in
+      record { same = rw (ne-eqb (i + 4) 0 (λ z. omega arith), ne-eqb (i + 4) 1 (λ z. omega arith), ne-eqb (i + 4) 2 (λ z. omega arith), ne-eqb (i + 4) 3 (λ z. omega arith), n) (sym e) }
+
+  module _ {c : Cause} (e : v ≡ Returned c) where
+    pub code-shape : c ≡ WrongShape → CodeOf v 0
+    unfolding verdictBy
+    code-shape f = record { same = sym (e ∙ ap Returned f) }
+
+    pub code-control : c ≡ WrongControl → CodeOf v 1
+    unfolding verdictBy
+    code-control f = record { same = sym (e ∙ ap Returned f) }
+
+    pub code-register : c ≡ NotInRegister → CodeOf v 2
+    unfolding verdictBy
+    code-register f = record { same = sym (e ∙ ap Returned f) }
+
+    pub code-bounds : c ≡ OutOfBounds → CodeOf v 3
+    unfolding verdictBy
+    code-bounds f = record { same = sym (e ∙ ap Returned f) }
+
+-- detail i as it is kept, with its verdict
+unfoldable pub judgedIn : List ℕ → List ℕ → List ℕ → ℕ → Judged
+judgedIn amounts places verdicts i = record { amount = getD amounts i 0; branch = lineAt places (3 * i); account = lineAt places (3 * i + 1); baeref = lineAt places (3 * i + 2); verdict = verdictBy (getD verdicts i 0) }
+
+-- ---- a credited detail's account line is one of the register's
+
+never : {A : Type 0} {c : paper.Cause} {i : ℕ} → paper.returned c ≡ paper.credited i → A
+never h = absurd (let z : _≡_ {A = ℕ} 0 1 = cc in omega arith)
+
+credited-listed : (r : Register) (cs : List ℕ) (i : ℕ) → verdict r cs ≡ paper.credited i → i < length (r .accounts)
+unfolding verdict judged
+credited-listed r cs i h = go (shaped cs) (control (take 22 cs)) (found (take 22 cs) 0 (r .accounts)) refl h
+  where
+    last : (j : ℕ) (b : Bool) → found (take 22 cs) 0 (r .accounts) ≡ some j → cond b (paper.credited j) (paper.returned paper.outOfBounds) ≡ paper.credited i → i < length (r .accounts)
+    last j true f k = let q : j ≡ i = cc in let m : j < 0 + length (r .accounts) = found-below (take 22 cs) 0 (r .accounts) j f in omega arith
+    last j false f k = never k
+
+    go : (t u : Bool) (o : Option ℕ) → found (take 22 cs) 0 (r .accounts) ≡ o → cond (not t) (paper.returned paper.wrongShape) (cond (not u) (paper.returned paper.wrongControl) (judged r cs o)) ≡ paper.credited i → i < length (r .accounts)
+    go true true (some j) f k = last j (inBounds (accountAt r j) cs) f k
+    go true true none f k = never k
+    go true false o f k = never k
+    go false u o f k = never k
+
+-- the line that a verdict names
+pub record Listed (text : List ℕ) (v : Verdict) : Type 0 where
+  pub line : (i : ℕ) → v ≡ Credited i → i < length (registerOf text .accounts)
+
+pub listed : (text cs : List ℕ) (v : Verdict) → verdictOf v ≡ verdict (registerOf text) cs → Listed text v
+listed text cs v h = record { line = λ i e. credited-listed (registerOf text) cs i (sym h ∙ ap verdictOf e) }
+
+pub listed-line : (text : List ℕ) (v : Verdict) (i : ℕ) → Listed text v → v ≡ Credited i → i < length (registerOf text .accounts)
+listed-line text v i l e = l .line i e

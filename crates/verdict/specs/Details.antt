@@ -1,71 +1,117 @@
--- A detail and its verdict, as the code holds them.
+-- The verdicts of a message's details, and a detail with its verdict, as the code holds them.
 use mathlib.Core.Path.{_≡_, refl, sym, ap, _∙_}
-use mathlib.Core.Bool.{cond}
+use mathlib.Core.Bool.{true}
 use mathlib.Core.List.{List}
-use mathlib.Core.Option.{some, none}
-use Prim.Native.Nat.{ℕ, _≤_, _<_}
+use Prim.Native.Nat.{ℕ, _+_, _*_, _≤_, _<_}
 use native.Mathlib.Omega.{arith}
-use lib.ListN.{length, getD, drop}
+use lib.ListN.{length, getD, drop, set, length-set}
+use lib.Seq.{getD-set-same, getD-set-other}
+use Rattle.rules.specs.Text.{isSome}
 use Rattle.rules.specs.Messages as M
-use Rattle.rules.specs.Messages.{lineOf, account59, detailed}
-use Rattle.rules.specs.Register.{registerOf}
+use Rattle.rules.specs.Messages.{lineOf, account59}
+use Rattle.rules.specs.Register.{register, registerOf}
 use Rattle.rules.specs.Verdict.{verdict}
-use Rattle.laws.specs.Parts.{from}
-use Rattle.forms.specs.Spans.{spanOf, noSpan, SpanIn, within-at, held-line}
+use Rattle.register.specs.Passed.{text-count, accounts-count}
+use Rattle.forms.specs.Spans.{spanOf, SpanIn}
 use Rattle.forms.specs.Fields.{Behind, behind-in, behind-bytes}
-use Rattle.forms.specs.Details.{DetailAt, detailHeld}
 use Rattle.forms.specs.declared.rows.Span.{Span}
-use Rattle.forms.specs.declared.detail.Detail.{Detail}
-use Rattle.verdict.specs.Answers.{verdictOf}
+use Rattle.details.specs.Lines.{lineAt}
+use Rattle.details.specs.Message.{detailsIn, detailAt}
+use Rattle.details.specs.Kept.{LineOf, LinesAs, LinesIn, AmountsIn, before-or-last}
+use Rattle.verdict.specs.Answers.{verdictOf, verdictBy, CodeOf, judgedIn, Listed, listed, listed-line, code-line, code-shape, code-control, code-register, code-bounds, by-shape, by-control, by-register, by-bounds, by-line}
 use Rattle.verdict.specs.declared.Verdict.{Verdict}
+use Rattle.verdict.specs.declared.Verdict.the-variants.{Credited, Returned}
 use Rattle.verdict.specs.declared.detail.Judged.{Judged}
 
--- the part is line k of the detail
-pub record LineOf (s : List ℕ) (d : M.Detail) (k : ℕ) (p : Span) : Type 0 where
-  pub inside : SpanIn s p
-  pub bytes : spanOf s p ≡ lineOf (d .rows) k
+-- the verdict kept at place i is detail d's
+abbrev pub verdictAt : List ℕ → List ℕ → M.Detail → ℕ → Type 0
+verdictAt text verdicts d i = verdictOf (verdictBy (getD verdicts i 0)) ≡ verdict (registerOf text) (account59 d)
 
-pub line-inside : (s : List ℕ) (d : M.Detail) (k : ℕ) (p : Span) → LineOf s d k p → SpanIn s p
-line-inside s d k p l = l .inside
+-- those of a message's n details
+pub record VerdictsIn (text s verdicts : List ℕ) (n : ℕ) : Type 0 where
+  pub each : (i : ℕ) → i < n → verdictAt text verdicts (detailAt (detailsIn s) i) i
 
--- the detail that begins at `at`, and the verdict on its field 59 behind the slash
-pub record JudgedAt (text s : List ℕ) (at : ℕ) (r : Judged) : Type 0 where
-  pub detail : M.Detail
-  pub same : cond (r .ok) (some record { detail = detail; others = from s (r .next) }) none ≡ detailed (from s at)
-  pub next : r .next ≤ length s
-  pub amount : r .amount ≡ detail .amount
-  pub branch : LineOf s detail 7 (r .branch)
-  pub account : LineOf s detail 9 (r .account)
-  pub baeref : LineOf s detail 14 (r .baeref)
-  pub verdict : verdictOf (r .verdict) ≡ verdict (registerOf text) (account59 detail)
+-- the n details of a message: their lines and amounts kept, and their verdicts
+pub record JudgedIn (text s amounts places verdicts : List ℕ) (n : ℕ) : Type 0 where
+  pub lines-kept : LinesIn s places n
+  pub amounts-kept : AmountsIn s amounts n
+  pub verdicts-kept : VerdictsIn text s verdicts n
 
-module _ (s : List ℕ) (at : ℕ) (d : Detail) (w : DetailAt s at d) where
-  line-of : (k : ℕ) → k < 17 → LineOf s (detailHeld s d) k (getD (d .spans) k noSpan)
-  line-of k h = record { inside = within-at s (d .spans) k (w .within); bytes = sym (held-line s (d .spans) 17 k h) }
+-- ---- judged one by one: those of the first i are kept
 
-  pub line-order : getD (d .spans) 9 noSpan .start ≤ getD (d .spans) 9 noSpan .end
-  line-order = within-at s (d .spans) 9 (w .within) .order
+pub record Judging (text s verdicts : List ℕ) (i : ℕ) : Type 0 where
+  pub size : length verdicts ≡ 16
+  pub done : VerdictsIn text s verdicts i
 
-  module _ (p : Span) (b : Behind (getD (d .spans) 9 noSpan) 5 p) where
-    pub account-in : SpanIn s p
-    account-in = behind-in s (getD (d .spans) 9 noSpan) 5 (within-at s (d .spans) 9 (w .within)) p b
+pub judging-start : (text s : List ℕ) {verdicts : List ℕ} → length verdicts ≡ 16 → Judging text s verdicts 0
+judging-start text s e = record { size = e; done = record { each = λ i h. absurd (omega arith) } }
 
-    account-bytes : spanOf s p ≡ account59 (detailHeld s d)
-    account-bytes =
-        behind-bytes s (getD (d .spans) 9 noSpan) 5 (within-at s (d .spans) 9 (w .within)) p b
-        ∙ ap (λ (l : List ℕ). drop 5 l) (sym (held-line s (d .spans) 17 9 (omega arith)))
+-- a line number of a register that passed is small
+pub line-small : (text : List ℕ) (v : Verdict) (i : ℕ) → isSome (register text) ≡ true → Listed text v → v ≡ Credited i → i < 40
+line-small text v i h l e = let n : i < length (registerOf text .accounts) = l .line i e in omega (arith, accounts-count text h, text-count text h)
 
-    pub judged-at : (text : List ℕ) (v : Verdict) → verdictOf v ≡ verdict (registerOf text) (spanOf s p)
-        → JudgedAt text s at record { ok = d .ok; next = d .next; amount = d .amount; branch = getD (d .spans) 7 noSpan; account = getD (d .spans) 9 noSpan; baeref = getD (d .spans) 14 noSpan; verdict = v }
-    judged-at text v e = record {
-      detail = detailHeld s d;
-      same = w .same;
-      next = w .next;
-      amount = refl;
-      branch = line-of 7 (omega arith);
-      account = line-of 9 (omega arith);
-      baeref = line-of 14 (omega arith);
-      verdict = e ∙ ap (verdict (registerOf text)) account-bytes;
-    }
+module _ (s places : List ℕ) (n i : ℕ) (k : LinesIn s places n) (h : i < n) (p : Span) (e : p ≡ lineAt places (3 * i + 1)) where
+  line-is : LineOf s (detailAt (detailsIn s) i) 9 p
+  line-is = rw e (k .each i h .account)
 
-pub ruleset detailing = (line-order, account-in, judged-at)
+  pub account-order : p .start ≤ p .end
+  account-order = line-is .inside .order
+
+  module _ (q : Span) (b : Behind p 5 q) where
+    pub account-in : SpanIn s q
+    account-in = behind-in s p 5 (line-is .inside) q b
+
+    account-bytes : spanOf s q ≡ account59 (detailAt (detailsIn s) i)
+    account-bytes = behind-bytes s p 5 (line-is .inside) q b ∙ ap (λ (l : List ℕ). drop 5 l) (line-is .bytes)
+
+    pub judging-next : (text : List ℕ) (v : Verdict) → verdictOf v ≡ verdict (registerOf text) (spanOf s q) → {verdicts : List ℕ} → Judging text s verdicts i → (c : ℕ) → CodeOf v c → Judging text s (set verdicts i c) (i + 1)
+    judging-next text v u {verdicts} m c w =
+        let own : verdictOf (verdictBy c) ≡ verdict (registerOf text) (account59 (detailAt (detailsIn s) i)) = ap verdictOf (w .same) ∙ u ∙ ap (verdict (registerOf text)) account-bytes in record {
+          size = length-set verdicts i c ∙ m .size;
+          done = record {
+            each = λ j l. before-or-last j i l
+                (λ b. ap (λ (x : ℕ). verdictOf (verdictBy x)) (getD-set-other verdicts i j c 0 (λ z. omega arith)) ∙ m .done .each j b)
+                (λ z. rw z (ap (λ (x : ℕ). verdictOf (verdictBy x)) (getD-set-same verdicts i c 0 (omega (arith, m .size, k .few))) ∙ own));
+          };
+        }
+
+pub judging-end : (text s verdicts : List ℕ) (n i : ℕ) → Judging text s verdicts i → n ≤ i → VerdictsIn text s verdicts n
+judging-end text s verdicts n i m h = record { each = λ j l. m .done .each j (omega arith) }
+
+-- ---- a detail with its verdict
+
+pub record JudgedAs (text s : List ℕ) (d : M.Detail) (r : Judged) : Type 0 where
+  pub amount : r .amount ≡ d .amount
+  pub verdict : verdictOf (r .verdict) ≡ verdict (registerOf text) (account59 d)
+
+-- what stands in the record of detail i
+module _ (amounts places verdicts : List ℕ) (i : ℕ) (r : Judged) (e : r ≡ judgedIn amounts places verdicts i) where
+  pub judged-verdict : r .verdict ≡ verdictBy (getD verdicts i 0)
+  unfolding judgedIn
+  judged-verdict = rw e
+
+  module _ (s : List ℕ) (n : ℕ) (k : LinesIn s places n) (h : i < n) where
+    pub judged-branch : LineOf s (detailAt (detailsIn s) i) 7 (r .branch)
+    unfolding judgedIn
+    judged-branch = rw e (k .each i h .branch)
+
+    pub judged-account : LineOf s (detailAt (detailsIn s) i) 9 (r .account)
+    unfolding judgedIn
+    judged-account = rw e (k .each i h .account)
+
+    pub judged-baeref : LineOf s (detailAt (detailsIn s) i) 14 (r .baeref)
+    unfolding judgedIn
+    judged-baeref = rw e (k .each i h .baeref)
+
+-- detail i of a message whose details are kept and judged
+pub judged-as : (text s amounts places verdicts : List ℕ) (n i : ℕ) (r : Judged) → LinesIn s places n → AmountsIn s amounts n → VerdictsIn text s verdicts n → i < n → r ≡ judgedIn amounts places verdicts i
+    → JudgedAs text s (detailAt (detailsIn s) i) r
+unfolding judgedIn
+judged-as text s amounts places verdicts n i r k a v h e = record { amount = ap (λ (x : Judged). x .amount) e ∙ a .each i h; verdict = ap (λ (x : Judged). verdictOf (x .verdict)) e ∙ v .each i h }
+
+pub judged-made : (amounts places verdicts : List ℕ) (i : ℕ) {b a p : Span} {v : Verdict} → b ≡ lineAt places (3 * i) → a ≡ lineAt places (3 * i + 1) → p ≡ lineAt places (3 * i + 2) → v ≡ verdictBy (getD verdicts i 0)
+    → record { amount = getD amounts i 0; branch = b; account = a; baeref = p; verdict = v } ≡ judgedIn amounts places verdicts i
+unfolding judgedIn
+judged-made amounts places verdicts i e f g h = rw (e, f, g, h)
+
+pub ruleset detailing = (listed, listed-line, line-small, code-line, code-shape, code-control, code-register, code-bounds, by-shape, by-control, by-register, by-bounds, by-line, judging-start, account-order, account-in, judging-next, judging-end, judged-made)

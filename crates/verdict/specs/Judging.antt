@@ -103,6 +103,10 @@ module _ (s : List ℕ) (a b : ℕ) (h : a ≤ b) (k : b ≤ length s) (w : shap
   iban : take 22 (cut s a b) ≡ cut s a (a + 22)
   iban = cut-take s a b 22 within
 
+  shaped-shape : ibanShape (cut s a (a + 22)) ≡ true
+  unfolding shaped
+  shaped-shape = let e : ibanShape (take 22 (cut s a b)) ≡ true = and-left _ _ w in rw iban at e
+
   -- the code behind an IBAN that does not stand alone
   module _ (e : b - a ≡ 22 → ⊥) where
     long : b ≡ a + 25 + 6
@@ -157,6 +161,9 @@ module _ (s : List ℕ) (a b : ℕ) (t : Bool) (u : t ≡ shaped (cut s a b)) (d
   pub judge-iban : a ≤ b → b ≤ length s → a + 22 ≤ length s
   judge-iban h k = shaped-iban s a b h k judge-shaped
 
+  pub judge-told : a ≤ b → b ≤ length s → ibanShape (cut s a (a + 22)) ≡ true
+  judge-told h k = shaped-shape s a b h k judge-shaped
+
 module _ (g : Register) (s : List ℕ) (a b : ℕ) (h : a ≤ b) (k : b ≤ length s) (t : Bool) (u : t ≡ shaped (cut s a b)) where
   pub judge-shape : not t ≡ true → returned wrongShape ≡ verdict g (cut s a b)
   unfolding verdict
@@ -188,4 +195,4 @@ module _ (g : Register) (s : List ℕ) (a b : ℕ) (h : a ≤ b) (k : b ≤ leng
           pub judge-outside : t₃ ≡ false → returned outOfBounds ≡ verdict g (cut s a b)
           judge-outside d₃ = rw d₃ at at-line
 
-pub ruleset judging = (shape-alone, shape-other, shape-coded, shape-none, code-within, code-low, code-high, code-missing, found-listed, judge-shape, judge-iban, judge-control, judge-nothing, judge-credited, judge-outside, judge-shaped)
+pub ruleset judging = (shape-alone, shape-other, shape-coded, shape-none, code-within, code-low, code-high, code-missing, found-listed, judge-shape, judge-iban, judge-told, judge-control, judge-nothing, judge-credited, judge-outside, judge-shaped)

@@ -1,27 +1,65 @@
-// A detail of an MT101 with its verdict.
+// The verdicts of a message's details, kept as a number each, and a detail with its verdict.
+use crate::Cause;
 use crate::Verdict;
 use crate::judge;
+use details::line_at;
 use forms::Span;
+use forms::behind;
 ghost use mathlib.Core.Path.{_≡_};
 ghost use mathlib.Core.Bool.{true};
-ghost use Prim.Native.Nat.{_≤_};
+ghost use Prim.Native.Nat.{_≤_, _<_};
 ghost use lib.ListN.{length};
 ghost use Rattle.rules.specs.Text.{isSome};
 ghost use Rattle.rules.specs.Register.{register, registerOf};
 ghost use Rattle.rules.specs.Verdict.{verdict};
 ghost use Rattle.forms.specs.Spans.{spanOf, SpanIn};
-ghost use Rattle.verdict.specs.Answers.{verdictOf};
-ghost use Rattle.verdict.specs.Details.{JudgedAt};
+ghost use Rattle.details.specs.Kept.{LinesIn};
+ghost use Rattle.verdict.specs.Answers.{verdictOf, verdictBy, judgedIn, Listed, CodeOf};
+ghost use Rattle.verdict.specs.Details.{VerdictsIn};
 
-// A detail and its verdict: where the text goes on behind it, its amount, and the lines of 52D, 59 and BAEREF.
+// A detail and its verdict: its amount, and the lines of 52D, 59 and BAEREF.
 pub struct Judged {
-    pub ok: bool,
-    pub next: usize,
     pub amount: u64,
     pub branch: Span,
     pub account: Span,
     pub baeref: Span,
     pub verdict: Verdict,
+}
+
+// A verdict as one number: the causes in their order from 0, and the account lines from 4.
+fn code_of(text: &[u8], v: Verdict) -> u8
+    requires { ⌜ isSome (register (now text)) ≡ true ⌝ }
+    requires { ⌜ Listed (now text) v ⌝ }
+    ensures { λ r. ⌜ CodeOf v r ⌝ }
+{
+    match v {
+        Verdict::Credited(i) => i as u8 + 4,
+        Verdict::Returned(c) => match c {
+            Cause::WrongShape => 0,
+            Cause::WrongControl => 1,
+            Cause::NotInRegister => 2,
+            Cause::OutOfBounds => 3,
+        },
+    }
+}
+
+// The verdict of a number.
+pub fn verdict_by(k: u8) -> Verdict
+    ensures { λ r. ⌜ r ≡ verdictBy k ⌝ }
+{
+    if k == 0 {
+        return Verdict::Returned(Cause::WrongShape);
+    }
+    if k == 1 {
+        return Verdict::Returned(Cause::WrongControl);
+    }
+    if k == 2 {
+        return Verdict::Returned(Cause::NotInRegister);
+    }
+    if k == 3 {
+        return Verdict::Returned(Cause::OutOfBounds);
+    }
+    Verdict::Credited((k - 4) as usize)
 }
 
 // The verdict on a part of the message.
@@ -33,24 +71,35 @@ fn judge_part(text: &[u8], s: &[u8], p: Span) -> Verdict
     judge(text, s, p.start as usize, p.end as usize)
 }
 
-// The detail that begins at `at`, judged by its field 59.
-pub fn judge_detail(text: &[u8], s: &[u8], at: usize) -> Judged
+// The n details of a message judged, each by its field 59.
+pub fn judge_details(text: &[u8], s: &[u8], places: &[u16; 96], n: u32, verdicts: &mut [u8; 16])
     requires { ⌜ isSome (register (now text)) ≡ true ⌝ }
-    requires { ⌜ at ≤ length (now s) ⌝ }
-    requires { ⌜ length (now s) ≤ 4096 ⌝ }
-    ensures { λ r. ⌜ JudgedAt (now (text .entry)) (now (s .entry)) at r ⌝ }
+    requires { ⌜ LinesIn (now s) (now places) n ⌝ }
+    requires { ⌜ length (now verdicts) ≡ 16 ⌝ }
+    ensures { λ _. ⌜ VerdictsIn (now (text .entry)) (now (s .entry)) (now (verdicts .exit)) n ⌝ }
 {
-    let d = forms::read_detail(s, at);
-    let spans = d.spans;
-    let account = spans[9];
-    let verdict = judge_part(text, s, forms::behind(account, 5));
+    let mut i: u32 = 0;
+    while i < n {
+        let v = judge_part(text, s, behind(line_at(places, 3 * i + 1), 5));
+        verdicts[i as usize] = code_of(text, v);
+        i += 1;
+    }
+}
+
+// Detail i with its verdict.
+pub fn judged_at(amounts: &[u64; 16], places: &[u16; 96], verdicts: &[u8; 16], i: u32) -> Judged
+    requires { ⌜ i < 16 ⌝ }
+    ensures { λ r. ⌜ r ≡ judgedIn (now (amounts .entry)) (now (places .entry)) (now (verdicts .entry)) i ⌝ }
+{
+    let branch = line_at(places, 3 * i);
+    let account = line_at(places, 3 * i + 1);
+    let baeref = line_at(places, 3 * i + 2);
+    let verdict = verdict_by(verdicts[i as usize]);
     Judged {
-        ok: d.ok,
-        next: d.next,
-        amount: d.amount,
-        branch: spans[7],
+        amount: amounts[i as usize],
+        branch,
         account,
-        baeref: spans[14],
+        baeref,
         verdict,
     }
 }

@@ -2,7 +2,9 @@
 mod detail;
 
 pub use detail::Judged;
-pub use detail::judge_detail;
+pub use detail::judge_details;
+pub use detail::judged_at;
+pub use detail::verdict_by;
 use register::Found;
 ghost use mathlib.Core.Path.{_≡_};
 ghost use mathlib.Core.Bool.{true};

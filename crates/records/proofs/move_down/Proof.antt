@@ -15,11 +15,17 @@ abbrev μ-loop : tie.MeasureT-loop
 loop-holds : tie.Need-loop-holds Inv-loop μ-loop
 loop-holds c = search (moving, needs)
 
+cast-area : tie.Need-cast-area Inv-loop μ-loop
+cast-area c = search (moving, needs)
+
 add-area : tie.Need-add-area Inv-loop μ-loop
 add-area c = search (moving, needs)
 
 slice-read-area : tie.Need-slice-read-area Inv-loop μ-loop
 slice-read-area c = search (moving, needs)
+
+cast-area-2 : tie.Need-cast-area-2 Inv-loop μ-loop
+cast-area-2 c = search (moving, needs)
 
 add-area-2 : tie.Need-add-area-2 Inv-loop μ-loop
 add-area-2 c = search (moving, needs)
@@ -49,8 +55,10 @@ move-down-spec =
     Inv-loop
     μ-loop
     loop-holds
+    cast-area
     add-area
     slice-read-area
+    cast-area-2
     add-area-2
     slice-write-area
     add-k

@@ -18,11 +18,17 @@ loop-holds c = search (moving, needs)
 sub-k : tie.Need-sub-k Inv-loop μ-loop
 sub-k c = search (moving, needs)
 
+cast-area : tie.Need-cast-area Inv-loop μ-loop
+cast-area c = search (moving, needs)
+
 add-area : tie.Need-add-area Inv-loop μ-loop
 add-area c = search (moving, needs)
 
 slice-read-area : tie.Need-slice-read-area Inv-loop μ-loop
 slice-read-area c = search (moving, needs)
+
+cast-area-2 : tie.Need-cast-area-2 Inv-loop μ-loop
+cast-area-2 c = search (moving, needs)
 
 add-area-2 : tie.Need-add-area-2 Inv-loop μ-loop
 add-area-2 c = search (moving, needs)
@@ -50,8 +56,10 @@ shift-up-spec =
     μ-loop
     loop-holds
     sub-k
+    cast-area
     add-area
     slice-read-area
+    cast-area-2
     add-area-2
     slice-write-area
     loop-less

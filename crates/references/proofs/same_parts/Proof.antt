@@ -16,6 +16,9 @@ returns c = search (slashes, needs)
 sub-equal-parts : tie.Need-sub-equal-parts
 sub-equal-parts c = search (slashes, needs)
 
+cast-equal-parts : tie.Need-cast-equal-parts
+cast-equal-parts c = search (slashes, needs)
+
 equal-parts-requires : tie.Need-equal-parts-requires
 equal-parts-requires c κs = search (slashes, needs)
 
@@ -24,4 +27,12 @@ returns-2 c = search (slashes, needs)
 
 pub same-parts-spec : {M : Type 1} → statement M
 same-parts-spec =
-    tie.close (tie.spec sub-if1 sub-if1-2 returns sub-equal-parts equal-parts-requires returns-2)
+    tie.close
+    (tie.spec
+    sub-if1
+    sub-if1-2
+    returns
+    sub-equal-parts
+    cast-equal-parts
+    equal-parts-requires
+    returns-2)

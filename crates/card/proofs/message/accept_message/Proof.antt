@@ -1,14 +1,14 @@
--- The text fits, so that the output is the text and what stood behind it; difference and area are those after the message. Assumes nothing.
+-- What is written, told and booked is the message's. Assumes nothing.
 use Rattle.card.specs.Message.{sending}
 use borrow.Author.Needs.{needs}
 use Rattle.card.proofs.message.accept_message.Statement.{statement}
 use Rattle.card.proofs.message.accept_message.Tie as tie
 
-write-text-requires : tie.Need-write-text-requires
-write-text-requires c κs = search (sending, needs)
+put-message-text-requires : tie.Need-put-message-text-requires
+put-message-text-requires c κs = ((c .before .before .before .before .before .pre .0 .engine), ((c .before .before .before .before .before .pre .0 .books), ((c .before .before .before .before .before .pre .0 .judged), ((c .before .before .before .before .before .pre .0 .leaves .same), (c .before .before .before .before .before .pre .0 .parts-are)))))
 
-difference-with-requires : tie.Need-difference-with-requires
-difference-with-requires c κs = search (sending, needs)
+minus-requires : tie.Need-minus-requires
+minus-requires c κs = search (sending, needs)
 
 book-in-requires : tie.Need-book-in-requires
 book-in-requires c κs = search (sending, needs)
@@ -26,8 +26,8 @@ pub accept-message-spec : {M : Type 1} → statement M
 accept-message-spec =
     tie.close
     (tie.spec
-    write-text-requires
-    difference-with-requires
+    put-message-text-requires
+    minus-requires
     book-in-requires
     same-length
     same-length-2

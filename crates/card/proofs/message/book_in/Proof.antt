@@ -1,15 +1,15 @@
--- None of 13 to 15 holds, so there is room for the reference and the position. Assumes nothing.
+-- The message's own parts are what is booked. Assumes nothing.
 use Rattle.card.specs.Message.{booking-of}
 use Rattle.card.specs.Message.{sending}
 use borrow.Author.Needs.{needs}
 use Rattle.card.proofs.message.book_in.Statement.{statement}
 use Rattle.card.proofs.message.book_in.Tie as tie
 
-totals-of-requires : tie.Need-totals-of-requires
-totals-of-requires c κs = search (sending, needs)
+cast-book-area : tie.Need-cast-book-area
+cast-book-area c = search (sending, needs)
 
-message-writes-requires : tie.Need-message-writes-requires
-message-writes-requires c κs = search (sending, needs)
+cast-book-area-2 : tie.Need-cast-book-area-2
+cast-book-area-2 c = search (sending, needs)
 
 transferred-by-requires : tie.Need-transferred-by-requires
 transferred-by-requires c κs = search (sending, needs)
@@ -18,7 +18,7 @@ detailed-by-requires : tie.Need-detailed-by-requires
 detailed-by-requires c κs = search (sending, needs)
 
 book-area-requires : tie.Need-book-area-requires
-book-area-requires c κs = ((c .before .before .before .before .before .before .before .before .before .pre .0), (booking-of _ _ (c .before .before .before .before .before .before .before .before .before .pre .0) _ (c .before .before .before .before .before .before .before .before .before .pre .1 .0) (c .before .transferred-by .ensures) (c .detailed-by .ensures) (c .before .before .before .before .before .before .before .before .before .pre .1 .1), (search needs, (search needs, search needs))))
+book-area-requires c κs = ((c .before .before .before .before .before .before .before .before .pre .0), (booking-of _ _ (c .before .before .before .before .before .before .before .before .pre .0) _ (c .before .before .before .before .before .before .before .before .pre .1 .0) (c .before .transferred-by .ensures) (c .detailed-by .ensures) (c .before .before .before .before .before .before .before .before .pre .1 .1 .0), (search needs, (search needs, search needs))))
 
 same-length : tie.Need-same-length
 same-length c = search (sending, needs)
@@ -30,8 +30,8 @@ pub book-in-spec : {M : Type 1} → statement M
 book-in-spec =
     tie.close
     (tie.spec
-    totals-of-requires
-    message-writes-requires
+    cast-book-area
+    cast-book-area-2
     transferred-by-requires
     detailed-by-requires
     book-area-requires

@@ -12,7 +12,7 @@ part-check-message-start : tie.Need-part-check-message-start
 part-check-message-start c = search (sending, needs)
 
 part-check-message-end : tie.Need-part-check-message-end
-part-check-message-end c = let l = standing-long _ (c .before .before .pre) in search needs
+part-check-message-end c = let l = standing-long _ (c .before .before .pre .0) in search needs
 
 check-message-requires : tie.Need-check-message-requires
 check-message-requires c κs = search (sending, needs)

@@ -1,4 +1,4 @@
--- `conditions::message::check_order` meets its contract: field 20's row, the details' form, a condition that holds, or the parts read. Assumes nothing.
+-- `conditions::message::check_order` meets its contract: each way out is a law of the check. Assumes nothing.
 use Rattle.conditions.specs.Checks.{checking}
 use borrow.Author.Needs.{needs}
 use Rattle.conditions.proofs.message.check_order.Statement.{statement}
@@ -18,6 +18,9 @@ order-stop-requires c κs = search (checking, needs)
 
 behind-requires : tie.Need-behind-requires
 behind-requires c κs = search (checking, needs)
+
+order-booking-requires : tie.Need-order-booking-requires
+order-booking-requires c κs = search (checking, needs)
 
 returns : tie.Need-returns
 returns c = search (checking, needs)
@@ -40,6 +43,7 @@ check-order-spec =
     tally-details-requires
     order-stop-requires
     behind-requires
+    order-booking-requires
     returns
     returns-2
     returns-3

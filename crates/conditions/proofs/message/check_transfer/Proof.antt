@@ -16,6 +16,9 @@ element-copy-out-behind c = search (checking, needs)
 behind-requires : tie.Need-behind-requires
 behind-requires c κs = search (checking, needs)
 
+transfer-booking-requires : tie.Need-transfer-booking-requires
+transfer-booking-requires c κs = search (checking, needs)
+
 returns : tie.Need-returns
 returns c = search (checking, needs)
 
@@ -33,6 +36,7 @@ check-transfer-spec =
     transfer-stop-requires
     element-copy-out-behind
     behind-requires
+    transfer-booking-requires
     returns
     returns-2
     returns-3)

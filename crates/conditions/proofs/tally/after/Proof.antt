@@ -15,8 +15,8 @@ detail-stop-requires c κs = search needs
 least-requires : tie.Need-least-requires
 least-requires c κs = search needs
 
-add-t8 : tie.Need-add-t8
-add-t8 c = search needs
+add-count : tie.Need-add-count
+add-count c = search needs
 
 returns : tie.Need-returns
 returns c = search needs
@@ -24,4 +24,4 @@ returns c = search needs
 pub after-spec : {M : Type 1} → statement M
 after-spec =
     tie.close
-    (tie.spec day-of-requires raised-requires detail-stop-requires least-requires add-t8 returns)
+    (tie.spec day-of-requires raised-requires detail-stop-requires least-requires add-count returns)

@@ -1,28 +1,25 @@
--- `conditions::tally::tally_details` meets its contract. The loop's invariant: the tally so far and what is left of the details give the tally of all. Assumes nothing.
-use mathlib.Core.Path.{_≡_}
-use mathlib.Core.Option.{Option·map}
-use Prim.Native.Nat.{_≤_, _-_, _*_}
+-- `conditions::tally::tally_details` meets its contract. The loop's invariant: some details are told and kept, and with those that are left they are all. Assumes nothing.
+use Prim.Native.Nat.{_-_, _≤_}
 use lib.ListN.{length}
-use Rattle.conditions.specs.Tally.{told, rest}
-use Rattle.laws.specs.Parts.{from}
-use Rattle.rules.specs.Messages.{details}
-use Rattle.rules.specs.Lines.{sender}
+use Rattle.conditions.specs.Tally.{Walking, tallying}
 use borrow.Author.Needs.{needs}
-use Rattle.conditions.specs.Tally.{tallying}
 use Rattle.conditions.proofs.tally.tally_details.Statement.{statement}
 use Rattle.conditions.proofs.tally.tally_details.Tie as tie
 
 abbrev Inv-loop : tie.InvT-loop
-Inv-loop s at none t₀ pos₀ t pos = (t .count ≤ 4096) × (t .sum ≤ t .count * 10000000000000000) × (pos ≤ length s) × (rest s t pos ≡ Option·map (told (sender s) 0 0 0 9) (details 4096 (from s at)))
+Inv-loop s at amounts₀ places₀ fields₀ none t₀ pos₀ amounts places fields t pos = (t .count ≤ 4096) × (pos ≤ length s) × Walking s at pos t amounts places fields
 
 abbrev μ-loop : tie.MeasureT-loop
-μ-loop s at none t₀ pos₀ t pos = 4096 - t .count
+μ-loop s at amounts₀ places₀ fields₀ none t₀ pos₀ amounts places fields t pos = 4096 - t .count
 
 loop-holds : tie.Need-loop-holds Inv-loop μ-loop
 loop-holds c = search (tallying, needs)
 
 read-detail-requires : tie.Need-read-detail-requires Inv-loop μ-loop
 read-detail-requires c κs = search (tallying, needs)
+
+keep-first-requires : tie.Need-keep-first-requires Inv-loop μ-loop
+keep-first-requires c κs = search (tallying, needs)
 
 after-requires : tie.Need-after-requires Inv-loop μ-loop
 after-requires c κs = search (tallying, needs)
@@ -53,6 +50,7 @@ tally-details-spec =
     μ-loop
     loop-holds
     read-detail-requires
+    keep-first-requires
     after-requires
     closes-at-requires
     returns

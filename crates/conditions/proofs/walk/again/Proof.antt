@@ -1,25 +1,22 @@
--- What is left of the references gives the answer. Assumes nothing.
+-- `conditions::walk::again` meets its contract. The loop's invariant: what is left of the fields gives the answer. Assumes nothing.
 use mathlib.Core.Path.{_≡_}
-use Prim.Native.Nat.{_+_, _-_}
-use lib.ListN.{getD, drop}
+use Prim.Native.Nat.{_+_, _-_, _≤_, _<_}
 use Rattle.rules.specs.Text.{any, equal}
-use Rattle.forms.specs.Spans.{spanOf, noSpan, held}
+use Rattle.forms.specs.Spans.{spanOf}
+use Rattle.details.specs.Lines.{lineAt}
+use Rattle.conditions.specs.Walk.{heldFrom, walking}
 use borrow.Author.Needs.{needs}
-use Rattle.conditions.specs.Walk.{walking}
 use Rattle.conditions.proofs.walk.again.Statement.{statement}
 use Rattle.conditions.proofs.walk.again.Tie as tie
 
 abbrev Inv-loop : tie.InvT-loop
-Inv-loop s i r p j₀ j = any (equal (spanOf s (getD (r .spans) i noSpan))) (drop j (held s (r .spans) (r .count))) ≡ any (equal (spanOf s (getD (r .spans) i noSpan))) (drop (i + 1) (held s (r .spans) (r .count)))
+Inv-loop s fields i n p j₀ j = (i < j) × (j ≤ n) × (any (equal (spanOf s p)) (heldFrom s fields j (n - j)) ≡ any (equal (spanOf s (lineAt fields i))) (heldFrom s fields (i + 1) (n - (i + 1))))
 
 abbrev μ-loop : tie.MeasureT-loop
-μ-loop s i r p j₀ j = r .count - j
+μ-loop s fields i n p j₀ j = n - j
 
-mul-p : tie.Need-mul-p Inv-loop μ-loop
-mul-p c = search (walking, needs)
-
-element-copy-out-p : tie.Need-element-copy-out-p Inv-loop μ-loop
-element-copy-out-p c = search (walking, needs)
+line-at-requires : tie.Need-line-at-requires Inv-loop μ-loop
+line-at-requires c κs = search (walking, needs)
 
 add-j : tie.Need-add-j Inv-loop μ-loop
 add-j c = search (walking, needs)
@@ -27,11 +24,8 @@ add-j c = search (walking, needs)
 loop-holds : tie.Need-loop-holds Inv-loop μ-loop
 loop-holds c = search (walking, needs)
 
-mul-same-spans : tie.Need-mul-same-spans Inv-loop μ-loop
-mul-same-spans c = search (walking, needs)
-
-element-copy-out-same-spans : tie.Need-element-copy-out-same-spans Inv-loop μ-loop
-element-copy-out-same-spans c = search (walking, needs)
+line-at-requires-2 : tie.Need-line-at-requires-2 Inv-loop μ-loop
+line-at-requires-2 c κs = search (walking, needs)
 
 same-spans-requires : tie.Need-same-spans-requires Inv-loop μ-loop
 same-spans-requires c κs = search (walking, needs)
@@ -57,12 +51,10 @@ again-spec =
     (tie.spec
     Inv-loop
     μ-loop
-    mul-p
-    element-copy-out-p
+    line-at-requires
     add-j
     loop-holds
-    mul-same-spans
-    element-copy-out-same-spans
+    line-at-requires-2
     same-spans-requires
     returns
     add-j-2

@@ -1,17 +1,49 @@
--- Two details have one field 21 where two of the places hold the same bytes. Assumes nothing.
-use Rattle.conditions.specs.Walk.{walking}
+-- `conditions::walk::appears_twice` meets its contract. The loop's invariant: what is left of the fields gives the answer. Assumes nothing.
+use mathlib.Core.Path.{_≡_}
+use Prim.Native.Nat.{_-_, _≤_}
+use Rattle.rules.specs.Text.{twice, equal}
+use Rattle.conditions.specs.Walk.{heldFrom, walking}
 use borrow.Author.Needs.{needs}
 use Rattle.conditions.proofs.walk.appears_twice.Statement.{statement}
 use Rattle.conditions.proofs.walk.appears_twice.Tie as tie
 
-references-of-requires : tie.Need-references-of-requires
-references-of-requires c κs = search (walking, needs)
+abbrev Inv-loop : tie.InvT-loop
+Inv-loop s fields n i₀ i = (i ≤ n) × (twice equal (heldFrom s fields i (n - i)) ≡ twice equal (heldFrom s fields 0 n))
 
-one-twice-requires : tie.Need-one-twice-requires
-one-twice-requires c κs = search (walking, needs)
+abbrev μ-loop : tie.MeasureT-loop
+μ-loop s fields n i₀ i = n - i
 
-returns : tie.Need-returns
+loop-holds : tie.Need-loop-holds Inv-loop μ-loop
+loop-holds c = search (walking, needs)
+
+again-requires : tie.Need-again-requires Inv-loop μ-loop
+again-requires c κs = search (walking, needs)
+
+returns : tie.Need-returns Inv-loop μ-loop
 returns c = search (walking, needs)
 
+add-i : tie.Need-add-i Inv-loop μ-loop
+add-i c = search (walking, needs)
+
+loop-less : tie.Need-loop-less Inv-loop μ-loop
+loop-less c = search (walking, needs)
+
+loop-again : tie.Need-loop-again Inv-loop μ-loop
+loop-again c = search (walking, needs)
+
+returns-2 : tie.Need-returns-2 Inv-loop μ-loop
+returns-2 c = search (walking, needs)
+
 pub appears-twice-spec : {M : Type 1} → statement M
-appears-twice-spec = tie.close (tie.spec references-of-requires one-twice-requires returns)
+appears-twice-spec =
+    tie.close
+    (tie.spec
+    Inv-loop
+    μ-loop
+    loop-holds
+    again-requires
+    returns
+    add-i
+    loop-less
+    loop-again
+    returns-2)

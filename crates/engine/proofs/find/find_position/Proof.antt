@@ -15,11 +15,11 @@ abbrev μ-loop : tie.MeasureT-loop
 loop-holds : tie.Need-loop-holds Inv-loop μ-loop
 loop-holds c = search (finding, needs)
 
-position-at-requires : tie.Need-position-at-requires Inv-loop μ-loop
-position-at-requires c κs = search (finding, needs)
-
 is-of-requires : tie.Need-is-of-requires Inv-loop μ-loop
 is-of-requires c κs = search (finding, needs)
+
+position-at-requires : tie.Need-position-at-requires Inv-loop μ-loop
+position-at-requires c κs = search (finding, needs)
 
 returns : tie.Need-returns Inv-loop μ-loop
 returns c = search (finding, needs)
@@ -46,8 +46,8 @@ find-position-spec =
     Inv-loop
     μ-loop
     loop-holds
-    position-at-requires
     is-of-requires
+    position-at-requires
     returns
     add-p
     sub-k

@@ -7,6 +7,9 @@ use Rattle.engine.proofs.held.is_used.Tie as tie
 number-at-requires : tie.Need-number-at-requires
 number-at-requires c κs = search (looking, needs)
 
+cast-reference-used : tie.Need-cast-reference-used
+cast-reference-used c = search (looking, needs)
+
 reference-used-requires : tie.Need-reference-used-requires
 reference-used-requires c κs = search (looking, needs)
 
@@ -14,4 +17,5 @@ returns : tie.Need-returns
 returns c = search (looking, needs)
 
 pub is-used-spec : {M : Type 1} → statement M
-is-used-spec = tie.close (tie.spec number-at-requires reference-used-requires returns)
+is-used-spec =
+    tie.close (tie.spec number-at-requires cast-reference-used reference-used-requires returns)

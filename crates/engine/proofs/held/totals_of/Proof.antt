@@ -7,6 +7,9 @@ use Rattle.engine.proofs.held.totals_of.Tie as tie
 number-at-requires : tie.Need-number-at-requires
 number-at-requires c κs = search (looking, needs)
 
+cast-find-position : tie.Need-cast-find-position
+cast-find-position c = search (looking, needs)
+
 find-position-requires : tie.Need-find-position-requires
 find-position-requires c κs = search (looking, needs)
 
@@ -14,4 +17,5 @@ returns : tie.Need-returns
 returns c = search (looking, needs)
 
 pub totals-of-spec : {M : Type 1} → statement M
-totals-of-spec = tie.close (tie.spec number-at-requires find-position-requires returns)
+totals-of-spec =
+    tie.close (tie.spec number-at-requires cast-find-position find-position-requires returns)

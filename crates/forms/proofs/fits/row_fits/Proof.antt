@@ -1,6 +1,6 @@
 -- `forms::fits::row_fits` meets its contract: a line that is too short, one whose first bytes do not fit the pattern, or as what stands behind fits. Assumes nothing.
-use Rattle.forms.specs.Fits.{fitting}
 use borrow.Author.Needs.{needs}
+use Rattle.forms.specs.Fits.{fitting}
 use Rattle.forms.proofs.fits.row_fits.Statement.{statement}
 use Rattle.forms.proofs.fits.row_fits.Tie as tie
 
@@ -15,6 +15,9 @@ sub-if1 c = search (fitting, needs)
 
 returns : tie.Need-returns
 returns c = search (fitting, needs)
+
+cast-head-fits : tie.Need-cast-head-fits
+cast-head-fits c = search (fitting, needs)
 
 head-fits-requires : tie.Need-head-fits-requires
 head-fits-requires c κs = search (fitting, needs)
@@ -39,6 +42,7 @@ row-fits-spec =
     cast-size
     sub-if1
     returns
+    cast-head-fits
     head-fits-requires
     add-rest-fits
     rest-fits-requires

@@ -4,8 +4,8 @@ use borrow.Author.Needs.{needs}
 use Rattle.forms.proofs.table.sign_at.Statement.{statement}
 use Rattle.forms.proofs.table.sign_at.Tie as tie
 
-eight-signs-requires : tie.Need-eight-signs-requires
-eight-signs-requires c κs = search (signs, needs)
+four-signs-requires : tie.Need-four-signs-requires
+four-signs-requires c κs = search (signs, needs)
 
 mul-below : tie.Need-mul-below
 mul-below c = search (signs, needs)
@@ -24,4 +24,4 @@ returns c = search (signs, needs)
 
 pub sign-at-spec : {M : Type 1} → statement M
 sign-at-spec =
-    tie.close (tie.spec eight-signs-requires mul-below sub-below shr-result cast-result returns)
+    tie.close (tie.spec four-signs-requires mul-below sub-below shr-result cast-result returns)

@@ -5,12 +5,12 @@ use Rattle.area.specs.Ways.{limiting}
 use Rattle.limits.proofs.accepted.differs.Statement.{statement}
 use Rattle.limits.proofs.accepted.differs.Tie as tie
 
-equal-parts-requires : tie.Need-equal-parts-requires
-equal-parts-requires c κs = search (limiting, needs)
+differ-at-requires : tie.Need-differ-at-requires
+differ-at-requires c κs = search (limiting, needs)
 
 returns : tie.Need-returns
 unfolding otherTest
 returns c = cc
 
 pub differs-spec : {M : Type 1} → statement M
-differs-spec = tie.close (tie.spec equal-parts-requires returns)
+differs-spec = tie.close (tie.spec differ-at-requires returns)

@@ -1,15 +1,12 @@
--- `limits::accepted::text_fits` meets its contract: the text ends where its end was found. Assumes nothing.
+-- `limits::accepted::text_fits` meets its contract: the bytes of a text at first tell where the text ends. Assumes nothing.
 use borrow.Author.Needs.{needs}
 use Rattle.area.specs.Texts.{ended-text}
 use Rattle.area.specs.Ways.{limiting}
 use Rattle.limits.proofs.accepted.text_fits.Statement.{statement}
 use Rattle.limits.proofs.accepted.text_fits.Tie as tie
 
-add-b : tie.Need-add-b
-add-b c = search (limiting, needs)
-
-text-end-requires : tie.Need-text-end-requires
-text-end-requires c κs = search (limiting, needs)
+texts-at-requires : tie.Need-texts-at-requires
+texts-at-requires c κs = search (limiting, needs)
 
 ended-fits-requires : tie.Need-ended-fits-requires
 ended-fits-requires c κs = search (limiting, needs)
@@ -18,4 +15,4 @@ returns : tie.Need-returns
 returns c = search (ended-text, needs)
 
 pub text-fits-spec : {M : Type 1} → statement M
-text-fits-spec = tie.close (tie.spec add-b text-end-requires ended-fits-requires returns)
+text-fits-spec = tie.close (tie.spec texts-at-requires ended-fits-requires returns)

@@ -1,54 +1,54 @@
--- `limits::header::zeros_hold` meets its contract. The loop's invariant: the bytes that are left are zero where all of them are. Assumes nothing.
-use mathlib.Core.Path.{_≡_}
-use Prim.Native.Nat.{_≤_, _-_}
+-- `limits::header::zeros_hold` meets its contract: the eights are zero, and the bytes behind them. Assumes nothing.
 use borrow.Author.Needs.{needs}
-use Rattle.rules.specs.Text.{every}
-use Rattle.laws.specs.Parts.{cut}
-use Rattle.area.specs.Tests.{isZero}
-use Rattle.area.specs.Ways.{limiting}
+use Rattle.laws.specs.Eights.{eights-failed, eights-passed}
 use Rattle.limits.proofs.header.zeros_hold.Statement.{statement}
 use Rattle.limits.proofs.header.zeros_hold.Tie as tie
 
-abbrev Inv-loop : tie.InvT-loop
-Inv-loop s a b i₀ i = (a ≤ i) × (i ≤ b) × (every isZero (cut s i b) ≡ every isZero (cut s a b))
+sub-n : tie.Need-sub-n
+sub-n c = search needs
 
-abbrev μ-loop : tie.MeasureT-loop
-μ-loop s a b i₀ i = b - i
+cast-n : tie.Need-cast-n
+cast-n c = search needs
 
-loop-holds : tie.Need-loop-holds Inv-loop μ-loop
-loop-holds c = search (limiting, needs)
+eights-at-requires : tie.Need-eights-at-requires
+eights-at-requires c κs = search needs
 
-shared-slice-read-zero : tie.Need-shared-slice-read-zero Inv-loop μ-loop
-shared-slice-read-zero c = search (limiting, needs)
+returns : tie.Need-returns
+returns c = search (eights-failed, needs)
 
-add-i : tie.Need-add-i Inv-loop μ-loop
-add-i c = search (limiting, needs)
+mul-rest : tie.Need-mul-rest
+mul-rest c = search needs
 
-loop-less : tie.Need-loop-less Inv-loop μ-loop
-loop-less c = search (limiting, needs)
+sub-rest : tie.Need-sub-rest
+sub-rest c = search needs
 
-loop-again : tie.Need-loop-again Inv-loop μ-loop
-unfolding isZero
-loop-again c = search (limiting, needs)
+mul-zeros-at : tie.Need-mul-zeros-at
+mul-zeros-at c = search needs
 
-returns : tie.Need-returns Inv-loop μ-loop
-unfolding isZero
-returns c = search (limiting, needs)
+cast-zeros-at : tie.Need-cast-zeros-at
+cast-zeros-at c = search needs
 
-returns-2 : tie.Need-returns-2 Inv-loop μ-loop
-unfolding isZero
-returns-2 c = search (limiting, needs)
+add-zeros-at : tie.Need-add-zeros-at
+add-zeros-at c = search needs
+
+zeros-at-requires : tie.Need-zeros-at-requires
+zeros-at-requires c κs = search needs
+
+returns-2 : tie.Need-returns-2
+returns-2 c = search (eights-passed, needs)
 
 pub zeros-hold-spec : {M : Type 1} → statement M
 zeros-hold-spec =
     tie.close
     (tie.spec
-    Inv-loop
-    μ-loop
-    loop-holds
-    shared-slice-read-zero
-    add-i
-    loop-less
-    loop-again
+    sub-n
+    cast-n
+    eights-at-requires
     returns
+    mul-rest
+    sub-rest
+    mul-zeros-at
+    cast-zeros-at
+    add-zeros-at
+    zeros-at-requires
     returns-2)

@@ -7,9 +7,6 @@ use Rattle.limits.proofs.sections.positions_pass.Tie as tie
 small-at-requires : tie.Need-small-at-requires
 small-at-requires c κs = search (limiting, needs)
 
-cast-positions-hold : tie.Need-cast-positions-hold
-cast-positions-hold c = search (limiting, needs)
-
 small-at-requires-2 : tie.Need-small-at-requires-2
 small-at-requires-2 c κs = search (limiting, needs)
 
@@ -21,10 +18,4 @@ returns c = cc
 
 pub positions-pass-spec : {M : Type 1} → statement M
 positions-pass-spec =
-    tie.close
-    (tie.spec
-    small-at-requires
-    cast-positions-hold
-    small-at-requires-2
-    positions-hold-requires
-    returns)
+    tie.close (tie.spec small-at-requires small-at-requires-2 positions-hold-requires returns)

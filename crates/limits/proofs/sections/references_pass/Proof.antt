@@ -7,9 +7,6 @@ use Rattle.limits.proofs.sections.references_pass.Tie as tie
 small-at-requires : tie.Need-small-at-requires
 small-at-requires c κs = search (limiting, needs)
 
-cast-references-hold : tie.Need-cast-references-hold
-cast-references-hold c = search (limiting, needs)
-
 references-hold-requires : tie.Need-references-hold-requires
 references-hold-requires c κs = search (limiting, needs)
 
@@ -17,5 +14,4 @@ returns : tie.Need-returns
 returns c = cc
 
 pub references-pass-spec : {M : Type 1} → statement M
-references-pass-spec =
-    tie.close (tie.spec small-at-requires cast-references-hold references-hold-requires returns)
+references-pass-spec = tie.close (tie.spec small-at-requires references-hold-requires returns)

@@ -1,71 +1,71 @@
--- `lines::line::line_end` meets its contract. The loop's invariant: the bytes passed, before the first line of what is left, are the line. Assumes nothing.
-use Rattle.rules.specs.Lines.{lead, line}
-use Rattle.laws.specs.Parts.{cut, from}
-use lib.ListN.{length}
-use Prim.Native.Nat.{_≤_, _-_}
-use mathlib.Core.Path.{_≡_}
+-- `lines::line::line_end` meets its contract: the bytes before the first CR or LF are the line where CR LF stands behind them. Assumes nothing.
+use native.Mathlib.Omega.{arith}
 use borrow.Author.Needs.{needs}
-use Rattle.lines.specs.Laws.{framing}
+use Rattle.lines.specs.Laws.{framing, plain-bad}
 use Rattle.lines.proofs.line.line_end.Statement.{statement}
 use Rattle.lines.proofs.line.line_end.Tie as tie
 
-abbrev Inv-loop : tie.InvT-loop
-Inv-loop s at i₀ i = (at ≤ i) × (i ≤ length s) × (lead (cut s at i) (line (from s i)) ≡ line (from s at))
+sub-n : tie.Need-sub-n
+sub-n c = search (framing, needs)
 
-abbrev μ-loop : tie.MeasureT-loop
-μ-loop s at i₀ i = length s - i
+far-end-requires : tie.Need-far-end-requires
+far-end-requires c κs = search (framing, needs)
 
-loop-holds : tie.Need-loop-holds Inv-loop μ-loop
-loop-holds c = search (framing, needs)
-
-add-loop : tie.Need-add-loop Inv-loop μ-loop
-add-loop c = search (framing, needs)
-
-shared-slice-read-c : tie.Need-shared-slice-read-c Inv-loop μ-loop
-shared-slice-read-c c = search (framing, needs)
-
-add-if2 : tie.Need-add-if2 Inv-loop μ-loop
-add-if2 c = search (framing, needs)
-
-shared-slice-read-if2 : tie.Need-shared-slice-read-if2 Inv-loop μ-loop
-shared-slice-read-if2 c = search (framing, needs)
-
-returns : tie.Need-returns Inv-loop μ-loop
+returns : tie.Need-returns
 returns c = search (framing, needs)
 
-returns-2 : tie.Need-returns-2 Inv-loop μ-loop
-returns-2 c = search (framing, needs)
+cast-plain-at : tie.Need-cast-plain-at
+cast-plain-at c = search (framing, needs)
 
-returns-3 : tie.Need-returns-3 Inv-loop μ-loop
-returns-3 c = search (framing, needs)
+plain-at-requires : tie.Need-plain-at-requires
+plain-at-requires c κs = search (framing, needs)
 
-add-i : tie.Need-add-i Inv-loop μ-loop
+cast-i : tie.Need-cast-i
+cast-i c = search (framing, needs)
+
+add-i : tie.Need-add-i
 add-i c = search (framing, needs)
 
-loop-less : tie.Need-loop-less Inv-loop μ-loop
-loop-less c = search (framing, needs)
+add-if2 : tie.Need-add-if2
+add-if2 c = search (framing, needs)
 
-loop-again : tie.Need-loop-again Inv-loop μ-loop
-loop-again c = search (framing, needs)
+returns-2 : tie.Need-returns-2
+returns-2 c = search (framing, needs)
 
-returns-4 : tie.Need-returns-4 Inv-loop μ-loop
+shared-slice-read-if3 : tie.Need-shared-slice-read-if3
+shared-slice-read-if3 c = search (framing, needs)
+
+returns-3 : tie.Need-returns-3
+returns-3 c = record { told = record { same = plain-bad _ _ _ _ (c .before .before .before .plain-at .ensures) (omega arith) (omega arith) (search needs) } }
+
+add-if4 : tie.Need-add-if4
+add-if4 c = search (framing, needs)
+
+shared-slice-read-if4 : tie.Need-shared-slice-read-if4
+shared-slice-read-if4 c = search (framing, needs)
+
+returns-4 : tie.Need-returns-4
 returns-4 c = search (framing, needs)
+
+returns-5 : tie.Need-returns-5
+returns-5 c = search (framing, needs)
 
 pub line-end-spec : {M : Type 1} → statement M
 line-end-spec =
     tie.close
     (tie.spec
-    Inv-loop
-    μ-loop
-    loop-holds
-    add-loop
-    shared-slice-read-c
-    add-if2
-    shared-slice-read-if2
+    sub-n
+    far-end-requires
     returns
-    returns-2
-    returns-3
+    cast-plain-at
+    plain-at-requires
+    cast-i
     add-i
-    loop-less
-    loop-again
-    returns-4)
+    add-if2
+    returns-2
+    shared-slice-read-if3
+    returns-3
+    add-if4
+    shared-slice-read-if4
+    returns-4
+    returns-5)

@@ -1,6 +1,6 @@
--- `message_text::postings::put_postings` meets its contract: the line of a transfer, or those of the details. Assumes nothing.
+-- The line of a transfer, or those of the details. Assumes nothing.
+use Rattle.message_text.specs.Postings.{posted}
 use borrow.Author.Needs.{needs}
-use Rattle.message_text.specs.Postings.{details-within, posted}
 use Rattle.message_text.proofs.postings.put_postings.Statement.{statement}
 use Rattle.message_text.proofs.postings.put_postings.Tie as tie
 
@@ -22,8 +22,11 @@ same-length c = search (posted, needs)
 returns : tie.Need-returns
 returns c = search (posted, needs)
 
+cast-n : tie.Need-cast-n
+cast-n c = search (posted, needs)
+
 put-detail-postings-requires : tie.Need-put-detail-postings-requires
-put-detail-postings-requires c κs = (((c .before .before .before .before .before .pre .0)), (((c .before .before .before .before .before .pre .1 .0)), (details-within _ _ ((c .before .before .before .before .before .pre .1 .1)), ((c .before .before .before .before .before .pre .1 .1 .size)))))
+put-detail-postings-requires c κs = ((c .before .before .before .before .before .before .pre .0), ((c .before .before .before .before .before .before .pre .1 .0), ((c .before .before .before .before .before .before .pre .1 .1 .1 .lines-kept), ((c .before .before .before .before .before .before .pre .1 .1 .1 .amounts-kept), (c .before .before .before .before .before .before .pre .1 .1 .1 .verdicts-kept)))))
 
 same-length-2 : tie.Need-same-length-2
 same-length-2 c = search (posted, needs)
@@ -41,6 +44,7 @@ put-postings-spec =
     put-from-bank-requires
     same-length
     returns
+    cast-n
     put-detail-postings-requires
     same-length-2
     returns-2)

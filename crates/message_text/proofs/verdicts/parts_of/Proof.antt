@@ -1,6 +1,6 @@
--- `message_text::verdicts::parts_of` meets its contract: the test and the division are the definition's. Assumes nothing.
-use borrow.Author.Needs.{needs}
+-- The test and the division are the definition's. Assumes nothing.
 use Rattle.message_text.specs.Parts.{parting}
+use borrow.Author.Needs.{needs}
 use Rattle.message_text.proofs.verdicts.parts_of.Statement.{statement}
 use Rattle.message_text.proofs.verdicts.parts_of.Tie as tie
 
@@ -13,8 +13,11 @@ cast-result c = search (parting, needs)
 add-result : tie.Need-add-result
 add-result c = search (parting, needs)
 
+cast-result-2 : tie.Need-cast-result-2
+cast-result-2 c = search (parting, needs)
+
 returns-2 : tie.Need-returns-2
 returns-2 c = search (parting, needs)
 
 pub parts-of-spec : {M : Type 1} → statement M
-parts-of-spec = tie.close (tie.spec returns cast-result add-result returns-2)
+parts-of-spec = tie.close (tie.spec returns cast-result add-result cast-result-2 returns-2)

@@ -1,5 +1,6 @@
--- `message_text::verdicts::put_mt199` meets its contract: the part's four groups of rows in their order. Assumes nothing.
-use Rattle.message_text.specs.Parts.{part-wrote, parting}
+use Rattle.message_text.specs.Parts.{part-wrote}
+-- The part's four groups of rows in their order. Assumes nothing.
+use Rattle.message_text.specs.Parts.{parting}
 use borrow.Author.Needs.{needs}
 use Rattle.message_text.proofs.verdicts.put_mt199.Statement.{statement}
 use Rattle.message_text.proofs.verdicts.put_mt199.Tie as tie
@@ -20,7 +21,7 @@ same-length : tie.Need-same-length
 same-length c = search (parting, needs)
 
 returns : tie.Need-returns
-returns c = part-wrote _ _ _ _ _ _ ((c .before .before .before .before .before .before .before .before .before .before .before .before .before .before .before .before .before .before .before .pre .1 .1 .1 .1)) ((c .before .before .before .before .before .before .before .before .before .before .before .before .before .before .put-opened199 .ensures)) ((c .before .before .before .before .before .before .before .before .before .before .put-position79 .ensures)) ((c .before .before .before .before .before .before .put-returned .ensures)) ((c .before .before .put-closed79 .ensures))
+returns c = part-wrote _ _ _ _ _ _ (c .before .before .before .before .before .before .before .before .before .before .before .before .before .before .before .before .before .before .pre .1 .1 .1) (c .before .before .before .before .before .before .before .before .before .before .before .before .before .before .put-opened199 .ensures) (c .before .before .before .before .before .before .before .before .before .before .put-position79 .ensures) (c .before .before .before .before .before .before .put-returned .ensures) (c .before .before .put-closed79 .ensures)
 
 pub put-mt199-spec : {M : Type 1} → statement M
 put-mt199-spec =

@@ -1,32 +1,30 @@
--- `message_text::verdicts::put_parts` meets its contract. The loop's invariant: the parts from `part` on, for the returned details from q on, are left to write. Assumes nothing.
+-- The loop's invariant: the parts from `part` on, for the returned of the details from q on, are left to write. Assumes nothing.
 use mathlib.Core.Path.{_≡_}
-use Prim.Native.Nat.{_+_, _≤_}
+use Prim.Native.Nat.{_+_, _-_, _≤_}
 use native.Mathlib.Omega.{arith}
-use lib.ListN.{length}
 use Rattle.rules.specs.Written.{mt199s}
-use Rattle.laws.specs.Pieces.{left-all}
 use Rattle.laws.specs.Writing.{Left}
 use Rattle.detail_lines.specs.Returned.{returnedAt}
 use Rattle.written.specs.Values.{positionOf}
 use borrow.Author.Needs.{needs}
-use Rattle.message_text.specs.Parts.{parting}
+use Rattle.message_text.specs.Parts.{parts-start, parting}
 use Rattle.message_text.proofs.verdicts.put_parts.Statement.{statement}
 use Rattle.message_text.proofs.verdicts.put_parts.Tie as tie
 
 abbrev Inv-loop : tie.InvT-loop
-Inv-loop out₀ at day n p parts text s first count o₀ part₀ left₀ number₀ q₀ k₀ out o part left number q k = (q ≤ length s) × (part + left ≡ parts + 1) × (number + 1 ≡ n + part) × Left (mt199s left day n (positionOf p) part parts (returnedAt text s q k)) o out (mt199s parts day n (positionOf p) 1 parts (returnedAt text s first count)) at out₀
+Inv-loop out₀ at day numbered p parts s amounts places verdicts n o₀ part₀ left₀ number₀ q₀ out o part left number q = (q ≤ n) × (part + left ≡ parts + 1) × (number + 1 ≡ numbered + part) × Left (mt199s left day numbered (positionOf p) part parts (returnedAt s verdicts q (n - q))) o out (mt199s parts day numbered (positionOf p) 1 parts (returnedAt s verdicts 0 n)) at out₀
 
 abbrev μ-loop : tie.MeasureT-loop
-μ-loop out₀ at day n p parts text s first count o₀ part₀ left₀ number₀ q₀ k₀ out o part left number q k = left
+μ-loop out₀ at day numbered p parts s amounts places verdicts n o₀ part₀ left₀ number₀ q₀ out o part left number q = left
 
 loop-holds : tie.Need-loop-holds Inv-loop μ-loop
-loop-holds c = (omega arith, omega arith, omega arith, left-all _ (omega arith))
+loop-holds c = (omega arith, omega arith, omega arith, parts-start _ _ _ _ _ _ _ _ _ (omega arith))
 
 next-number-requires : tie.Need-next-number-requires Inv-loop μ-loop
 next-number-requires c κs = search (parting, needs)
 
 put-mt199-requires : tie.Need-put-mt199-requires Inv-loop μ-loop
-put-mt199-requires c κs = (search needs, (search needs, (search needs, (search needs, search needs))))
+put-mt199-requires c κs = (search needs, (search needs, (search needs, search needs)))
 
 add-part : tie.Need-add-part Inv-loop μ-loop
 add-part c = search (parting, needs)

@@ -28,6 +28,9 @@ mul-stands-in c = search (registers, needs)
 add-stands-in : tie.Need-add-stands-in Inv-loop μ-loop
 add-stands-in c = search (registers, needs)
 
+cast-stands-in : tie.Need-cast-stands-in Inv-loop μ-loop
+cast-stands-in c = search (registers, needs)
+
 add-stands-in-2 : tie.Need-add-stands-in-2 Inv-loop μ-loop
 add-stands-in-2 c = search (registers, needs)
 
@@ -60,6 +63,7 @@ appears-again-spec =
     loop-holds
     mul-stands-in
     add-stands-in
+    cast-stands-in
     add-stands-in-2
     stands-in-requires-2
     returns-2

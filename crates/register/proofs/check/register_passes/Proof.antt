@@ -1,6 +1,6 @@
 -- `register::check::register_passes` meets its contract: a text passes where the tests at its places hold. Assumes nothing.
 use borrow.Author.Needs.{needs}
-use Rattle.register.specs.Checks.{fails-first, fails-lines, passes-single}
+use Rattle.register.specs.Checks.{few-lines, fails-first, fails-lines, passes-single}
 use Rattle.register.specs.Sets.{registers}
 use Rattle.register.proofs.check.register_passes.Statement.{statement}
 use Rattle.register.proofs.check.register_passes.Tie as tie
@@ -19,6 +19,9 @@ first-line-passes-requires c κs = search (registers, needs)
 
 returns-2 : tie.Need-returns-2
 returns-2 c = search (fails-first, needs)
+
+cast-k : tie.Need-cast-k
+cast-k c = let k = few-lines _ _ _ (c .before .before .before .length-passes .ensures) (c .before .before .if1 .left) in search needs
 
 account-lines-pass-requires : tie.Need-account-lines-pass-requires
 account-lines-pass-requires c κs = search (registers, needs)
@@ -41,6 +44,7 @@ register-passes-spec =
     returns
     first-line-passes-requires
     returns-2
+    cast-k
     account-lines-pass-requires
     returns-3
     appears-again-requires

@@ -16,14 +16,17 @@ abbrev μ-loop : tie.MeasureT-loop
 loop-holds : tie.Need-loop-holds Inv-loop μ-loop
 loop-holds c = search (registers, needs)
 
-mul-equal-parts : tie.Need-mul-equal-parts Inv-loop μ-loop
-mul-equal-parts c = search (registers, needs)
+mul-same-iban : tie.Need-mul-same-iban Inv-loop μ-loop
+mul-same-iban c = search (registers, needs)
 
-add-equal-parts : tie.Need-add-equal-parts Inv-loop μ-loop
-add-equal-parts c = search (registers, needs)
+add-same-iban : tie.Need-add-same-iban Inv-loop μ-loop
+add-same-iban c = search (registers, needs)
 
-equal-parts-requires : tie.Need-equal-parts-requires Inv-loop μ-loop
-equal-parts-requires c κs = search (registers, needs)
+cast-same-iban : tie.Need-cast-same-iban Inv-loop μ-loop
+cast-same-iban c = search (registers, needs)
+
+same-iban-requires : tie.Need-same-iban-requires Inv-loop μ-loop
+same-iban-requires c κs = search (registers, needs)
 
 returns : tie.Need-returns Inv-loop μ-loop
 returns c = search (registers, needs)
@@ -47,9 +50,10 @@ stands-in-spec =
     Inv-loop
     μ-loop
     loop-holds
-    mul-equal-parts
-    add-equal-parts
-    equal-parts-requires
+    mul-same-iban
+    add-same-iban
+    cast-same-iban
+    same-iban-requires
     returns
     add-i
     loop-less

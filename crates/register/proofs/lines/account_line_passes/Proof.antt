@@ -1,6 +1,6 @@
--- `register::lines::account_line_passes` meets its contract: form, end, IBAN and bounds in the order of the definition. Assumes nothing.
+-- `register::lines::account_line_passes` meets its contract: where the IBAN passes, the bounds tell the line's form. Assumes nothing.
 use borrow.Author.Needs.{needs}
-use Rattle.register.specs.Checks.{line-unended, line-unpassed, line-bounded}
+use Rattle.register.specs.Checks.{call-held, line-unpassed, line-unbounded, line-unended, line-ordered}
 use Rattle.register.specs.Sets.{registers}
 use Rattle.register.proofs.lines.account_line_passes.Statement.{statement}
 use Rattle.register.proofs.lines.account_line_passes.Tie as tie
@@ -11,11 +11,23 @@ mul-at c = search (registers, needs)
 add-at : tie.Need-add-at
 add-at c = search (registers, needs)
 
-formed-at-requires : tie.Need-formed-at-requires
-formed-at-requires c κs = search (registers, needs)
+cast-at : tie.Need-cast-at
+cast-at c = search (registers, needs)
+
+iban-passes-requires : tie.Need-iban-passes-requires
+iban-passes-requires c κs = search (registers, needs)
 
 returns : tie.Need-returns
-returns c = search (registers, needs)
+returns c = search (line-unpassed, needs)
+
+add-bounds-at : tie.Need-add-bounds-at
+add-bounds-at c = search (registers, needs)
+
+bounds-at-requires : tie.Need-bounds-at-requires
+bounds-at-requires c κs = search (registers, needs)
+
+returns-2 : tie.Need-returns-2
+returns-2 c = search (line-unbounded, needs)
 
 add-ends-at : tie.Need-add-ends-at
 add-ends-at c = search (registers, needs)
@@ -23,29 +35,17 @@ add-ends-at c = search (registers, needs)
 ends-at-requires : tie.Need-ends-at-requires
 ends-at-requires c κs = search (registers, needs)
 
-returns-2 : tie.Need-returns-2
-returns-2 c = search (line-unended, needs)
-
-iban-passes-requires : tie.Need-iban-passes-requires
-iban-passes-requires c κs = search (registers, needs)
-
 returns-3 : tie.Need-returns-3
-returns-3 c = search (line-unpassed, needs)
+returns-3 c = search (line-unended, needs)
 
-add-bound-at : tie.Need-add-bound-at
-add-bound-at c = search (registers, needs)
+add-in-order : tie.Need-add-in-order
+add-in-order c = search (registers, needs)
 
-bound-at-requires : tie.Need-bound-at-requires
-bound-at-requires c κs = search (registers, needs)
-
-add-bound-at-2 : tie.Need-add-bound-at-2
-add-bound-at-2 c = search (registers, needs)
-
-bound-at-requires-2 : tie.Need-bound-at-requires-2
-bound-at-requires-2 c κs = search (registers, needs)
+in-order-requires : tie.Need-in-order-requires
+in-order-requires c κs = (search needs, call-held _ _ (c .before .before .before .bounds-at .ensures) (c .before .before .if2 .left))
 
 returns-4 : tie.Need-returns-4
-returns-4 c = search (line-bounded, needs)
+returns-4 c = search (line-ordered, needs)
 
 pub account-line-passes-spec : {M : Type 1} → statement M
 account-line-passes-spec =
@@ -53,15 +53,15 @@ account-line-passes-spec =
     (tie.spec
     mul-at
     add-at
-    formed-at-requires
+    cast-at
+    iban-passes-requires
     returns
+    add-bounds-at
+    bounds-at-requires
+    returns-2
     add-ends-at
     ends-at-requires
-    returns-2
-    iban-passes-requires
     returns-3
-    add-bound-at
-    bound-at-requires
-    add-bound-at-2
-    bound-at-requires-2
+    add-in-order
+    in-order-requires
     returns-4)

@@ -1,19 +1,28 @@
--- `register::lines::ends_at` meets its contract: CR LF is a pattern. Assumes nothing.
+-- `register::lines::ends_at` meets its contract: CR, then LF. Assumes nothing.
 use borrow.Author.Needs.{needs}
-use Rattle.register.specs.Places.{endsAt}
 use Rattle.register.specs.Sets.{registers}
 use Rattle.register.proofs.lines.ends_at.Statement.{statement}
 use Rattle.register.proofs.lines.ends_at.Tie as tie
 
-slice-aggregate-fits-pattern : tie.Need-slice-aggregate-fits-pattern
-slice-aggregate-fits-pattern c = search (registers, needs)
-
-fits-pattern-requires : tie.Need-fits-pattern-requires
-fits-pattern-requires c κs = search (registers, needs)
+shared-slice-read-if1 : tie.Need-shared-slice-read-if1
+shared-slice-read-if1 c = search (registers, needs)
 
 returns : tie.Need-returns
-unfolding endsAt
 returns c = search (registers, needs)
 
+add-if2 : tie.Need-add-if2
+add-if2 c = search (registers, needs)
+
+shared-slice-read-if2 : tie.Need-shared-slice-read-if2
+shared-slice-read-if2 c = search (registers, needs)
+
+returns-2 : tie.Need-returns-2
+returns-2 c = search (registers, needs)
+
+returns-3 : tie.Need-returns-3
+returns-3 c = search (registers, needs)
+
 pub ends-at-spec : {M : Type 1} → statement M
-ends-at-spec = tie.close (tie.spec slice-aggregate-fits-pattern fits-pattern-requires returns)
+ends-at-spec =
+    tie.close
+    (tie.spec shared-slice-read-if1 returns add-if2 shared-slice-read-if2 returns-2 returns-3)

@@ -12,25 +12,31 @@ use Rattle.register.proofs.search.find_account.Statement.{statement}
 use Rattle.register.proofs.search.find_account.Tie as tie
 
 abbrev Inv-loop : tie.InvT-loop
-Inv-loop text s at n i₀ i = (24 + 38 * n ≤ length text) × (foundIn (cut s at (at + 22)) text i n ≡ found (cut s at (at + 22)) 0 (registerOf text .accounts))
+Inv-loop text s at n i₀ i = (n ≤ 40) × (24 + 38 * n ≤ length text) × (foundIn (cut s at (at + 22)) text i n ≡ found (cut s at (at + 22)) 0 (registerOf text .accounts))
 
 abbrev μ-loop : tie.MeasureT-loop
 μ-loop text s at n i₀ i = n - i
 
-account-lines-requires : tie.Need-account-lines-requires Inv-loop μ-loop
-account-lines-requires c κs = search (registers, needs)
+lines-in-requires : tie.Need-lines-in-requires Inv-loop μ-loop
+lines-in-requires c κs = search (registers, needs)
 
 loop-holds : tie.Need-loop-holds Inv-loop μ-loop
 loop-holds c = search (registers, needs)
 
-mul-equal-parts : tie.Need-mul-equal-parts Inv-loop μ-loop
-mul-equal-parts c = search (registers, needs)
+mul-same-iban : tie.Need-mul-same-iban Inv-loop μ-loop
+mul-same-iban c = search (registers, needs)
 
-add-equal-parts : tie.Need-add-equal-parts Inv-loop μ-loop
-add-equal-parts c = search (registers, needs)
+add-same-iban : tie.Need-add-same-iban Inv-loop μ-loop
+add-same-iban c = search (registers, needs)
 
-equal-parts-requires : tie.Need-equal-parts-requires Inv-loop μ-loop
-equal-parts-requires c κs = search (registers, needs)
+cast-same-iban : tie.Need-cast-same-iban Inv-loop μ-loop
+cast-same-iban c = search (registers, needs)
+
+same-iban-requires : tie.Need-same-iban-requires Inv-loop μ-loop
+same-iban-requires c κs = search (registers, needs)
+
+cast-t11 : tie.Need-cast-t11 Inv-loop μ-loop
+cast-t11 c = search (registers, needs)
 
 returns : tie.Need-returns Inv-loop μ-loop
 returns c = search (registers, needs)
@@ -53,11 +59,13 @@ find-account-spec =
     (tie.spec
     Inv-loop
     μ-loop
-    account-lines-requires
+    lines-in-requires
     loop-holds
-    mul-equal-parts
-    add-equal-parts
-    equal-parts-requires
+    mul-same-iban
+    add-same-iban
+    cast-same-iban
+    same-iban-requires
+    cast-t11
     returns
     add-i
     loop-less

@@ -13,17 +13,14 @@ is-misdated-requires c κs = search (stops, needs)
 returns : tie.Need-returns
 returns c = search (stops, needs)
 
-is-used-requires : tie.Need-is-used-requires
-is-used-requires c κs = ((c .before .before .before .before .before .pre .0), (search needs, (search needs, (search needs, (c .before .before .before .before .before .pre .1 .text)))))
+already-accepted-requires : tie.Need-already-accepted-requires
+already-accepted-requires c κs = search (stops, needs)
 
 returns-2 : tie.Need-returns-2
 returns-2 c = search (stops, needs)
 
 returns-3 : tie.Need-returns-3
 returns-3 c = search (stops, needs)
-
-totals-of-requires : tie.Need-totals-of-requires
-totals-of-requires c κs = search (stops, needs)
 
 rest-number-requires : tie.Need-rest-number-requires
 rest-number-requires c κs = search (stops, needs)
@@ -38,9 +35,8 @@ state-number-spec =
     numbers-of-requires
     is-misdated-requires
     returns
-    is-used-requires
+    already-accepted-requires
     returns-2
     returns-3
-    totals-of-requires
     rest-number-requires
     returns-4)

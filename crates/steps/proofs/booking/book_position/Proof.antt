@@ -8,14 +8,17 @@ use Rattle.steps.proofs.booking.book_position.Tie as tie
 place-of-requires : tie.Need-place-of-requires
 place-of-requires c κs = search (booking, needs)
 
+mul-at : tie.Need-mul-at
+mul-at c = search (booking, needs)
+
+add-at : tie.Need-add-at
+add-at c = search (booking, needs)
+
+cast-at : tie.Need-cast-at
+cast-at c = search (booking, needs)
+
 is-at-requires : tie.Need-is-at-requires
 is-at-requires c κs = search (booking, needs)
-
-mul-raise : tie.Need-mul-raise
-mul-raise c = search (booking, needs)
-
-add-raise : tie.Need-add-raise
-add-raise c = search (booking, needs)
 
 raise-requires : tie.Need-raise-requires
 raise-requires c κs = raise-fits _ (c .before .before .before .before .before .before .before .args .n) _ _ _ _ _ (search needs) (c .before .before .before .before .place-of .ensures) _ (c .before .before .is-at .ensures) (search needs) (search needs)
@@ -28,12 +31,6 @@ returns c = search (booking, needs)
 
 open-record-requires : tie.Need-open-record-requires
 open-record-requires c κs = search (booking, needs)
-
-mul-put-position : tie.Need-mul-put-position
-mul-put-position c = search (booking, needs)
-
-add-put-position : tie.Need-add-put-position
-add-put-position c = search (booking, needs)
 
 put-position-requires : tie.Need-put-position-requires
 put-position-requires c κs = search (booking, needs)
@@ -52,15 +49,14 @@ book-position-spec =
     tie.close
     (tie.spec
     place-of-requires
+    mul-at
+    add-at
+    cast-at
     is-at-requires
-    mul-raise
-    add-raise
     raise-requires
     same-length
     returns
     open-record-requires
-    mul-put-position
-    add-put-position
     put-position-requires
     add-result
     same-length-2

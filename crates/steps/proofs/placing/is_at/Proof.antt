@@ -13,6 +13,9 @@ mul-at c = search (placing, needs)
 add-at : tie.Need-add-at
 add-at c = search (placing, needs)
 
+cast-at : tie.Need-cast-at
+cast-at c = search (placing, needs)
+
 number-at-requires : tie.Need-number-at-requires
 number-at-requires c κs = search (placing, needs)
 
@@ -35,6 +38,7 @@ is-at-spec =
     returns
     mul-at
     add-at
+    cast-at
     number-at-requires
     add-number-at
     number-at-requires-2

@@ -22,6 +22,9 @@ mul-is-earlier c = search (placing, needs)
 add-is-earlier : tie.Need-add-is-earlier Inv-loop μ-loop
 add-is-earlier c = search (placing, needs)
 
+cast-is-earlier : tie.Need-cast-is-earlier Inv-loop μ-loop
+cast-is-earlier c = search (placing, needs)
+
 is-earlier-requires : tie.Need-is-earlier-requires Inv-loop μ-loop
 is-earlier-requires c κs = search (placing, needs)
 
@@ -49,6 +52,7 @@ place-of-spec =
     loop-holds
     mul-is-earlier
     add-is-earlier
+    cast-is-earlier
     is-earlier-requires
     add-i
     loop-less

@@ -22,6 +22,9 @@ mul-stays-at c = search (turning, needs)
 add-stays-at : tie.Need-add-stays-at Inv-loop μ-loop
 add-stays-at c = search (turning, needs)
 
+cast-stays-at : tie.Need-cast-stays-at Inv-loop μ-loop
+cast-stays-at c = search (turning, needs)
+
 stays-at-requires : tie.Need-stays-at-requires Inv-loop μ-loop
 stays-at-requires c κs = search (turning, needs)
 
@@ -55,11 +58,17 @@ mul-put-zeros c = search (turning, needs)
 add-put-zeros : tie.Need-add-put-zeros Inv-loop μ-loop
 add-put-zeros c = search (turning, needs)
 
+cast-put-zeros : tie.Need-cast-put-zeros Inv-loop μ-loop
+cast-put-zeros c = search (turning, needs)
+
 sub-put-zeros : tie.Need-sub-put-zeros Inv-loop μ-loop
 sub-put-zeros c = search (turning, needs)
 
 mul-put-zeros-2 : tie.Need-mul-put-zeros-2 Inv-loop μ-loop
 mul-put-zeros-2 c = search (turning, needs)
+
+cast-put-zeros-2 : tie.Need-cast-put-zeros-2 Inv-loop μ-loop
+cast-put-zeros-2 c = search (turning, needs)
 
 put-zeros-requires : tie.Need-put-zeros-requires Inv-loop μ-loop
 put-zeros-requires c κs = search (turning, needs)
@@ -79,6 +88,7 @@ remove-detailed-spec =
     loop-holds
     mul-stays-at
     add-stays-at
+    cast-stays-at
     stays-at-requires
     keep-record-requires
     add-i
@@ -90,8 +100,10 @@ remove-detailed-spec =
     loop-again-2
     mul-put-zeros
     add-put-zeros
+    cast-put-zeros
     sub-put-zeros
     mul-put-zeros-2
+    cast-put-zeros-2
     put-zeros-requires
     same-length
     returns)

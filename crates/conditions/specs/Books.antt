@@ -1,0 +1,122 @@
+-- What booking a message needs of it, read off its bytes. Assumes nothing.
+use mathlib.Core.Path.{_≡_, refl, sym, ap, _∙_}
+use mathlib.Core.Bool.{Bool, true, false, not}
+use mathlib.Core.List.{List, []}
+use Prim.Native.Nat.{ℕ, _-_, _≤_, _<_}
+use native.Mathlib.Omega.{arith}
+use lib.Dec.{leb, eqb}
+use lib.ListN.{length}
+use borrow.Author.Tests.{leb-true}
+use Rattle.rules.specs.Text.{between, isText, every, run, number}
+use Rattle.rules.specs.Lines.{sender}
+use Rattle.rules.specs.Messages.{Message, mt103, mt101, Transfer, Order, senderOf, referenceOf, detailsOf, dateOf, transferredBy, detailedBy, sumOf, firstDate}
+use Rattle.rules.specs.Calls.{misdated, bankOf}
+use Rattle.laws.specs.Parts.{cut, from, from-take, cut-length}
+use Rattle.laws.specs.Tests.{and-left, and-right}
+use Rattle.calendar.specs.Days.{exists-small}
+use Rattle.area.specs.Accepted.{Has}
+use Rattle.forms.specs.Spans.{spanOf, SpanIn}
+use Rattle.forms.specs.declared.rows.Span.{Span}
+use Rattle.conditions.specs.declared.booking.Booking.{Booking}
+
+-- an amount where the test holds
+abbrev pub amountIf : Bool → ℕ → ℕ
+amountIf true v = v
+amountIf false v = 0
+
+-- 11, by the kind of message
+abbrev pub misdatedBy : Bool → ℕ → ℕ → Bool
+misdatedBy true date day = not (eqb date day)
+misdatedBy false date day = not (leb date day)
+
+-- an MT103 of this amount, and an MT101
+pub record IsTransfer (m : Message) (amount : ℕ) : Type 0 where
+  pub transfer : Transfer
+  pub same : m ≡ mt103 transfer
+  pub sum : transfer .amount ≡ amount
+
+pub record IsOrder (m : Message) : Type 0 where
+  pub order : Order
+  pub same : m ≡ mt101 order
+
+abbrev pub KindOf : Message → ℕ → Bool → Type 0
+KindOf m amount true = IsTransfer m amount
+KindOf m amount false = IsOrder m
+
+pub record Books (s : List ℕ) (m : Message) (b : Booking) : Type 0 where
+  pub bank : b .bank ≡ bankOf m
+  pub date : b .date ≡ dateOf m
+  pub reference : spanOf s (b .reference) ≡ referenceOf m
+  pub order : b .reference .start ≤ b .reference .end
+  pub room : b .reference .end ≤ length s
+  pub short : b .reference .end - b .reference .start ≤ 16
+  pub text : every isText (spanOf s (b .reference)) ≡ true
+  pub transferred : transferredBy m ≡ amountIf (b .transfer) (b .amount)
+  pub detailed : detailedBy m ≡ amountIf (not (b .transfer)) (b .amount)
+  pub dated : (day : ℕ) → misdated day m ≡ misdatedBy (b .transfer) (b .date) day
+  pub small : b .amount ≤ 160000000000000000
+  pub kind : KindOf m (b .amount) (b .transfer)
+
+-- ---- of any message that was read
+
+module _ (s : List ℕ) (m : Message) (h : Has s m) where
+  bank-is : number (cut s 4 12) ≡ bankOf m
+  unfolding sender from
+  bank-is = rw (h .sent) (ap number (sym (from-take s 4 8)))
+
+  pub date-six : dateOf m < 1000000
+  date-six = exists-small (dateOf m) (h .date)
+
+  module _ (p : Span) (w : SpanIn s p) (e : spanOf s p ≡ referenceOf m) where
+    reference-run : run isText 1 16 (spanOf s p) ≡ true
+    reference-run = rw e (h .reference)
+
+    reference-text : every isText (spanOf s p) ≡ true
+    unfolding run
+    reference-text = and-right (between 1 16 (length (spanOf s p))) _ reference-run
+
+    reference-short : p .end - p .start ≤ 16
+    unfolding run
+    reference-short = rw (cut-length s (p .start) (p .end) (w .room)) at (leb-true (length (spanOf s p)) 16 (and-right (leb 1 (length (spanOf s p))) _ (and-left _ _ reference-run)))
+
+-- ---- an MT103, and an MT101
+
+pub transfer-books : (s : List ℕ) (t : Transfer) → Has s (mt103 t) → (p : Span) → SpanIn s p → spanOf s p ≡ referenceOf (mt103 t) → t .amount < 10000000000000000
+    → Books s (mt103 t) (record { transfer = true; bank = number (cut s 4 12); date = t .date; amount = t .amount; reference = p; count = 0 })
+unfolding dateOf transferredBy detailedBy detailsOf sumOf misdated
+transfer-books s t h p w e l = record {
+  bank = bank-is s (mt103 t) h;
+  date = refl;
+  reference = e;
+  order = w .order;
+  room = w .room;
+  short = reference-short s (mt103 t) h p w e;
+  text = reference-text s (mt103 t) h p w e;
+  transferred = refl;
+  detailed = refl;
+  dated = λ day. refl;
+  small = omega arith;
+  kind = record { transfer = t; same = refl; sum = refl };
+}
+
+pub order-books : (s : List ℕ) (o : Order) → Has s (mt101 o) → (p : Span) → SpanIn s p → spanOf s p ≡ referenceOf (mt101 o) → {date sum count : ℕ} → date ≡ firstDate (o .details) → sum ≡ sumOf (o .details) → sum ≤ 160000000000000000
+    → Books s (mt101 o) (record { transfer = false; bank = number (cut s 4 12); date = date; amount = sum; reference = p; count = count })
+unfolding dateOf transferredBy detailedBy detailsOf misdated
+order-books s o h p w e d f l = record {
+  bank = bank-is s (mt101 o) h;
+  date = d;
+  reference = e;
+  order = w .order;
+  room = w .room;
+  short = reference-short s (mt101 o) h p w e;
+  text = reference-text s (mt101 o) h p w e;
+  transferred = refl;
+  detailed = sym f;
+  dated = λ day. rw d refl;
+  small = l;
+  kind = record { order = o; same = refl };
+}
+
+pub booking-made : {t : Bool} {v w date amount count : ℕ} {p : Span} → v ≡ w
+    → _≡_ {A = Booking} (record { transfer = t; bank = v; date = date; amount = amount; reference = p; count = count }) (record { transfer = t; bank = w; date = date; amount = amount; reference = p; count = count })
+booking-made e = rw e

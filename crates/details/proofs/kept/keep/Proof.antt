@@ -1,0 +1,66 @@
+-- `details::kept::keep` meets its contract: the amount and the three lines of its place are set. Assumes nothing.
+use Rattle.details.specs.Kept.{keeps-done}
+use borrow.Author.Needs.{needs}
+use Rattle.details.proofs.kept.keep.Statement.{statement}
+use Rattle.details.proofs.kept.keep.Tie as tie
+
+mul-amounts : tie.Need-mul-amounts
+mul-amounts c = search needs
+
+element-write-amounts : tie.Need-element-write-amounts
+element-write-amounts c = search needs
+
+mul-set-line : tie.Need-mul-set-line
+mul-set-line c = search needs
+
+element-copy-out-set-line : tie.Need-element-copy-out-set-line
+element-copy-out-set-line c = search needs
+
+set-line-requires : tie.Need-set-line-requires
+set-line-requires c κs = search needs
+
+mul-set-line-2 : tie.Need-mul-set-line-2
+mul-set-line-2 c = search needs
+
+add-set-line : tie.Need-add-set-line
+add-set-line c = search needs
+
+element-copy-out-set-line-2 : tie.Need-element-copy-out-set-line-2
+element-copy-out-set-line-2 c = search needs
+
+set-line-requires-2 : tie.Need-set-line-requires-2
+set-line-requires-2 c κs = search needs
+
+mul-set-line-3 : tie.Need-mul-set-line-3
+mul-set-line-3 c = search needs
+
+add-set-line-2 : tie.Need-add-set-line-2
+add-set-line-2 c = search needs
+
+element-copy-out-set-line-3 : tie.Need-element-copy-out-set-line-3
+element-copy-out-set-line-3 c = search needs
+
+set-line-requires-3 : tie.Need-set-line-requires-3
+set-line-requires-3 c κs = search needs
+
+returns : tie.Need-returns
+returns c = search (keeps-done, needs)
+
+pub keep-spec : {M : Type 1} → statement M
+keep-spec =
+    tie.close
+    (tie.spec
+    mul-amounts
+    element-write-amounts
+    mul-set-line
+    element-copy-out-set-line
+    set-line-requires
+    mul-set-line-2
+    add-set-line
+    element-copy-out-set-line-2
+    set-line-requires-2
+    mul-set-line-3
+    add-set-line-2
+    element-copy-out-set-line-3
+    set-line-requires-3
+    returns)

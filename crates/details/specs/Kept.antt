@@ -1,0 +1,177 @@
+-- Details as they are kept, each at its place: what is set for one more, and what then holds of all.
+use mathlib.Core.Path.{_≡_, refl, sym, ap, _∙_}
+use mathlib.Core.Bool.{Bool, true, false}
+use mathlib.Core.List.{List, [], _∷_, _++_}
+use Prim.Native.Nat.{ℕ, _+_, _*_, _≤_, _<_}
+use native.Mathlib.Numerals.{add-one}
+use native.Mathlib.Omega.{arith}
+use lib.Dec.{leb}
+use lib.ListN.{length, getD, drop, set, length-set, length-append, drop-of-length-le, List·getD-append}
+use lib.Seq.{drop-cons, getD-set-same, getD-set-other, getD-append-seam}
+use borrow.Author.Tests.{leb-true, leb-false}
+use Rattle.rules.specs.Messages as M
+use Rattle.rules.specs.Messages.{lineOf}
+use Rattle.forms.specs.Spans.{spanOf, noSpan, SpanIn, within-at, held-line}
+use Rattle.forms.specs.Details.{DetailAt, detailHeld}
+use Rattle.forms.specs.declared.rows.Span.{Span}
+use Rattle.forms.specs.declared.detail.Detail.{Detail}
+use Rattle.details.specs.Lines.{lineAt, withLine, line-length, line-set, line-other}
+use Rattle.details.specs.Message.{detailsIn, noDetail, detailAt}
+
+-- the part is line k of the detail
+pub record LineOf (s : List ℕ) (d : M.Detail) (k : ℕ) (p : Span) : Type 0 where
+  pub inside : SpanIn s p
+  pub bytes : spanOf s p ≡ lineOf (d .rows) k
+
+pub line-inside : (s : List ℕ) (d : M.Detail) (k : ℕ) (p : Span) → LineOf s d k p → SpanIn s p
+line-inside s d k p l = l .inside
+
+-- the lines of detail d that are kept at place i: 52D, 59 and BAEREF
+pub record LinesAs (s : List ℕ) (d : M.Detail) (places : List ℕ) (i : ℕ) : Type 0 where
+  pub branch : LineOf s d 7 (lineAt places (3 * i))
+  pub account : LineOf s d 9 (lineAt places (3 * i + 1))
+  pub baeref : LineOf s d 14 (lineAt places (3 * i + 2))
+
+-- there is room for 16
+pub record Room (amounts places : List ℕ) : Type 0 where
+  pub amounts-size : length amounts ≡ 16
+  pub places-size : length places ≡ 96
+
+-- the first 16 of some details are kept
+pub record Kept (s : List ℕ) (ds : List M.Detail) (amounts places : List ℕ) : Type 0 where
+  pub room : Room amounts places
+  pub amounts-are : (i : ℕ) → i < length ds → i < 16 → getD amounts i 0 ≡ detailAt ds i .amount
+  pub lines-are : (i : ℕ) → i < length ds → i < 16 → LinesAs s (detailAt ds i) places i
+
+-- ---- one more
+
+-- detail i is d now
+pub record Keeps (i : ℕ) (d : Detail) (amounts places amounts' places' : List ℕ) : Type 0 where
+  pub amounts-are : amounts' ≡ set amounts i (d .amount)
+  pub places-are : places'
+      ≡ withLine (withLine (withLine places (3 * i) (getD (d .spans) 7 noSpan)) (3 * i + 1) (getD (d .spans) 9 noSpan)) (3 * i + 2) (getD (d .spans) 14 noSpan)
+
+pub keeps-done : (i : ℕ) (d : Detail) {amounts places p₁ p₂ p₃ : List ℕ} → p₁ ≡ withLine places (3 * i) (getD (d .spans) 7 noSpan) → p₂ ≡ withLine p₁ (3 * i + 1) (getD (d .spans) 9 noSpan)
+    → p₃ ≡ withLine p₂ (3 * i + 2) (getD (d .spans) 14 noSpan) → Keeps i d amounts places (set amounts i (d .amount)) p₃
+keeps-done i d e f g = record { amounts-are = refl; places-are = rw (f, e) at g }
+
+-- a list with one more at its end: those before stay, the last is it
+module _ (ds : List M.Detail) (d : M.Detail) where
+  pub more-length : length (ds ++ (d ∷ [])) ≡ length ds + 1
+  more-length = length-append ds (d ∷ [])
+
+  pub more-before : (i : ℕ) → i < length ds → detailAt (ds ++ (d ∷ [])) i ≡ detailAt ds i
+  more-before i h = List·getD-append ds (d ∷ []) noDetail i h
+
+  pub more-last : (i : ℕ) → i ≡ length ds → detailAt (ds ++ (d ∷ [])) i ≡ d
+  more-last i e = rw e (getD-append-seam ds d [] noDetail)
+
+-- a place is before the last or the last
+module _ {A : Type 0} (i n : ℕ) (h : i < n + 1) where
+  pub before-or-last : (i < n → A) → (i ≡ n → A) → A
+  before-or-last f g = go (leb n i) refl
+    where
+      go : (t : Bool) → leb n i ≡ t → A
+      go true e = let l : n ≤ i = leb-true n i e in g (omega arith)
+      go false e = f (leb-false n i e)
+
+pub kept-none : (s : List ℕ) {amounts places : List ℕ} → Room amounts places → Kept s [] amounts places
+kept-none s r = record { room = r; amounts-are = λ i h k. absurd (omega arith); lines-are = λ i h k. absurd (omega arith) }
+
+module _ (s : List ℕ) (ds : List M.Detail) {amounts places : List ℕ} (k : Kept s ds amounts places) where
+  -- behind the sixteenth nothing is kept
+  pub kept-full : 16 ≤ length ds → (d : M.Detail) → Kept s (ds ++ (d ∷ [])) amounts places
+  kept-full h d = record {
+    room = k .room;
+    amounts-are = λ i l m. rw (more-before ds d i (omega arith)) (k .amounts-are i (omega arith) m);
+    lines-are = λ i l m. rw (more-before ds d i (omega arith)) (k .lines-are i (omega arith) m);
+  }
+
+  module _ {at : ℕ} (h : length ds < 16) (d : Detail) (w : DetailAt s at d) {amounts' places' : List ℕ} (c : Keeps (length ds) d amounts places amounts' places') where
+    line-of : (j : ℕ) → j < 17 → LineOf s (detailHeld s d) j (getD (d .spans) j noSpan)
+    line-of j l = record { inside = within-at s (d .spans) j (w .within); bytes = sym (held-line s (d .spans) 17 j l) }
+
+    abbrev first : List ℕ
+    first = withLine places (3 * length ds) (getD (d .spans) 7 noSpan)
+
+    abbrev second : List ℕ
+    second = withLine first (3 * length ds + 1) (getD (d .spans) 9 noSpan)
+
+    first-size : length first ≡ 96
+    first-size = line-length places (3 * length ds) (getD (d .spans) 7 noSpan) ∙ k .room .places-size
+
+    second-size : length second ≡ 96
+    second-size = line-length first (3 * length ds + 1) (getD (d .spans) 9 noSpan) ∙ first-size
+
+    own-branch : lineAt places' (3 * length ds) ≡ getD (d .spans) 7 noSpan
+    own-branch =
+        rw (c .places-are, line-other second (3 * length ds + 2) (getD (d .spans) 14 noSpan) (3 * length ds) (λ e. omega arith), line-other first (3 * length ds + 1) (getD (d .spans) 9 noSpan) (3 * length ds) (λ e. omega arith))
+        (line-set places (3 * length ds) (getD (d .spans) 7 noSpan) (omega (arith, k .room .places-size)))
+
+    own-account : lineAt places' (3 * length ds + 1) ≡ getD (d .spans) 9 noSpan
+    own-account =
+        rw (c .places-are, line-other second (3 * length ds + 2) (getD (d .spans) 14 noSpan) (3 * length ds + 1) (λ e. omega arith))
+        (line-set first (3 * length ds + 1) (getD (d .spans) 9 noSpan) (omega (arith, first-size)))
+
+    own-baeref : lineAt places' (3 * length ds + 2) ≡ getD (d .spans) 14 noSpan
+    own-baeref = rw (c .places-are) (line-set second (3 * length ds + 2) (getD (d .spans) 14 noSpan) (omega (arith, second-size)))
+
+    other-line : (j : ℕ) → j < 3 * length ds → lineAt places' j ≡ lineAt places j
+    other-line j l =
+        rw (
+          c .places-are,
+          line-other second (3 * length ds + 2) (getD (d .spans) 14 noSpan) j (λ e. omega arith),
+          line-other first (3 * length ds + 1) (getD (d .spans) 9 noSpan) j (λ e. omega arith),
+          line-other places (3 * length ds) (getD (d .spans) 7 noSpan) j (λ e. omega arith),
+        )
+
+    own-lines : LinesAs s (detailHeld s d) places' (length ds)
+    own-lines = record { branch = rw own-branch (line-of 7 (omega arith)); account = rw own-account (line-of 9 (omega arith)); baeref = rw own-baeref (line-of 14 (omega arith)) }
+
+    other-lines : (i : ℕ) → i < length ds → LinesAs s (detailAt ds i) places i → LinesAs s (detailAt ds i) places' i
+    other-lines i l a = record {
+      branch = rw (other-line (3 * i) (omega arith)) (a .branch);
+      account = rw (other-line (3 * i + 1) (omega arith)) (a .account);
+      baeref = rw (other-line (3 * i + 2) (omega arith)) (a .baeref);
+    }
+
+    own-amount : getD amounts' (length ds) 0 ≡ d .amount
+    own-amount = rw (c .amounts-are) (getD-set-same amounts (length ds) (d .amount) 0 (rw (k .room .amounts-size) h))
+
+    other-amount : (i : ℕ) → i < length ds → getD amounts' i 0 ≡ getD amounts i 0
+    other-amount i l = rw (c .amounts-are, getD-set-other amounts (length ds) i (d .amount) 0 (λ e. omega arith))
+
+    pub kept-more : Kept s (ds ++ (detailHeld s d ∷ [])) amounts' places'
+    kept-more = record {
+      room = record {
+        amounts-size = rw (c .amounts-are) (length-set amounts (length ds) (d .amount) ∙ k .room .amounts-size);
+        places-size = rw (c .places-are) (line-length second (3 * length ds + 2) (getD (d .spans) 14 noSpan) ∙ second-size);
+      };
+      amounts-are = λ i l m. before-or-last i (length ds) (rw (more-length ds (detailHeld s d)) at l)
+          (λ b. rw (more-before ds (detailHeld s d) i b) (other-amount i b ∙ k .amounts-are i b m))
+          (λ e. rw (more-last ds (detailHeld s d) i e) (rw e own-amount));
+      lines-are = λ i l m. before-or-last i (length ds) (rw (more-length ds (detailHeld s d)) at l)
+          (λ b. rw (more-before ds (detailHeld s d) i b) (other-lines i b (k .lines-are i b m)))
+          (λ e. rw (more-last ds (detailHeld s d) i e) (rw e own-lines));
+    }
+
+-- ---- the details of a message, all kept
+
+-- n is their number, and their lines are kept
+pub record LinesIn (s places : List ℕ) (n : ℕ) : Type 0 where
+  pub count : n ≡ length (detailsIn s)
+  pub few : n ≤ 16
+  pub each : (i : ℕ) → i < n → LinesAs s (detailAt (detailsIn s) i) places i
+
+-- their amounts are
+pub record AmountsIn (s amounts : List ℕ) (n : ℕ) : Type 0 where
+  pub each : (i : ℕ) → i < n → getD amounts i 0 ≡ detailAt (detailsIn s) i .amount
+
+module _ (s places : List ℕ) (n : ℕ) (k : LinesIn s places n) (i : ℕ) where
+  -- detail i and those behind it
+  pub kept-next : i < n → drop i (detailsIn s) ≡ detailAt (detailsIn s) i ∷ drop (i + 1) (detailsIn s)
+  kept-next h = rw (add-one i) (drop-cons (detailsIn s) i noDetail (omega (arith, k .count)))
+
+  -- none is left
+  pub kept-end : n ≤ i → drop i (detailsIn s) ≡ []
+  kept-end h = drop-of-length-le (detailsIn s) {i = i} (omega (arith, k .count))

@@ -1,0 +1,135 @@
+-- An account line's form, part by part: the signs of its IBAN follow from the IBAN's shape, and behind it stand two bounds, a comma before each. A law for
+-- each way out of the tests of those parts. Assumes nothing.
+use mathlib.Core.Path.{_≡_, refl, sym, _∙_}
+use mathlib.Core.Bool.{Bool, true, false, _&&_, _||_, cond}
+use mathlib.Core.List.{List, [], _∷_}
+use Prim.Native.Nat.{ℕ, _+_, _≤_, _<_}
+use native.Mathlib.Omega.{arith}
+use lib.Dec.{leb, eqb}
+use lib.ListN.{length, getD}
+use borrow.Author.Tests.{eq-eqb, ne-eqb, eqb-true}
+use Rattle.rules.specs.Text.{ascii, isDigit, isLetter, isAlnum, every, fits, fitsSign}
+use Rattle.rules.specs.Accounts.{ibanShape, passes}
+use Rattle.laws.specs.Parts.{cut, cut-done}
+use Rattle.laws.specs.Tests.{never, and-left, and-right, cond-left, cond-right}
+use Rattle.laws.specs.Places.{Passed, passed-all}
+use Rattle.laws.specs.Patterns.{digit-sign, alnum-sign, fits-sign, fits-run, fits-last}
+use Rattle.laws.specs.Values.{Valued}
+use Rattle.register.specs.AccountLine.{bound}
+use Rattle.register.specs.Places.{formAt, endsAt, boundAt}
+
+-- ---- letters and digits
+
+-- what fits the sign is a letter or digit
+unfoldable within : ℕ → Bool
+within q = eqb q 110 || eqb q 97 || eqb q 99 || isAlnum q
+
+sign-alnum : (q c : ℕ) → within q ≡ true → fitsSign q c ≡ true → isAlnum c ≡ true
+unfolding within fitsSign isAlnum
+sign-alnum q c w h = go (eqb q 110) (eqb q 97) (eqb q 99) w h
+  where
+    or-right : (d l : Bool) → l ≡ true → (d || l) ≡ true
+    or-right true l h = refl
+    or-right false l h = h
+
+    go : (n a b : Bool) → (n || a || b || (isDigit q || isLetter q)) ≡ true → cond n (isDigit c) (cond a (isLetter c) (cond b (isDigit c || isLetter c) (eqb q c))) ≡ true → (isDigit c || isLetter c) ≡ true
+    go true a b w h = rw h
+    go false true b w h = or-right (isDigit c) (isLetter c) h
+    go false false true w h = h
+    go false false false w h = let e : q ≡ c = eqb-true q c h in rw e at w
+
+fits-alnum : (ps cs : List ℕ) → every within ps ≡ true → fits ps cs ≡ true → every isAlnum cs ≡ true
+unfolding every fits
+fits-alnum [] [] w h = refl
+fits-alnum [] (c ∷ cs) w h = never h
+fits-alnum (q ∷ ps) [] w h = never h
+fits-alnum (q ∷ ps) (c ∷ cs) w h =
+    rw (sign-alnum q c (cond-left (within q) (every within ps) w) (cond-left (fitsSign q c) (fits ps cs) h))
+    (fits-alnum ps cs (cond-right (within q) (every within ps) w) (cond-right (fitsSign q c) (fits ps cs) h))
+
+-- an IBAN has nothing else
+iban-alnum : (cs : List ℕ) → passes cs ≡ true → every isAlnum cs ≡ true
+unfolding passes ibanShape every within isAlnum isDigit isLetter
+iban-alnum cs h = fits-alnum (ascii "BGnnaaaannnnnncccccccc") cs refl (and-left _ _ h)
+
+-- ---- the bounds behind it
+
+-- `,low,high` at a place
+unfoldable pub boundsAt : List ℕ → ℕ → Bool
+boundsAt s at = fits (ascii ",nnnnnn,nnnnnn") (cut s at (at + 14))
+
+-- the form of a line whose IBAN passes
+pub form-bounds : (s : List ℕ) (at : ℕ) → at + 36 ≤ length s → passes (cut s at (at + 22)) ≡ true → formAt s at ≡ boundsAt s (at + 22)
+unfolding formAt boundsAt
+form-bounds s at l h =
+    let e : at + 22 + 14 ≡ at + 36 = omega arith in
+    fits-run 99 isAlnum alnum-sign (ascii ",nnnnnn,nnnnnn") s 22 at (at + 36) (omega arith) l ∙ rw (iban-alnum (cut s at (at + 22)) h, e)
+
+module _ (s : List ℕ) (at : ℕ) (l : at + 14 ≤ length s) where
+  signs : boundsAt s at ≡ cond (eqb 44 (getD s at 0)) (every isDigit (cut s (at + 1) (at + 1 + 6)) && cond (eqb 44 (getD s (at + 7) 0)) (every isDigit (cut s (at + 8) (at + 8 + 6))) false) false
+  unfolding boundsAt fitsSign
+  signs =
+      let e : at + 1 + 6 ≡ at + 7 = omega arith in
+      let f : at + 7 + 1 ≡ at + 8 = omega arith in
+      fits-sign 44 (ascii "nnnnnn,nnnnnn") s at (at + 14) (omega arith) l
+      ∙ rw (
+        fits-run 110 isDigit digit-sign (ascii ",nnnnnn") s 6 (at + 1) (at + 14) (omega arith) l,
+        e,
+        fits-sign 44 (ascii "nnnnnn") s (at + 7) (at + 14) (omega arith) l,
+        f,
+        fits-last 110 isDigit digit-sign s 6 (at + 8) (at + 14) (omega arith) l,
+      )
+
+  pub bounds-comma : (getD s at 0 ≡ 44 → ⊥) → false ≡ boundsAt s at
+  bounds-comma h = rw (signs, ne-eqb 44 (getD s at 0) (λ e. h (sym e)))
+
+  module _ (c : getD s at 0 ≡ 44) (r : ℕ) (w : Passed isDigit s (at + 1) 6 r) where
+    pub bounds-low : r < 6 → false ≡ boundsAt s at
+    bounds-low h = rw (signs, eq-eqb 44 (getD s at 0) (sym c), ← w .whole, ne-eqb r 6 (λ (e : r ≡ 6). omega arith))
+
+    module _ (k : 6 ≤ r) where
+      pub bounds-second : (getD s (at + 7) 0 ≡ 44 → ⊥) → false ≡ boundsAt s at
+      bounds-second h = rw (signs, eq-eqb 44 (getD s at 0) (sym c), passed-all isDigit s (at + 1) 6 r w k, ne-eqb 44 (getD s (at + 7) 0) (λ e. h (sym e)))
+
+      pub bounds-high : getD s (at + 7) 0 ≡ 44 → (q : ℕ) → Passed isDigit s (at + 8) 6 q → eqb q 6 ≡ boundsAt s at
+      bounds-high d q v = rw (signs, eq-eqb 44 (getD s at 0) (sym c), passed-all isDigit s (at + 1) 6 r w k, eq-eqb 44 (getD s (at + 7) 0) (sym d)) (v .whole)
+
+  -- each bound has its digits
+  module _ (h : boundsAt s at ≡ true) where
+    digits-behind : (every isDigit (cut s (at + 1) (at + 1 + 6)) && cond (eqb 44 (getD s (at + 7) 0)) (every isDigit (cut s (at + 8) (at + 8 + 6))) false) ≡ true
+    digits-behind = cond-right (eqb 44 (getD s at 0)) _ (sym signs ∙ h)
+
+    pub low-digits : every isDigit (cut s (at + 1) (at + 1 + 6)) ≡ true
+    low-digits = and-left _ _ digits-behind
+
+    pub high-digits : every isDigit (cut s (at + 8) (at + 8 + 6)) ≡ true
+    high-digits = cond-right (eqb 44 (getD s (at + 7) 0)) _ (and-right (every isDigit (cut s (at + 1) (at + 1 + 6))) _ digits-behind)
+
+-- the number of a bound's digits
+bound-valued : (s : List ℕ) (at r : ℕ) → Valued s at 6 r → r ≡ boundAt s at
+unfolding boundAt bound
+bound-valued s at r v = rw (← v .value)
+
+pub bounds-ordered : (s : List ℕ) (a b low high : ℕ) → Valued s a 6 low → Valued s b 6 high → leb low high ≡ leb (boundAt s a) (boundAt s b)
+bounds-ordered s a b low high v w = rw (← bound-valued s a low v, ← bound-valued s b high w)
+
+-- ---- CR LF
+
+module _ (s : List ℕ) (at : ℕ) (l : at + 2 ≤ length s) where
+  crlf-signs : endsAt s at ≡ cond (eqb 13 (getD s at 0)) (cond (eqb 10 (getD s (at + 1) 0)) true false) false
+  unfolding endsAt fitsSign fits
+  crlf-signs =
+      let e : at + 1 + 1 ≡ at + 2 = omega arith in
+      fits-sign 13 (ascii "\n") s at (at + 2) (omega arith) l ∙ rw (fits-sign 10 [] s (at + 1) (at + 2) (omega arith) l, e, cut-done s (at + 2) (at + 2) (omega arith) (omega arith))
+
+  pub ends-first : (getD s at 0 ≡ 13 → ⊥) → false ≡ endsAt s at
+  ends-first h = rw (crlf-signs, ne-eqb 13 (getD s at 0) (λ e. h (sym e)))
+
+  module _ (c : getD s at 0 ≡ 13) where
+    pub ends-second : (getD s (at + 1) 0 ≡ 10 → ⊥) → false ≡ endsAt s at
+    ends-second h = rw (crlf-signs, eq-eqb 13 (getD s at 0) (sym c), ne-eqb 10 (getD s (at + 1) 0) (λ e. h (sym e)))
+
+    pub ends-here : getD s (at + 1) 0 ≡ 10 → true ≡ endsAt s at
+    ends-here d = rw (crlf-signs, eq-eqb 13 (getD s at 0) (sym c), eq-eqb 10 (getD s (at + 1) 0) (sym d))
+
+pub ruleset formed = (bounds-comma, bounds-low, bounds-second, bounds-high, low-digits, high-digits, bounds-ordered, ends-first, ends-second, ends-here)
