@@ -23,9 +23,6 @@ pub record LineOf (s : List ℕ) (d : M.Detail) (k : ℕ) (p : Span) : Type 0 wh
   pub inside : SpanIn s p
   pub bytes : spanOf s p ≡ lineOf (d .rows) k
 
-pub line-inside : (s : List ℕ) (d : M.Detail) (k : ℕ) (p : Span) → LineOf s d k p → SpanIn s p
-line-inside s d k p l = l .inside
-
 -- the lines of detail d that are kept at place i: 52D, 59 and BAEREF
 pub record LinesAs (s : List ℕ) (d : M.Detail) (places : List ℕ) (i : ℕ) : Type 0 where
   pub branch : LineOf s d 7 (lineAt places (3 * i))

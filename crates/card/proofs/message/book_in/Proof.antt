@@ -1,6 +1,5 @@
 -- The message's own parts are what is booked. Assumes nothing.
-use Rattle.card.specs.Message.{booking-of}
-use Rattle.card.specs.Message.{sending}
+use Rattle.card.specs.Message.{booking-of, sending}
 use borrow.Author.Needs.{needs}
 use Rattle.card.proofs.message.book_in.Statement.{statement}
 use Rattle.card.proofs.message.book_in.Tie as tie
@@ -18,7 +17,7 @@ detailed-by-requires : tie.Need-detailed-by-requires
 detailed-by-requires c κs = search (sending, needs)
 
 book-area-requires : tie.Need-book-area-requires
-book-area-requires c κs = ((c .before .before .before .before .before .before .before .before .pre .0), (booking-of _ _ (c .before .before .before .before .before .before .before .before .pre .0) _ (c .before .before .before .before .before .before .before .before .pre .1 .0) (c .before .transferred-by .ensures) (c .detailed-by .ensures) (c .before .before .before .before .before .before .before .before .pre .1 .1 .0), (search needs, (search needs, search needs))))
+book-area-requires c κs = let p = (c .before .before .before .before .before .before .before .before .pre) in (p .0, (booking-of _ _ (p .0) _ (p .1 .0) (c .before .transferred-by .ensures) (c .detailed-by .ensures) (p .1 .1 .0), (search needs, (search needs, search needs))))
 
 same-length : tie.Need-same-length
 same-length c = search (sending, needs)

@@ -1,6 +1,5 @@
 -- One of 11 to 15, or what the rest of the call answers. Assumes nothing.
-use Rattle.card.specs.Message.{state-none, leaves-told}
-use Rattle.card.specs.Message.{sending}
+use Rattle.card.specs.Message.{state-none, leaves-told, sending}
 use borrow.Author.Needs.{needs}
 use Rattle.card.proofs.message.book_message.Statement.{statement}
 use Rattle.card.proofs.message.book_message.Tie as tie
@@ -21,7 +20,7 @@ position-after-requires : tie.Need-position-after-requires
 position-after-requires c κs = search (sending, needs)
 
 send-message-requires : tie.Need-send-message-requires
-send-message-requires c κs = ((c .before .before .before .before .before .before .before .before .before .before .before .before .before .pre .0), ((c .before .before .before .before .before .before .before .before .before .before .before .before .before .pre .1), (state-none _ _ _ (c .before .before .before .before .before .before .state-number .ensures) (c .before .before .before .before .before .if1 .left), leaves-told _ _ _ (c .before .before .before .before .before .before .before .before .before .before .before .before .before .pre .1 .books) _ (c .before .before .before .before .before .before .before .before .totals-of .ensures) _ (c .before .before .before .before .position-after .ensures))))
+send-message-requires c κs = let p = (c .before .before .before .before .before .before .before .before .before .before .before .before .before .pre) in (p .0, (p .1, (state-none _ _ _ (c .before .before .before .before .before .before .state-number .ensures) (c .before .before .before .before .before .if1 .left), leaves-told _ _ _ (p .1 .books) _ (c .before .before .before .before .before .before .before .before .totals-of .ensures) _ (c .before .before .before .before .position-after .ensures))))
 
 same-length-2 : tie.Need-same-length-2
 same-length-2 c = search (sending, needs)

@@ -8,7 +8,7 @@ slice-aggregate-put-message-text : tie.Need-slice-aggregate-put-message-text
 slice-aggregate-put-message-text c = search (sending, needs)
 
 put-message-text-requires : tie.Need-put-message-text-requires
-put-message-text-requires c κs = ((c .before .before .before .pre .engine), ((c .before .before .before .pre .books), ((c .before .before .before .pre .judged), ((c .before .before .before .pre .leaves .same), (c .before .before .before .pre .parts-are)))))
+put-message-text-requires c κs = let r = (c .before .before .before .pre) in (r .engine, (r .books, (r .judged, (r .leaves .same, r .parts-are))))
 
 returns : tie.Need-returns
 returns c = search (sending, needs)

@@ -1,9 +1,7 @@
 -- 16, or the message is written and booked. Assumes nothing.
 use denote.Ref.{now}
--- 16, or the message is written and booked. Assumes nothing.
 use native.Mathlib.Omega.{arith}
-use Rattle.card.specs.Message.{ready, text-fits, sent-made}
-use Rattle.card.specs.Message.{sending}
+use Rattle.card.specs.Message.{ready, text-fits, sent-made, sending}
 use borrow.Author.Needs.{needs}
 use Rattle.card.proofs.message.send_message.Statement.{statement}
 use Rattle.card.proofs.message.send_message.Tie as tie
@@ -30,7 +28,7 @@ returns : tie.Need-returns
 returns c = search (sending, needs)
 
 accept-message-requires : tie.Need-accept-message-requires
-accept-message-requires c κs = (ready _ _ (c .before .before .before .before .before .before .before .before .before .before .before .before .before .before .before .before .before .before .before .pre .0) _ (c .before .before .before .before .before .before .before .before .before .before .before .before .before .before .before .before .before .before .before .pre .1 .0) _ (c .before .before .before .before .before .before .before .before .before .before .before .before .before .before .before .before .before .before .before .pre .1 .1 .1) (c .before .before .before .before .before .before .before .before .before .before .before .before .before .before .before .before .before .before .before .pre .1 .1 .0) (c .before .before .before .before .before .before .before .before .before .before .before .before .judge-in .ensures) (c .before .before .before .before .before .before .before .before .before .before .count-returned .ensures) (c .before .before .before .before .before .before .before .before .before .message-writes .ensures), text-fits (now ((c .before .before .before .before .before .before .before .before .before .before .before .before .before .before .before .before .before .before .before .args .output))) (c .before .before .before .before .before .before .message-size .ensures) (c .before .before .before .before .before .if1 .left) (omega (arith, (c .before .before .before .before .before .before .before .before .before .before .before .before .before .before .before .before .before .before .before .good))))
+accept-message-requires c κs = let p = (c .before .before .before .before .before .before .before .before .before .before .before .before .before .before .before .before .before .before .before .pre) in (ready _ _ (p .0) _ (p .1 .0) _ (p .1 .1 .1) (p .1 .1 .0) (c .before .before .before .before .before .before .before .before .before .before .before .before .judge-in .ensures) (c .before .before .before .before .before .before .before .before .before .before .count-returned .ensures) (c .before .before .before .before .before .before .before .before .before .message-writes .ensures), text-fits (now ((c .before .before .before .before .before .before .before .before .before .before .before .before .before .before .before .before .before .before .before .args .output))) (c .before .before .before .before .before .before .message-size .ensures) (c .before .before .before .before .before .if1 .left) (omega (arith, (c .before .before .before .before .before .before .before .before .before .before .before .before .before .before .before .before .before .before .before .good))))
 
 same-length-2 : tie.Need-same-length-2
 same-length-2 c = search (sending, needs)
@@ -39,7 +37,7 @@ same-length-3 : tie.Need-same-length-3
 same-length-3 c = search (sending, needs)
 
 returns-2 : tie.Need-returns-2
-returns-2 c = sent-made _ _ (c .before .before .before .before .before .before .before .before .before .before .before .before .before .before .before .before .before .before .before .before .before .before .before .before .pre .0) _ (c .before .before .before .before .before .before .before .before .before .before .before .before .before .before .before .before .before .before .before .before .before .before .before .before .pre .1 .0) (now ((c .before .before .before .before .before .before .before .before .before .before .before .before .before .before .before .before .before .before .before .before .before .before .before .before .args .output))) (c .before .before .before .before .before .before .before .before .before .before .before .before .before .before .before .before .before .before .before .before .before .before .before .before .pre .1 .1 .0) (c .before .before .before .before .before .before .before .before .before .before .before .message-size .ensures) (c .before .before .before .before .before .before .before .before .before .before .if1 .left) (omega (arith, (c .before .before .before .before .before .before .before .before .before .before .before .before .before .before .before .before .before .before .before .before .before .before .before .before .good))) (c .before .before .before .before .accept-message .ensures)
+returns-2 c = let p = (c .before .before .before .before .before .before .before .before .before .before .before .before .before .before .before .before .before .before .before .before .before .before .before .before .pre) in sent-made _ _ (p .0) _ (p .1 .0) (now ((c .before .before .before .before .before .before .before .before .before .before .before .before .before .before .before .before .before .before .before .before .before .before .before .before .args .output))) (p .1 .1 .0) (c .before .before .before .before .before .before .before .before .before .before .before .message-size .ensures) (c .before .before .before .before .before .before .before .before .before .before .if1 .left) (omega (arith, (c .before .before .before .before .before .before .before .before .before .before .before .before .before .before .before .before .before .before .before .before .before .before .before .before .good))) (c .before .before .before .before .accept-message .ensures)
 
 pub send-message-spec : {M : Type 1} → statement M
 send-message-spec =

@@ -1,8 +1,7 @@
 -- Each way out answers what the conditions of document 01 give, in their order: 3, 11, 16. Assumes nothing.
 use denote.Ref.{now}
 use native.Mathlib.Omega.{arith}
-use Rattle.card.specs.Turn.{turn-fits, turn-made}
-use Rattle.card.specs.Turn.{turning}
+use Rattle.card.specs.Turn.{turn-fits, turn-made, turning}
 use borrow.Author.Needs.{needs}
 use Rattle.card.proofs.turn.turn_engine.Statement.{statement}
 use Rattle.card.proofs.turn.turn_engine.Tie as tie

@@ -1,7 +1,6 @@
 -- The posting lines, and as many parts of an MT199 as messages are written. Assumes nothing.
-use Rattle.message_text.specs.Message.{message-wrote, judged-here}
+use Rattle.message_text.specs.Message.{message-wrote, judged-here, messages}
 use native.Mathlib.Omega.{arith}
-use Rattle.message_text.specs.Message.{messages}
 use borrow.Author.Needs.{needs}
 use Rattle.message_text.proofs.message.put_message_text.Statement.{statement}
 use Rattle.message_text.proofs.message.put_message_text.Tie as tie
@@ -19,19 +18,19 @@ part-put-postings-end : tie.Need-part-put-postings-end
 part-put-postings-end c = search (messages, needs)
 
 put-postings-requires : tie.Need-put-postings-requires
-put-postings-requires c κs = ((c .before .before .header-of .ensures .passes), ((c .before .before .header-of .ensures .enough), ((c .before .before .before .before .before .before .pre .1 .0), judged-here _ _ _ (c .before .before .header-of .ensures) (c .before .before .before .before .before .before .pre .1 .1 .0))))
+put-postings-requires c κs = let h = (c .before .before .header-of .ensures) in let p = (c .before .before .before .before .before .before .pre) in (h .passes, (h .enough, (p .1 .0, judged-here _ _ _ h (p .1 .1 .0))))
 
 cast-put-parts : tie.Need-cast-put-parts
 cast-put-parts c = search (messages, needs)
 
 put-parts-requires : tie.Need-put-parts-requires
-put-parts-requires c κs = ((c .before .before .before .before .before .before .before .before .before .before .before .pre .1 .1 .0 .lines-kept), (omega (arith, (c .before .before .before .before .before .before .before .header-of .ensures .small)), (c .before .before .before .before .before .before .before .before .before .before .before .pre .1 .1 .1 .1 .few)))
+put-parts-requires c κs = let p = (c .before .before .before .before .before .before .before .before .before .before .before .pre) in (p .1 .1 .0 .lines-kept, (omega (arith, (c .before .before .before .before .before .before .before .header-of .ensures .small)), p .1 .1 .1 .1 .few))
 
 same-length : tie.Need-same-length
 same-length c = search (messages, needs)
 
 returns : tie.Need-returns
-returns c = message-wrote _ _ _ (c .before .before .before .before .before .before .before .before .before .before .header-of .ensures) (c .before .before .before .before .before .before .before .before .before .before .before .before .before .before .pre .1 .1 .0) _ (c .before .before .before .before .before .before .before .before .before .before .before .before .before .before .pre .1 .0) _ (c .before .before .before .before .before .before .before .before .before .before .before .before .before .before .pre .1 .1 .1 .0) _ (c .before .before .before .before .before .before .before .before .before .before .before .before .before .before .pre .1 .1 .1 .1) (c .before .before .before .before .before .before .before .put-postings .ensures) (c .before .before .put-parts .ensures)
+returns c = let p = (c .before .before .before .before .before .before .before .before .before .before .before .before .before .before .pre) in message-wrote _ _ _ (c .before .before .before .before .before .before .before .before .before .before .header-of .ensures) (p .1 .1 .0) _ (p .1 .0) _ (p .1 .1 .1 .0) _ (p .1 .1 .1 .1) (c .before .before .before .before .before .before .before .put-postings .ensures) (c .before .before .put-parts .ensures)
 
 pub put-message-text-spec : {M : Type 1} → statement M
 put-message-text-spec =

@@ -26,7 +26,7 @@ cast-n : tie.Need-cast-n
 cast-n c = search (posted, needs)
 
 put-detail-postings-requires : tie.Need-put-detail-postings-requires
-put-detail-postings-requires c κs = ((c .before .before .before .before .before .before .pre .0), ((c .before .before .before .before .before .before .pre .1 .0), ((c .before .before .before .before .before .before .pre .1 .1 .1 .lines-kept), ((c .before .before .before .before .before .before .pre .1 .1 .1 .amounts-kept), (c .before .before .before .before .before .before .pre .1 .1 .1 .verdicts-kept)))))
+put-detail-postings-requires c κs = let p = (c .before .before .before .before .before .before .pre) in (p .0, (p .1 .0, (p .1 .1 .1 .lines-kept, (p .1 .1 .1 .amounts-kept, p .1 .1 .1 .verdicts-kept))))
 
 same-length-2 : tie.Need-same-length-2
 same-length-2 c = search (posted, needs)

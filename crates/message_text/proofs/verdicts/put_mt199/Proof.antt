@@ -1,6 +1,5 @@
-use Rattle.message_text.specs.Parts.{part-wrote}
 -- The part's four groups of rows in their order. Assumes nothing.
-use Rattle.message_text.specs.Parts.{parting}
+use Rattle.message_text.specs.Parts.{part-wrote, parting}
 use borrow.Author.Needs.{needs}
 use Rattle.message_text.proofs.verdicts.put_mt199.Statement.{statement}
 use Rattle.message_text.proofs.verdicts.put_mt199.Tie as tie
