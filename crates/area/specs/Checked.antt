@@ -1,27 +1,29 @@
 -- Records that pass their tests, one behind the other: all of them are within the limits, in order, distinct, and written as they stand. Assumes nothing.
 use mathlib.Core.Path.{_≡_, refl, sym, ap, _∙_}
 use mathlib.Core.Bool.{Bool, true, false, not, cond}
-use mathlib.Core.List.{List, [], _∷_, map}
+use mathlib.Core.List.{List, [], _∷_, _++_, map}
 use Prim.Native.Nat.{ℕ, zero, suc, _+_, _-_, _*_, _≤_}
 use native.Mathlib.Nat.{add-zero}
 use native.Mathlib.Omega.{arith}
-use lib.Dec.{eqb, lit≤}
-use lib.ListN.{length, take, drop, length-drop}
+use lib.Dec.{leb, eqb, lit≤}
+use lib.ListN.{length, take, drop, replicate, length-append, length-drop}
 use lib.Seq.{drop-drop, length-take-le}
-use borrow.Author.Tests.{eqb-true, eq-eqb}
-use Rattle.rules.specs.Text.{equal, number, any, twice}
-use Rattle.rules.specs.Engine.{Position, Reference, earlier, ordered, goodReference, goodReferences, sameReference}
-use Rattle.rules.specs.Area.{numberAt, referenceIn, positionIn, referenceRecord, positionRecord, records}
+use borrow.Author.Tests.{eqb-true, eqb-false, eq-eqb, ne-eqb, le-leb, lt-leb}
+use Rattle.rules.specs.Text.{isText, every, number, ordered, textBefore}
+use Rattle.rules.specs.Engine.{Position, Reference, earlier, precedes}
+use Rattle.rules.specs.Area.{zeros, padded, untilZero, numberAt, referenceIn, positionIn, referenceRecord, positionRecord, records}
 use Rattle.laws.specs.Numbers.{Within, bytes-within}
 use Rattle.laws.specs.Parts.{cut}
+use Rattle.laws.specs.Sections.{zeros-length}
 use Rattle.laws.specs.Tests.{and-left, and-right, cond-right}
-use Rattle.area.specs.Facts.{either, cond-left, cond-both, equal-true, equal-same}
+use Rattle.area.specs.Facts.{cond-left, cond-both}
 use Rattle.area.specs.Bytes.{Bytes, within-take, within-drop}
-use Rattle.area.specs.Layout.{All, All.none, All.more}
+use Rattle.area.specs.Layout.{All, All.none, All.more, text-byte}
 use Rattle.area.specs.Positions.{Good}
+use Rattle.area.specs.References.{Form}
 use Rattle.area.specs.Walk.{walk, always}
-use Rattle.area.specs.Tests.{referenceTest, otherTest, newTest, dateTest, totalTest, positionAt, positionTest, earlierBy, orderTest}
-use Rattle.area.specs.Records.{cut-is, in-record, position-good, position-same, position-test, reference-good, reference-same, reference-test}
+use Rattle.area.specs.Tests.{referenceTest, precedesBy, filedTest, dateTest, totalTest, positionAt, positionTest, earlierBy, orderTest}
+use Rattle.area.specs.Records.{cut-is, in-record, position-good, position-same, position-test, text-length, reference-good, reference-same, reference-filled, reference-test}
 
 -- ---- a walk is a test of the list of records
 
@@ -75,6 +77,22 @@ module _ {A : Type 0} (f : List ℕ → Bool) (write : A → List ℕ) (reads : 
   each-test (more {x = r} {xs = rs} k s) (more g a) e =
       cond-both _ _ (c .test r k g (cc)) (each-test s a (cc))
 
+-- a test of each record and the next is the order of what they say
+module _ {A : Type 0} (a : List ℕ) (test : ℕ → Bool) (reads : List ℕ → A) (before : A → A → Bool) (P : List ℕ → Type 0)
+    (same : (p : ℕ) → P (take 24 (drop p a)) → P (take 24 (drop (p + 24) a)) → test p ≡ before (reads (take 24 (drop p a))) (reads (take 24 (drop (p + 24) a)))) where
+  next-from : (n p : ℕ) → All P (records (suc n) (drop p a)) → walk (always test) n p ≡ ordered before (map reads (records (suc n) (drop p a)))
+  unfolding walk ordered records
+  next-from zero p w = refl
+  next-from (suc n) p (more k (more l w)) =
+      let e : drop 24 (drop p a) ≡ drop (p + 24) a = drop-drop 24 p a in
+      let o : walk (always test) n (p + 24) ≡ ordered before (map reads (records (suc n) (drop (p + 24) a))) = next-from n (p + 24) (rw e at (more l w)) in
+      rw (same p k (rw e at l), o, e)
+
+  pub next-walk : (n p : ℕ) → All P (records n (drop p a)) → walk (always test) (n - 1) p ≡ ordered before (map reads (records n (drop p a)))
+  unfolding walk ordered records
+  next-walk zero p w = refl
+  next-walk (suc n) p w = let e : suc n - 1 ≡ n = omega arith in rw e (next-from n p w)
+
 -- ---- positions
 
 unfoldable pub positionFits : ℕ → List ℕ → Bool
@@ -107,6 +125,10 @@ position-at a p =
       detailed = number-in a p 17 6 (lit≤ tt) i;
     }
 
+-- and so is the text of a reference
+pub text-in : (a : List ℕ) (p : ℕ) → cut a (p + 8) (p + 8 + 16) ≡ take 16 (drop 8 (take 24 (drop p a)))
+text-in a p = let e : p + 8 + 16 ≡ p + 24 = omega arith in rw e (sym (in-record a p 8 24 (lit≤ tt)) ∙ cut-is (cut a p (p + 24)) 8 16 ∙ rw (cut-is a p 24))
+
 earlier-by : (p q : Position) → earlier p q ≡ earlierBy (p .bank) (p .date) (q .bank) (q .date)
 unfolding earlier earlierBy
 earlier-by p q = refl
@@ -115,30 +137,10 @@ order-is : (a : List ℕ) (p : ℕ) → orderTest a p ≡ earlier (positionIn (t
 unfolding orderTest
 order-is a p = sym (earlier-by (positionAt a p) (positionAt a (p + 24))) ∙ rw (position-at a p, position-at a (p + 24))
 
-order-from : (a : List ℕ) (n p : ℕ) → walk (always (orderTest a)) n p ≡ ordered (map positionIn (records (suc n) (drop p a)))
-unfolding walk ordered records
-order-from a zero p = refl
-order-from a (suc n) p = rw (order-is a p, order-from a n (p + 24), drop-drop 24 p a)
-
-pub order-walk : (a : List ℕ) (n p : ℕ) → walk (always (orderTest a)) (n - 1) p ≡ ordered (map positionIn (records n (drop p a)))
-unfolding walk ordered records
-order-walk a zero p = refl
-order-walk a (suc n) p = let e : suc n - 1 ≡ n = omega arith in rw e (order-from a n p)
+pub order-walk : (a : List ℕ) (n p : ℕ) → All Rec (records n (drop p a)) → walk (always (orderTest a)) (n - 1) p ≡ ordered earlier (map positionIn (records n (drop p a)))
+order-walk a n p w = next-walk a (orderTest a) positionIn earlier Rec (λ q k l. order-is a q) n p w
 
 -- ---- references
-
-abbrev pub Form : Reference → Type 0
-Form r = goodReference r ≡ true
-
-pub all-forms : (rs : List Reference) → goodReferences rs ≡ true → All Form rs
-unfolding goodReferences
-all-forms [] h = none
-all-forms (r ∷ rs) h = more (cond-left (goodReference r) (goodReferences rs) h) (all-forms rs (cond-right (goodReference r) (goodReferences rs) h))
-
-pub forms-all : {rs : List Reference} → All Form rs → goodReferences rs ≡ true
-unfolding goodReferences
-forms-all none = refl
-forms-all (more g s) = cond-both _ _ g (forms-all s)
 
 unfoldable pub referenceFits : List ℕ → Bool
 referenceFits r = referenceTest r 0
@@ -156,52 +158,103 @@ unfolding referenceFits referenceTest
 references-walk a n p =
     walk-each a (always (referenceTest a)) referenceFits (λ k q. let e : q + 8 + 16 ≡ q + 24 = omega arith in rw (in-record a q 0 8 (lit≤ tt), in-record a q 8 24 (lit≤ tt), add-zero, e)) n p
 
--- two records that are written as they stand say the same exactly if they are equal
-same-sound : (r q : Reference) → sameReference r q ≡ true → r ≡ q
-unfolding sameReference
-same-sound r q h =
-    let s : r .sender ≡ q .sender = eqb-true _ _ (and-left _ _ h) in
-    let t : r .text ≡ q .text = equal-true _ _ (and-right (eqb (r .sender) (q .sender)) _ h) in
-    λ i. record { sender = s i; text = t i }
-
-same-self : (r : Reference) → sameReference r r ≡ true
-unfolding sameReference
-same-self r = rw (eq-eqb (r .sender) (r .sender) refl, equal-same (r .text))
-
 -- a record written as it stands
 abbrev pub Whole : List ℕ → Type 0
 Whole r = referenceRecord (referenceIn r) ≡ r
-
-same-equal : (r s : List ℕ) → Whole r → Whole s → sameReference (referenceIn r) (referenceIn s) ≡ equal r s
-same-equal r s a b =
-    either _ _
-    (λ h. let e : r ≡ s = sym a ∙ ap referenceRecord (same-sound _ _ h) ∙ b in rw e (equal-same s))
-    (λ h. rw (equal-true r s h) (same-self (referenceIn s)))
 
 pub whole-all : {rs : List (List ℕ)} → All Rec rs → map referenceRecord (map referenceIn rs) ≡ rs → All Whole rs
 whole-all none e = none
 whole-all (more {x = r} k s) e = more {x = r} (cc) (whole-all s (cc))
 
--- one differs from all behind it
-unfoldable pub otherThan : List ℕ → List ℕ → Bool
-otherThan r s = not (equal r s)
+-- ---- texts with zeros behind them stand in the order of the texts
 
-not-cond : (t x : Bool) → cond (not t) (not x) false ≡ not (cond t true x)
-not-cond true x = refl
-not-cond false true = refl
-not-cond false false = refl
+-- no byte is zero
+abbrev pub NoZero : List ℕ → Type 0
+NoZero cs = All (λ (c : ℕ). c ≡ 0 → ⊥) cs
 
-others : (r : List ℕ) {rs : List (List ℕ)} → Whole r → All Whole rs → each (otherThan r) rs ≡ not (any (sameReference (referenceIn r)) (map referenceIn rs))
-unfolding each any otherThan
-others r a none = refl
-others r a (more {x = s} {xs = rs} b k) = rw (others r a k, same-equal r s a b) (not-cond (equal r s) (any (sameReference (referenceIn r)) (map referenceIn rs)))
+until-some : (cs : List ℕ) → NoZero (untilZero cs)
+unfolding untilZero
+until-some [] = none
+until-some (c ∷ cs) = go (eqb c 0) refl (until-some cs)
+  where
+    go : (t : Bool) → eqb c 0 ≡ t → NoZero (untilZero cs) → NoZero (cond t [] (c ∷ untilZero cs))
+    go true e i = none
+    go false e i = more (eqb-false c 0 e) i
 
-pub new-walk : (a : List ℕ) (n p : ℕ) → All Whole (records n (drop p a)) → walk (newTest a) n p ≡ not (twice sameReference (map referenceIn (records n (drop p a))))
-unfolding walk newTest otherTest otherThan twice records
-new-walk a zero p w = refl
-new-walk a (suc n) p (more b k) =
+text-self : (cs : List ℕ) → textBefore cs cs ≡ false
+unfolding textBefore
+text-self [] = refl
+text-self (c ∷ cs) = rw (eq-eqb c c refl) (text-self cs)
+
+padded-before : {cs ds : List ℕ} → NoZero cs → NoZero ds → (i j : ℕ) → length cs + i ≡ length ds + j → textBefore (cs ++ zeros i) (ds ++ zeros j) ≡ textBefore cs ds
+unfolding textBefore zeros
+padded-before none none i j e = let k : i ≡ j = omega (arith, e) in rw k (text-self (replicate j 0))
+padded-before none (more {x = d} n s) zero j e = absurd (omega (arith, e))
+padded-before none (more {x = d} n s) (suc i) j e = rw (ne-eqb 0 d (λ (z : 0 ≡ d). n (sym z)), lt-leb d 0 (omega (arith, n)))
+padded-before (more {x = c} n s) none i zero e = absurd (omega (arith, e))
+padded-before (more {x = c} n s) none i (suc j) e = rw (ne-eqb c 0 n, le-leb 0 c (omega arith))
+padded-before (more {x = c} n s) (more {x = d} m t) i j e = rw (padded-before s t i j (omega (arith, e)))
+
+-- bytes of a text
+pub texts-some : (cs : List ℕ) → every isText cs ≡ true → NoZero cs
+unfolding every
+texts-some [] h = none
+texts-some (c ∷ cs) h = more (eqb-false c 0 (text-byte c (cond-left (isText c) (every isText cs) h))) (texts-some cs (cond-right (isText c) (every isText cs) h))
+
+-- a text without zeros against what stands before the first zero
+pub until-before : (w : List ℕ) {m : List ℕ} → NoZero m → textBefore w m ≡ textBefore (untilZero w) m
+unfolding textBefore untilZero
+until-before [] n = refl
+until-before (c ∷ cs) none = go (eqb c 0)
+  where
+    go : (t : Bool) → false ≡ textBefore (cond t [] (c ∷ untilZero cs)) []
+    go true = refl
+    go false = refl
+until-before (c ∷ cs) (more {x = d} {xs = ds} n s) = go (eqb c 0) refl (until-before cs s)
+  where
+    go : (t : Bool) → eqb c 0 ≡ t → textBefore cs ds ≡ textBefore (untilZero cs) ds → cond (eqb c d) (textBefore cs ds) (not (leb d c)) ≡ textBefore (cond t [] (c ∷ untilZero cs)) (d ∷ ds)
+    go true e i = let z : c ≡ 0 = eqb-true c 0 e in rw (z, ne-eqb 0 d (λ (y : 0 ≡ d). n (sym y)), lt-leb d 0 (omega (arith, n)))
+    go false e i = rw i
+
+-- the texts of two records
+filled-before : (v w : List ℕ) → length v ≡ 16 → length w ≡ 16 → padded 16 (untilZero v) ≡ v → padded 16 (untilZero w) ≡ w → textBefore v w ≡ textBefore (untilZero v) (untilZero w)
+unfolding padded
+filled-before v w l m f g =
+    let k : length (untilZero v) + (16 - length (untilZero v)) ≡ 16 = full v l f in
+    let n : length (untilZero w) + (16 - length (untilZero w)) ≡ 16 = full w m g in
+    ap (λ (x : List ℕ). textBefore x w) (sym f)
+    ∙ ap (λ (x : List ℕ). textBefore (untilZero v ++ zeros (16 - length (untilZero v))) x) (sym g)
+    ∙ padded-before (until-some v) (until-some w) (16 - length (untilZero v)) (16 - length (untilZero w)) (k ∙ sym n)
+  where
+    full : (u : List ℕ) → length u ≡ 16 → untilZero u ++ zeros (16 - length (untilZero u)) ≡ u → length (untilZero u) + (16 - length (untilZero u)) ≡ 16
+    full u l e = sym (length-append (untilZero u) (zeros (16 - length (untilZero u))) ∙ ap (λ (x : ℕ). length (untilZero u) + x) (zeros-length (16 - length (untilZero u)))) ∙ ap length e ∙ l
+
+-- a record of bytes that is written as it stands
+pub record Filed (r : List ℕ) : Type 0 where
+  pub bytes : Rec r
+  pub whole : Whole r
+
+pub filed-all : {rs : List (List ℕ)} → All Rec rs → All Whole rs → All Filed rs
+filed-all none none = none
+filed-all (more k s) (more w v) = more record { bytes = k; whole = w } (filed-all s v)
+
+-- one stands before the next
+filed-is : (a : List ℕ) (p : ℕ) → Filed (take 24 (drop p a)) → Filed (take 24 (drop (p + 24) a)) → filedTest a p ≡ precedes (referenceIn (take 24 (drop p a))) (referenceIn (take 24 (drop (p + 24) a)))
+unfolding filedTest precedesBy precedes referenceIn
+filed-is a p k l =
     let r : List ℕ = take 24 (drop p a) in
-    let rs : List (List ℕ) = records n (drop 24 (drop p a)) in
-    let x : walk (always (otherTest a p)) n (p + 24) ≡ each (otherThan r) rs = rw (← cut-is a p 24, drop-drop 24 p a) (walk-each a (always (otherTest a p)) (otherThan (cut a p (p + 24))) (λ j q. refl) n (p + 24)) in
-    let y : walk (newTest a) n (p + 24) ≡ not (twice sameReference (map referenceIn rs)) = rw (drop-drop 24 p a) (new-walk a n (p + 24) (rw (drop-drop 24 p a) at k)) in
-    rw (x, y, others r b k) (not-cond (any (sameReference (referenceIn r)) (map referenceIn rs)) (twice sameReference (map referenceIn rs)))
+    let s : List ℕ = take 24 (drop (p + 24) a) in
+    let m : number (cut a p (p + 8)) ≡ numberAt r 0 8 = rw add-zero at (number-in a p 0 8 (lit≤ tt)) in
+    let n : number (cut a (p + 24) (p + 24 + 8)) ≡ numberAt s 0 8 = rw add-zero at (number-in a (p + 24) 0 8 (lit≤ tt)) in
+    let t : cut a (p + 8) (p + 8 + 16) ≡ take 16 (drop 8 r) = text-in a p in
+    let u : cut a (p + 24 + 8) (p + 24 + 8 + 16) ≡ take 16 (drop 8 s) = text-in a (p + 24) in
+    rw (
+      m,
+      n,
+      t,
+      u,
+      filled-before (take 16 (drop 8 r)) (take 16 (drop 8 s)) (text-length r (k .bytes .bytes) (k .bytes .wide)) (text-length s (l .bytes .bytes) (l .bytes .wide)) (reference-filled r (k .bytes .bytes) (k .bytes .wide) (k .whole)) (reference-filled s (l .bytes .bytes) (l .bytes .wide) (l .whole)),
+    )
+
+pub filed-walk : (a : List ℕ) (n p : ℕ) → All Filed (records n (drop p a)) → walk (always (filedTest a)) (n - 1) p ≡ ordered precedes (map referenceIn (records n (drop p a)))
+filed-walk a n p w = next-walk a (filedTest a) referenceIn precedes Filed (filed-is a) n p w

@@ -29,9 +29,10 @@ use Rattle.area.specs.Held.{Held, held, positions-kept, references-kept}
 use Rattle.area.specs.Positions.{Good, all-good, good-all}
 use Rattle.area.specs.Sections.{Of, referencePart, positionPart, textPart, held-sections, references-stand, positions-stand, text-stands}
 use Rattle.area.specs.Walk.{walk, always}
-use Rattle.area.specs.Tests.{isZero, countsTest, headerTest, referenceTest, newTest, referencesTest, positionTest, orderTest, positionsTest, textTest, areaTest}
+use Rattle.area.specs.Tests.{isZero, countsTest, headerTest, referenceTest, filedTest, referencesTest, positionTest, orderTest, positionsTest, textTest, areaTest}
 use Rattle.area.specs.Records.{cut-is, zero-bytes, zeros-zero, bytes-zero, bytes-stand, take-part}
-use Rattle.area.specs.Checked.{each, Rec, Checks, records-bytes, records-length, each-good, each-same, each-test, positionFits, position-checks, positions-walk, order-walk, Form, all-forms, forms-all, referenceFits, reference-checks, references-walk, Whole, whole-all, new-walk}
+use Rattle.area.specs.Checked.{each, Rec, Checks, records-bytes, records-length, each-good, each-same, each-test, positionFits, position-checks, positions-walk, order-walk, referenceFits, reference-checks, references-walk, whole-all, Filed, filed-all, filed-walk}
+use Rattle.area.specs.References.{Form, all-forms, forms-all}
 
 -- ---- the header
 
@@ -192,9 +193,9 @@ module _ (a : List ℕ) (b : Bytes a) (e : Engine) (h : Held a e) where
       let few : 24 * length (e .references) ≤ 1536 = omega (arith, l .today) in
       let c : Passing referenceFits referenceRecord (numberAt a 8 1) 16 1536 a (e .references) =
       section-passes referenceFits referenceRecord referenceIn Form reference-checks 1536 (e .references) (numberAt a 8 1) b (references-stand s) (references-kept (e .references) (l .forms)) many-references few (omega (arith, h .long)) (all-forms (e .references) (l .forms)) in
-      let w : All Whole (records (numberAt a 8 1) (drop 16 a)) =
-      whole-all (records-bytes a b (numberAt a 8 1) 16 (omega (arith, many-references, h .long))) (rw references-at (sym (c .stand))) in
-      rw (n, references-walk, c .pass, new-walk a (numberAt a 8 1) 16 w, references-at, l .distinct) (c .zero)
+      let r : All Rec (records (numberAt a 8 1) (drop 16 a)) = records-bytes a b (numberAt a 8 1) 16 (omega (arith, many-references, h .long)) in
+      let w : All Filed (records (numberAt a 8 1) (drop 16 a)) = filed-all r (whole-all r (rw references-at (sym (c .stand)))) in
+      rw (n, references-walk, c .pass, filed-walk a (numberAt a 8 1) 16 w, references-at, l .filed) (c .zero)
 
   positions-pass : positionsTest (number (cut a 2 5)) a (number (cut a 7 8)) ≡ true
   unfolding positionsTest positionPart
@@ -204,7 +205,8 @@ module _ (a : List ℕ) (b : Bytes a) (e : Engine) (h : Held a e) where
       let few : 24 * length (e .positions) ≤ 768 = omega (arith, l .few) in
       let c : Passing (positionFits (e .day)) positionRecord (numberAt a 7 1) 1552 768 a (e .positions) =
       section-passes (positionFits (e .day)) positionRecord positionIn (Good (e .day)) (position-checks (e .day)) 768 (e .positions) (numberAt a 7 1) b (positions-stand s) (positions-kept (e .day) (e .positions) (l .good)) many-positions few (omega (arith, h .long)) (all-good (e .day) (e .positions) (l .good)) in
-      rw (n, d, positions-walk, c .pass, order-walk, positions-at, l .order) (c .zero)
+      let r : All Rec (records (numberAt a 7 1) (drop 1552 a)) = records-bytes a b (numberAt a 7 1) 1552 (omega (arith, many-positions, l .few, h .long)) in
+      rw (n, d, positions-walk, c .pass, order-walk a (numberAt a 7 1) 1552 r, positions-at, l .order) (c .zero)
 
   text-passes : textTest a (number (cut a 10 12)) ≡ true
   unfolding textTest textPart
@@ -249,7 +251,7 @@ record Passed (a : List ℕ) : Type 0 where
   currency : every isZero (take 1 (drop 9 a)) ≡ true
   lengths : every isZero (take 4 (drop 12 a)) ≡ true
   references : walk (always (referenceTest a)) (numberAt a 8 1) 16 ≡ true
-  distinct : walk (newTest a) (numberAt a 8 1) 16 ≡ true
+  filed : walk (always (filedTest a)) (numberAt a 8 1 - 1) 16 ≡ true
   behind-references : every isZero (cut a (16 + 24 * numberAt a 8 1) 1552) ≡ true
   positions : walk (always (positionTest (numberAt a 2 3) a)) (numberAt a 7 1) 1552 ≡ true
   order : walk (always (orderTest a)) (numberAt a 7 1 - 1) 1552 ≡ true
@@ -276,7 +278,7 @@ passed a t =
       currency = search (and-left, and-right) depth 9;
       lengths = search (and-left, and-right) depth 9;
       references = and-left _ _ r;
-      distinct = search (and-left, and-right) depth 9;
+      filed = search (and-left, and-right) depth 9;
       behind-references = search (and-left, and-right) depth 9;
       positions = and-left _ _ p;
       order = search (and-left, and-right) depth 9;
@@ -299,10 +301,10 @@ module _ (a : List ℕ) (b : Bytes a) (t : Passed a) where
   positions-good : All (Good (numberAt a 2 3)) (map positionIn (records (numberAt a 7 1) (drop 1552 a)))
   positions-good = section-good (positionFits (numberAt a 2 3)) positionRecord positionIn (Good (numberAt a 2 3)) (position-checks (numberAt a 2 3)) a b 1552 768 (numberAt a 7 1) (omega (arith, t .few)) (omega (arith, t .long)) entries
 
-  references-whole : All Whole (records (numberAt a 8 1) (drop 16 a))
-  references-whole =
+  references-filed : All Filed (records (numberAt a 8 1) (drop 16 a))
+  references-filed =
       let r : All Rec (records (numberAt a 8 1) (drop 16 a)) = records-bytes a b (numberAt a 8 1) 16 (omega (arith, t .today, t .long)) in
-      whole-all r (each-same referenceFits referenceRecord referenceIn Form reference-checks r rows)
+      filed-all r (whole-all r (each-same referenceFits referenceRecord referenceIn Form reference-checks r rows))
 
   text-is : take (numberAt a 10 2) (drop 2320 a) ≡ cut a 2320 (2320 + numberAt a 10 2)
   text-is = sym (cut-is a 2320 (numberAt a 10 2))
@@ -317,10 +319,10 @@ module _ (a : List ℕ) (b : Bytes a) (t : Passed a) where
     day = t .day;
     few = rw records-length (t .few);
     good = good-all positions-good;
-    order = sym (order-walk a (numberAt a 7 1) 1552) ∙ t .order;
+    order = sym (order-walk a (numberAt a 7 1) 1552 (records-bytes a b (numberAt a 7 1) 1552 (omega (arith, t .few, t .long)))) ∙ t .order;
     today = rw records-length (t .today);
     forms = forms-all references-good;
-    distinct = not-true _ (sym (new-walk a (numberAt a 8 1) 16 references-whole) ∙ t .distinct);
+    filed = sym (filed-walk a (numberAt a 8 1) 16 references-filed) ∙ t .filed;
     numbered = rw records-length (t .count);
   }
 

@@ -8,24 +8,25 @@ use native.Mathlib.Omega.{arith}
 use lib.Dec.{leb, eqb}
 use lib.ListN.{length, length-append}
 use borrow.Author.Tests.{leb-true, leb-false, eqb-true, not-false}
-use Rattle.rules.specs.Text.{any, twice}
+use Rattle.rules.specs.Text.{any, ordered}
 use Rattle.rules.specs.Lines.{framed}
 use Rattle.rules.specs.Messages.{Message, mt103, mt101, Detail, read, detailsOf, dateOf, referenceOf}
 use Rattle.rules.specs.Register.{Register, register, registerOf}
 use Rattle.rules.specs.Verdict.{isReturned}
-use Rattle.rules.specs.Engine.{Position, Engine, limit, slashed, isBank, goodPositions, ordered, sameReference, goodReference, goodReferences, within}
+use Rattle.rules.specs.Engine.{Position, Engine, limit, slashed, isBank, goodPositions, sameReference, goodReference, goodReferences, within}
 use Rattle.rules.specs.Written.{partsOf}
 use Rattle.rules.specs.Calls.{firstOf, holdsOf, openStops, opened, addressed, badReference, badAmount, badAccount, manyDates, misdated, messageText, bankOf, ownReference, added, after, noRoom, overLimit, verdictOf, returnedOf, judged, writes, afterMessage, inputStops, stateStops, messageStops, turnStops, afterTurn}
 use Rattle.area.specs.Facts.{or-left, or-right, Passed, passed}
 use Rattle.area.specs.Limits.{Limits, limits, limits-within}
-use Rattle.area.specs.Positions.{Sorted, ordered-sorted, sorted-ordered, booked-sorted, booked-few, Passes, booked-good, all-good, good-all, kept-sorted, kept-good, kept-length, corrected-length}
-use Rattle.area.specs.References.{good-append, same-sym, twice-append}
+use Rattle.area.specs.Positions.{Before, position-order, booked-sorted, booked-few, Passes, booked-good, all-good, good-all, kept-sorted, kept-good, kept-length, corrected-length}
+use Rattle.area.specs.Order.{Sorted, ordered-sorted, sorted-ordered}
+use Rattle.area.specs.References.{reference-order, filed-length, filed-good, filed-sorted}
 use Rattle.area.specs.Accepted.{Has, read-has, sender-bank}
 
 -- ---- opening
 
 pub opened-within : (size : ℕ) (text : List ℕ) (day : ℕ) → firstOf (openStops size text day) ≡ 0 → within (opened text day) ≡ true
-unfolding openStops opened goodPositions ordered goodReferences twice
+unfolding openStops opened goodPositions ordered goodReferences
 opened-within size text day h =
     let a : Passed _ _ = passed 9 _ _ h in
     let b : Passed _ _ = passed 2 _ _ (a .others) in
@@ -38,7 +39,7 @@ opened-within size text day h =
       order = refl;
       today = omega arith;
       forms = refl;
-      distinct = refl;
+      filed = refl;
       numbered = omega arith;
     }
 
@@ -140,7 +141,7 @@ message-within room e s m w r h =
     let c : Clear room e s m = clear room e s m r h in
     let a : Has s m = read-has s m r in
     let q : Position = added m in
-    let sorted : Sorted (e .positions) = ordered-sorted (e .positions) (l .order) in
+    let sorted : Sorted Before (e .positions) = ordered-sorted position-order (e .positions) (l .order) in
     let passes : Passes q (e .positions) = record {
       transferred = leb-true _ _ (not-false _ (or-left _ _ (c .under)));
       detailed = leb-true _ _ (not-false _ (or-right (not (leb (after e m .transferred) limit)) _ (c .under)));
@@ -150,17 +151,17 @@ message-within room e s m w r h =
       day = l .day;
       few = booked-few q sorted (l .few) (c .opens);
       good = good-all (booked-good q (rw (a .sent) (sender-bank s (c .frame))) (a .date) (dated (e .day) m (c .today)) passes (all-good (e .day) (e .positions) (l .good)));
-      order = sorted-ordered (booked-sorted q sorted);
-      today = rw length-append (omega (arith, c .counted));
-      forms = good-append (e .references) (ownReference m) (l .forms) (own-good s m a (c .frame) (c .references));
-      distinct = twice-append sameReference same-sym (e .references) (ownReference m) (l .distinct) (c .new);
-      numbered = rw length-append (omega (arith, l .numbered, writes-few e m (c .details)));
+      order = sorted-ordered position-order (booked-sorted q sorted);
+      today = rw (filed-length (ownReference m) (e .references)) (omega (arith, c .counted));
+      forms = filed-good (e .references) (ownReference m) (l .forms) (own-good s m a (c .frame) (c .references));
+      filed = sorted-ordered reference-order (filed-sorted (ownReference m) (ordered-sorted reference-order (e .references) (l .filed)) (c .new));
+      numbered = rw (filed-length (ownReference m) (e .references)) (omega (arith, l .numbered, writes-few e m (c .details)));
     }
 
 -- ---- turn
 
 pub turn-within : (room : ℕ) (e : Engine) (day : ℕ) → within e ≡ true → firstOf (turnStops room (some e) day) ≡ 0 → within (afterTurn e day) ≡ true
-unfolding turnStops afterTurn goodReferences twice
+unfolding turnStops afterTurn goodReferences ordered
 turn-within room e day w h =
     let l : Limits e = limits e w in
     let s3 : Passed _ _ = passed 2 _ _ (passed 9 _ _ h .others) in
@@ -171,9 +172,9 @@ turn-within room e day w h =
       day = not-false _ (s3 .first);
       few = omega (arith, kept-length (e .positions), l .few);
       good = good-all (kept-good {day = e .day} (omega arith) (all-good (e .day) (e .positions) (l .good)));
-      order = sorted-ordered (kept-sorted (ordered-sorted (e .positions) (l .order)));
+      order = sorted-ordered position-order (kept-sorted (ordered-sorted position-order (e .positions) (l .order)));
       today = omega arith;
       forms = refl;
-      distinct = refl;
+      filed = refl;
       numbered = omega (arith, corrected-length (e .positions), l .few);
     }

@@ -3,6 +3,7 @@ pub mod Registers
 pub mod Limits
 pub mod Layout
 pub mod Held
+pub mod Order
 pub mod Positions
 pub mod References
 pub mod Accepted

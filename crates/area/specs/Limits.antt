@@ -1,14 +1,14 @@
 -- An engine within its limits (10): the limits one by one, and that its numbers fit the bytes of the layout. Assumes nothing.
 use mathlib.Core.Path.{_≡_}
-use mathlib.Core.Bool.{true, false}
+use mathlib.Core.Bool.{true}
 use Prim.Native.Nat.{ℕ, _+_, _*_, _/_, _≤_, _<_}
 use native.Mathlib.Omega.{arith}
 use lib.ListN.{length}
-use borrow.Author.Tests.{leb-true, le-leb, not-true}
-use Rattle.rules.specs.Text.{isSome, twice}
+use borrow.Author.Tests.{leb-true, le-leb}
+use Rattle.rules.specs.Text.{isSome, ordered}
 use Rattle.rules.specs.Dates.{exists}
 use Rattle.rules.specs.Register.{register}
-use Rattle.rules.specs.Engine.{Engine, isBank, goodPositions, ordered, goodReferences, sameReference, within}
+use Rattle.rules.specs.Engine.{Engine, earlier, isBank, goodPositions, precedes, goodReferences, within}
 use Rattle.laws.specs.Tests.{and-left, and-right}
 
 -- "within the limits above"
@@ -17,10 +17,10 @@ pub record Limits (e : Engine) : Type 0 where
   pub day : exists (e .day) ≡ true
   pub few : length (e .positions) ≤ 32
   pub good : goodPositions (e .day) (e .positions) ≡ true
-  pub order : ordered (e .positions) ≡ true
+  pub order : ordered earlier (e .positions) ≡ true
   pub today : length (e .references) ≤ 64
   pub forms : goodReferences (e .references) ≡ true
-  pub distinct : twice sameReference (e .references) ≡ false
+  pub filed : ordered precedes (e .references) ≡ true
   pub numbered : e .count ≤ 32 + 18 * length (e .references)
 
 pub limits : (e : Engine) → within e ≡ true → Limits e
@@ -33,13 +33,13 @@ limits e h = record {
   order = search (and-left, and-right) depth 10;
   today = leb-true _ _ (search (and-left, and-right) depth 10);
   forms = search (and-left, and-right) depth 10;
-  distinct = not-true _ (search (and-left, and-right) depth 10);
+  filed = search (and-left, and-right) depth 10;
   numbered = leb-true _ _ (search (and-left, and-right) depth 10);
 }
 
 pub limits-within : (e : Engine) → Limits e → within e ≡ true
 unfolding within
-limits-within e l = rw (l .register, l .day, le-leb _ _ (l .few), l .good, l .order, le-leb _ _ (l .today), l .forms, l .distinct, le-leb _ _ (l .numbered))
+limits-within e l = rw (l .register, l .day, le-leb _ _ (l .few), l .good, l .order, le-leb _ _ (l .today), l .forms, l .filed, le-leb _ _ (l .numbered))
 
 -- an existing date has at most six digits
 pub date-small : (n : ℕ) → exists n ≡ true → n < 1000000

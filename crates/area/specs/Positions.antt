@@ -9,11 +9,12 @@ use lib.ListN.{length}
 use borrow.Author.Tests.{leb-true, leb-false, le-leb, lt-leb, eqb-true, eqb-false, eq-eqb, ne-eqb, not-false}
 use Rattle.rules.specs.Text.{any}
 use Rattle.rules.specs.Dates.{exists}
-use Rattle.rules.specs.Engine.{Position, limit, earlier, alike, positionOf, isOpen, booked, hasDetails, kept, isBank, goodPosition, goodPositions, ordered}
+use Rattle.rules.specs.Engine.{Position, limit, earlier, alike, positionOf, isOpen, booked, hasDetails, kept, isBank, goodPosition, goodPositions}
 use Rattle.rules.specs.Written.{corrected, correctedCount}
 use Rattle.laws.specs.Tests.{and-left, and-right, cond-right}
 use Rattle.area.specs.Facts.{never, cond-left, cond-both, or-left, or-right, any-neither}
 use Rattle.area.specs.Layout.{All, All.none, All.more}
+use Rattle.area.specs.Order.{Order, Sorted, Sorted.empty, Sorted.next, all-before}
 
 -- ---- "by BIC in byte order and then date"
 
@@ -77,30 +78,8 @@ place q p = go (alike p q) (earlier q p) refl refl
     go false true h k = ahead (earlier-before q p k) h k
     go false false h k = behind (not-ahead q p k h) h k
 
--- ---- in order
-
-pub data Sorted : List Position → Type 0 where
-  empty : Sorted []
-  next : {p : Position} {ps : List Position} → All (Before p) ps → Sorted ps → Sorted (p ∷ ps)
-
-all-before : {p q : Position} {ps : List Position} → Before p q → All (Before q) ps → All (Before p) ps
-all-before h none = none
-all-before h (more k s) = more (before-trans h k) (all-before h s)
-
-pub ordered-sorted : (ps : List Position) → ordered ps ≡ true → Sorted ps
-unfolding ordered
-ordered-sorted [] h = empty
-ordered-sorted (p ∷ []) h = next none empty
-ordered-sorted (p ∷ q ∷ ps) h = go (earlier-before p q (cond-left _ _ h)) (ordered-sorted (q ∷ ps) (cond-right (earlier p q) _ h))
-  where
-    go : Before p q → Sorted (q ∷ ps) → Sorted (p ∷ q ∷ ps)
-    go k (next a s) = next (more k (all-before k a)) (next a s)
-
-pub sorted-ordered : {ps : List Position} → Sorted ps → ordered ps ≡ true
-unfolding ordered
-sorted-ordered empty = refl
-sorted-ordered (next none s) = refl
-sorted-ordered (next (more k a) s) = cond-both _ _ (before-earlier k) (sorted-ordered s)
+pub position-order : Order earlier Before
+position-order = record { says = earlier-before; tests = before-earlier; chains = before-trans }
 
 -- ---- booking
 
@@ -161,14 +140,14 @@ all-map : {P Q : Position → Type 0} {ps : List Position} → ((p : Position) �
 all-map f none = none
 all-map f (more {x = p} k s) = more (f p k) (all-map f s)
 
-pub booked-sorted : (q : Position) {ps : List Position} → Sorted ps → Sorted (booked q ps)
+pub booked-sorted : (q : Position) {ps : List Position} → Sorted Before ps → Sorted Before (booked q ps)
 unfolding booked
 booked-sorted q empty = next none empty
-booked-sorted q (next {p} {ps} a s) = go (place q p) (booked-sorted q s)
+booked-sorted q (next {x = p} {xs = ps} a s) = go (place q p) (booked-sorted q s)
   where
-    go : Place q p → Sorted (booked q ps) → Sorted (booked q (p ∷ ps))
+    go : Place q p → Sorted Before (booked q ps) → Sorted Before (booked q (p ∷ ps))
     go (same b d c) i = rw (booked-same q p ps c) (next (all-map (λ r. raised-before q) a) s)
-    go (ahead h b c) i = rw (booked-ahead q p ps b c) (next (more h (all-before h a)) (next a s))
+    go (ahead h b c) i = rw (booked-ahead q p ps b c) (next (more h (all-before position-order h a)) (next a s))
     go (behind h b c) i = rw (booked-behind q p ps b c) (next (all-booked q ps h (λ r. before-raised q) a) i)
 
 -- a position behind which all others stand is none of them
@@ -182,20 +161,20 @@ not-open q (more {x = p} {xs = ps} k s) = any-neither _ _ (other k) (not-open q 
     other (date h l) = rw (ne-eqb (p .date) (q .date) (λ e. omega arith), and-false)
 
 -- a position more where it was missing
-pub booked-length : (q : Position) {ps : List Position} → Sorted ps → length (booked q ps) ≡ cond (isOpen (q .bank) (q .date) ps) (length ps) (suc (length ps))
+pub booked-length : (q : Position) {ps : List Position} → Sorted Before ps → length (booked q ps) ≡ cond (isOpen (q .bank) (q .date) ps) (length ps) (suc (length ps))
 unfolding booked isOpen any
 booked-length q empty = refl
-booked-length q (next {p} {ps} a s) = go (place q p) (isOpen (q .bank) (q .date) ps) refl (booked-length q s)
+booked-length q (next {x = p} {xs = ps} a s) = go (place q p) (isOpen (q .bank) (q .date) ps) refl (booked-length q s)
   where
     go : Place q p → (t : Bool) → isOpen (q .bank) (q .date) ps ≡ t → length (booked q ps) ≡ cond t (length ps) (suc (length ps))
         → length (booked q (p ∷ ps)) ≡ cond (isOpen (q .bank) (q .date) (p ∷ ps)) (suc (length ps)) (suc (suc (length ps)))
     go (same b d c) t o i = rw (booked-same q p ps c, open-same q p ps c)
-    go (ahead h b c) t o i = rw (booked-ahead q p ps b c, not-open q (more h (all-before h a)))
+    go (ahead h b c) t o i = rw (booked-ahead q p ps b c, not-open q (more h (all-before position-order h a)))
     go (behind h b c) true o i = rw (booked-behind q p ps b c, open-other q p ps b, o) (ap suc i)
     go (behind h b c) false o i = rw (booked-behind q p ps b c, open-other q p ps b, o) (ap suc i)
 
 -- 14 lets a position open only where there is room
-pub booked-few : (q : Position) {ps : List Position} → Sorted ps → length ps ≤ 32 → (leb 32 (length ps) && not (isOpen (q .bank) (q .date) ps)) ≡ false → length (booked q ps) ≤ 32
+pub booked-few : (q : Position) {ps : List Position} → Sorted Before ps → length ps ≤ 32 → (leb 32 (length ps) && not (isOpen (q .bank) (q .date) ps)) ≡ false → length (booked q ps) ≤ 32
 booked-few q {ps} s h k = rw (booked-length q s) (go (isOpen (q .bank) (q .date) ps) (leb 32 (length ps)) refl k)
   where
     go : (t u : Bool) → leb 32 (length ps) ≡ u → (u && not t) ≡ false → cond t (length ps) (suc (length ps)) ≤ 32
@@ -270,12 +249,12 @@ all-kept {P} (more {x = p} {xs = ps} k s) = go (hasDetails p) (all-kept s)
     go true i = i
     go false i = more k i
 
-pub kept-sorted : {ps : List Position} → Sorted ps → Sorted (kept ps)
+pub kept-sorted : {ps : List Position} → Sorted Before ps → Sorted Before (kept ps)
 unfolding kept
 kept-sorted empty = empty
-kept-sorted (next {p} {ps} a s) = go (hasDetails p) (kept-sorted s)
+kept-sorted (next {x = p} {xs = ps} a s) = go (hasDetails p) (kept-sorted s)
   where
-    go : (t : Bool) → Sorted (kept ps) → Sorted (cond t (kept ps) (p ∷ kept ps))
+    go : (t : Bool) → Sorted Before (kept ps) → Sorted Before (cond t (kept ps) (p ∷ kept ps))
     go true i = i
     go false i = next (all-kept a) i
 

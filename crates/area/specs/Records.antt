@@ -151,7 +151,7 @@ module _ (r : List ℕ) (w : Within 256 0 r) (l : length r ≡ 24) where
   unfolding referenceRecord referenceIn
   reference-stands = rw (bytes-stand r 0 8 w (rw l (lit≤ tt)))
 
-  text-length : length (take 16 (drop 8 r)) ≡ 16
+  pub text-length : length (take 16 (drop 8 r)) ≡ 16
   text-length = length-take-le 16 (drop 8 r) (rw (length-drop, l) (lit≤ tt))
 
   reference-form : referenceTest r 0 ≡ (isBic (take 8 r) && textFits (take 16 (drop 8 r)))
@@ -173,11 +173,16 @@ module _ (r : List ℕ) (w : Within 256 0 r) (l : length r ≡ 24) where
       let t : padded 16 (untilZero (take 16 (drop 8 r))) ≡ take 16 (drop 8 r) = text-same _ text-length (and-right (isBic (take 8 r)) _ k) in
       reference-stands ∙ rw (t, ← take-part r 8 16) (take-all 24 r (rw l (lit≤ tt)))
 
+  -- its text and zeros behind it
+  pub reference-filled : referenceRecord (referenceIn r) ≡ r → padded 16 (untilZero (take 16 (drop 8 r))) ≡ take 16 (drop 8 r)
+  reference-filled e =
+      let n : length (take 8 r) ≡ 8 = length-take-le 8 r (rw l (lit≤ tt)) in
+      let t : drop 8 r ≡ padded 16 (untilZero (take 16 (drop 8 r))) = ap (drop 8) (sym e ∙ reference-stands) ∙ drop-at (take 8 r) _ 8 n in
+      let a : take 16 (drop 8 r) ≡ drop 8 r = take-all 16 (drop 8 r) (rw (length-drop, l) (lit≤ tt)) in
+      sym t ∙ sym a
+
   pub reference-test : goodReference (referenceIn r) ≡ true → referenceRecord (referenceIn r) ≡ r → referenceTest r 0 ≡ true
   unfolding goodReference referenceIn
   reference-test g e =
       let b : isBic (take 8 r) ≡ true = rw (bytes-stand r 0 8 w (rw l (lit≤ tt))) at (bank-bic (numberAt r 0 8) (search (and-left, and-right))) in
-      let n : length (take 8 r) ≡ 8 = length-take-le 8 r (rw l (lit≤ tt)) in
-      let t : drop 8 r ≡ padded 16 (untilZero (take 16 (drop 8 r))) = ap (drop 8) (sym e ∙ reference-stands) ∙ drop-at (take 8 r) _ 8 n in
-      let a : take 16 (drop 8 r) ≡ drop 8 r = take-all 16 (drop 8 r) (rw (length-drop, l) (lit≤ tt)) in
-      reference-form ∙ rw (b, text-test (take 16 (drop 8 r)) text-length (search (and-left, and-right)) (not-true _ (search (and-left, and-right))) (sym t ∙ sym a))
+      reference-form ∙ rw (b, text-test (take 16 (drop 8 r)) text-length (search (and-left, and-right)) (not-true _ (search (and-left, and-right))) (reference-filled e))

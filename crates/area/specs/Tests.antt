@@ -4,7 +4,7 @@ use mathlib.Core.List.{List}
 use Prim.Native.Nat.{ℕ, _+_, _-_, _*_}
 use lib.Dec.{leb, eqb}
 use lib.ListN.{length}
-use Rattle.rules.specs.Text.{isText, every, run, equal, number, isSome}
+use Rattle.rules.specs.Text.{isText, every, run, equal, textBefore, number, isSome}
 use Rattle.rules.specs.Dates.{exists}
 use Rattle.rules.specs.Accounts.{isBic}
 use Rattle.rules.specs.Register.{register}
@@ -40,15 +40,16 @@ textFits cs = run isText 1 16 (untilZero cs) && (not (slashed (untilZero cs)) &&
 unfoldable pub referenceTest : List ℕ → ℕ → Bool
 referenceTest a p = isBic (cut a p (p + 8)) && textFits (cut a (p + 8) (p + 8 + 16))
 
--- it differs from a later one, and from all of those behind it
-unfoldable pub otherTest : List ℕ → ℕ → ℕ → Bool
-otherTest a p q = not (equal (cut a p (p + 24)) (cut a q (q + 24)))
+-- a sender and a text before another sender and text
+unfoldable pub precedesBy : ℕ → List ℕ → ℕ → List ℕ → Bool
+precedesBy sender text other later = not (leb other sender) || (eqb sender other && textBefore text later)
 
-unfoldable pub newTest : List ℕ → ℕ → ℕ → Bool
-newTest a k p = walk (always (otherTest a p)) k (p + 24)
+-- it stands before the next one
+unfoldable pub filedTest : List ℕ → ℕ → Bool
+filedTest a p = precedesBy (number (cut a p (p + 8))) (cut a (p + 8) (p + 8 + 16)) (number (cut a (p + 24) (p + 24 + 8))) (cut a (p + 24 + 8) (p + 24 + 8 + 16))
 
 unfoldable pub referencesTest : List ℕ → ℕ → Bool
-referencesTest a n = walk (always (referenceTest a)) n 16 && (walk (newTest a) n 16 && every isZero (cut a (16 + 24 * n) 1552))
+referencesTest a n = walk (always (referenceTest a)) n 16 && (walk (always (filedTest a)) (n - 1) 16 && every isZero (cut a (16 + 24 * n) 1552))
 
 -- ---- positions
 

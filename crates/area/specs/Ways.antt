@@ -7,14 +7,14 @@ use native.Mathlib.Omega.{arith}
 use lib.Dec.{leb}
 use lib.ListN.{take, drop}
 use borrow.Author.Tests.{le-leb, lt-leb, leb-true, eq-eqb, ne-eqb, not-true, not-false}
-use Rattle.rules.specs.Text.{number, isSome}
+use Rattle.rules.specs.Text.{textBefore, number, isSome}
 use Rattle.rules.specs.Register.{register}
 use Rattle.laws.specs.Parts.{cut}
 use Rattle.laws.specs.Reading.{reading}
 use Rattle.laws.specs.Tests.{and-left, and-right, tests}
 use Rattle.area.specs.Walk.{walking}
 use Rattle.area.specs.Records.{cut-is}
-use Rattle.area.specs.Tests.{countsTest, headerTest, earlierBy}
+use Rattle.area.specs.Tests.{countsTest, headerTest, precedesBy, filedTest, earlierBy}
 
 -- ---- a limit, and the tests behind it
 
@@ -63,6 +63,21 @@ module _ (b d o l : ℕ) where
     unfolding earlierBy
     later-date m = rw (le-leb o b h, eq-eqb b o (omega arith), le-leb l d m)
 
+-- ---- senders and texts compared
+
+module _ (a : List ℕ) (p x y : ℕ) (e : x ≡ number (cut a p (p + 8))) (f : y ≡ number (cut a (p + 24) (p + 24 + 8))) where
+  pub lower-sender : x < y → true ≡ filedTest a p
+  unfolding filedTest precedesBy
+  lower-sender h = rw (← e, ← f, lt-leb y x h)
+
+  pub higher-sender : y < x → false ≡ filedTest a p
+  unfolding filedTest precedesBy
+  higher-sender h = rw (← e, ← f, le-leb y x (omega arith), ne-eqb x y (λ (z : x ≡ y). omega arith))
+
+  pub same-sender : y ≤ x → x ≤ y → {r : Bool} → r ≡ textBefore (cut a (p + 8) (p + 8 + 16)) (cut a (p + 24 + 8) (p + 24 + 8 + 16)) → r ≡ filedTest a p
+  unfolding filedTest precedesBy
+  same-sender h k g = rw (← e, ← f, le-leb y x h, eq-eqb x y (omega arith)) g
+
 -- ---- the numbers of a header that passed
 
 module _ (a : List ℕ) (t : Bool) (u : t ≡ headerTest a) (h : not t ≡ false) where
@@ -83,6 +98,8 @@ pub register-part : (s : List ℕ) (a e : ℕ) (r : Bool) → a ≤ e → r ≡ 
 register-part s a e r h k = let m : a + (e - a) ≡ e = omega arith in k ∙ ap (λ (x : List ℕ). isSome (register x)) (sym (cut-is s a (e - a)) ∙ ap (cut s a) m)
 
 pub ruleset comparing = (earlier-bank, later-bank, earlier-date, later-date)
+
+pub ruleset filing = (lower-sender, higher-sender, same-sender)
 
 pub ruleset calling = (call-failed, call-passed, bar-met, bar-passed)
 

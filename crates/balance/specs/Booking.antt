@@ -8,12 +8,14 @@ use native.Mathlib.Nat.{zero-add, add-zero}
 use native.Mathlib.Omega.{arith}
 use lib.Dec.{eqb}
 use borrow.Author.Tests.{eqb-true, ne-eqb}
-use Rattle.rules.specs.Engine.{Position, alike, ordered, booked}
+use Rattle.rules.specs.Text.{ordered}
+use Rattle.rules.specs.Engine.{Position, earlier, alike, booked}
 use Rattle.rules.specs.Ledger.{entered}
 use Rattle.laws.specs.Tests.{and-left, and-right}
 use Rattle.area.specs.Facts.{never}
 use Rattle.area.specs.Layout.{All, All.none, All.more}
-use Rattle.area.specs.Positions.{Before, Before.bank, Before.date, before-trans, Place, Place.same, Place.ahead, Place.behind, place, Sorted, Sorted.empty, Sorted.next, ordered-sorted, raised, booked-same, booked-ahead, booked-behind}
+use Rattle.area.specs.Order.{Sorted, Sorted.empty, Sorted.next, ordered-sorted}
+use Rattle.area.specs.Positions.{Before, Before.bank, Before.date, before-trans, Place, Place.same, Place.ahead, Place.behind, place, position-order, raised, booked-same, booked-ahead, booked-behind}
 use Rattle.balance.specs.Tally.{Measure, Test, tally, Same, one, transfers, details, only, like}
 
 -- how many entries are of q's bank and date
@@ -171,20 +173,20 @@ none-behind q p f none = refl
 none-behind q p f (more {x = r} {xs = ps} k s) = many-past q r ps (before-other (f r k)) ∙ none-behind q p f s
 
 -- positions in order are distinct
-pub sorted-many : (q : Position) {ps : List Position} → Sorted ps → many q ps ≤ 1
+pub sorted-many : (q : Position) {ps : List Position} → Sorted Before ps → many q ps ≤ 1
 unfolding many tally
 sorted-many q empty = omega arith
-sorted-many q (next {p} {ps} a s) = go (place q p) (sorted-many q s)
+sorted-many q (next {x = p} {xs = ps} a s) = go (place q p) (sorted-many q s)
   where
     go : Place q p → many q ps ≤ 1 → many q (p ∷ ps) ≤ 1
     go (same e f h) l = omega (arith, many-here q p ps h, none-behind q p (λ r. before-like e f) a)
     go (ahead k h e) l = omega (arith, many-past q p ps h)
     go (behind k h e) l = omega (arith, many-past q p ps h)
 
-pub booked-booked : (q : Position) {ps : List Position} → Sorted ps → Booked q ps (booked q ps)
+pub booked-booked : (q : Position) {ps : List Position} → Sorted Before ps → Booked q ps (booked q ps)
 unfolding booked many tally
 booked-booked q empty = booked-new q [] refl
-booked-booked q (next {p} {ps} a s) = go (place q p) (booked-booked q s)
+booked-booked q (next {x = p} {xs = ps} a s) = go (place q p) (booked-booked q s)
   where
     go : Place q p → Booked q ps (booked q ps) → Booked q (p ∷ ps) (booked q (p ∷ ps))
     go (same e f h) b = rw (booked-same q p ps h) (booked-here q p ps h (none-behind q p (λ r. before-like e f) a))
@@ -192,8 +194,8 @@ booked-booked q (next {p} {ps} a s) = go (place q p) (booked-booked q s)
     go (behind k h e) b = rw (booked-behind q p ps h e) (booked-past q p ps (booked q ps) h b)
 
 -- an accepted message: ledger and engine keep the same entries
-pub entered-same : (q : Position) (ps ledger : List Position) → ordered ps ≡ true → Same ps ledger → Same (booked q ps) (entered q ledger)
+pub entered-same : (q : Position) (ps ledger : List Position) → ordered earlier ps ≡ true → Same ps ledger → Same (booked q ps) (entered q ledger)
 unfolding many
 entered-same q ps ledger h s =
-    let o : Sorted ps = ordered-sorted ps h in
+    let o : Sorted Before ps = ordered-sorted position-order ps h in
     booked-alike q ps ledger _ _ s (booked-booked q o) (entered-booked q ledger (rw (← s .sums (only (like q) one)) (sorted-many q o)))

@@ -11,7 +11,8 @@ use lib.ListN.{length, take}
 use borrow.Author.Tests.{ne-eqb, eqb-true, eqb-false}
 use Rattle.rules.specs.Messages.{Message, dateOf, transferredBy, detailedBy}
 use Rattle.rules.specs.Register.{registerOf}
-use Rattle.rules.specs.Engine.{Position, Engine, alike, ordered}
+use Rattle.rules.specs.Text.{ordered}
+use Rattle.rules.specs.Engine.{Position, Engine, earlier, alike}
 use Rattle.rules.specs.Calls.{bankOf, added, afterMessage, afterTurn as laterEngine}
 use Rattle.rules.specs.Area.{Result, cardMessage, cardTurn, holds}
 use Rattle.rules.specs.Ledger.{Fed, message, turn, Event, fedWith, enteredBy, ledgerFrom, isTurn, afterTurn, listed, messageOf, accepted, sumOf}
@@ -20,7 +21,8 @@ use Rattle.area.specs.Facts.{never, some-is}
 use Rattle.area.specs.Layout.{All, All.none, All.more}
 use Rattle.area.specs.Limits.{Limits, limits}
 use Rattle.area.specs.Held.{held}
-use Rattle.area.specs.Positions.{Good, all-good, ordered-sorted}
+use Rattle.area.specs.Order.{ordered-sorted}
+use Rattle.area.specs.Positions.{Good, all-good, position-order}
 use Rattle.area.specs.Calls.{Stays, done-holds, done-text, Takes, message-accepted, message-refused, Turns, turn-accepted, turn-refused}
 use Rattle.balance.specs.Told.{Tells, tells-none, told}
 use Rattle.balance.specs.Tally.{Measure, tally, Same, only, like, bare, one, kept-bare, same-kept}
@@ -59,9 +61,9 @@ pub record Stepped (temporary : List ℕ) (ledger : List Position) (sent : List 
   pub settles : (bank : ℕ) → bank < 2 ^ 64 → Settles bank (sumOf (comesIn bank) (e ∷ [])) (sumOf (goesOut temporary bank) (e ∷ [])) ledger (ledgerFrom ledger (e ∷ []))
 
 -- an entry of the ledger stands there once
-once : {ps ledger : List Position} → ordered ps ≡ true → Same ps ledger → (bank date : ℕ) → many (keyed bank date) ledger ≤ 1
+once : {ps ledger : List Position} → ordered earlier ps ≡ true → Same ps ledger → (bank date : ℕ) → many (keyed bank date) ledger ≤ 1
 unfolding many
-once {ps} h s bank date = rw (← s .sums (only (like (keyed bank date)) one)) (sorted-many (keyed bank date) (ordered-sorted ps h))
+once {ps} h s bank date = rw (← s .sums (only (like (keyed bank date)) one)) (sorted-many (keyed bank date) (ordered-sorted position-order ps h))
 
 -- no entry is dated after the day
 unmet : {day : ℕ} {ps ledger : List Position} → All (Good day) ps → Same ps ledger → (bank next : ℕ) → day < next → many (keyed bank next) ledger ≡ 0

@@ -24,7 +24,8 @@ use Rattle.area.specs.Held.{held}
 use Rattle.engine.specs.Find.{TotalsOf}
 use Rattle.engine.specs.Held.{RegisterEnd}
 use Rattle.engine.specs.declared.find.Totals.{Totals}
-use Rattle.steps.specs.Booking.{Booking as CanBook, booking-clear, bookedWith, booked-after, reference}
+use Rattle.steps.specs.Booking.{Booking as CanBook, booking-clear, bookedWith, booked-after}
+use Rattle.steps.specs.Filing.{reference}
 use Rattle.steps.specs.Places.{position}
 use Rattle.outgoing.specs.Area.{standing}
 use Rattle.details.specs.Message.{messageIn}

@@ -13,6 +13,7 @@ use Rattle.rules.specs.Engine.{Reference, sameReference}
 use Rattle.rules.specs.Area.{untilZero, referenceIn}
 use Rattle.laws.specs.Parts.{cut, cut-step, cut-done, cut-length, cut-drop, cut-take}
 use Rattle.laws.specs.Tests.{cond-left, cond-right, and-left}
+use Rattle.area.specs.Layout.{text-byte}
 use Rattle.text.specs.Numbers.{NumberAt}
 use Rattle.engine.specs.Positions.{valueAt, valuesAt, values-next, values-none, in-record}
 
@@ -44,10 +45,6 @@ module _ (area : List ℕ) (j e : ℕ) where
 
 -- ---- a text against bytes that are a text's, so none of them is zero
 
-text-some : (c : ℕ) → isText c ≡ true → eqb c 0 ≡ false
-unfolding isText
-text-some c h = let k : 32 ≤ c = leb-true 32 c (and-left _ _ (and-left _ _ h)) in ne-eqb c 0 (λ (e : c ≡ 0). omega arith)
-
 -- its first bytes are they, and it ends behind them
 until-equal : (xs ys : List ℕ) → every isText xs ≡ true → length xs ≤ length ys
     → equal xs (untilZero ys) ≡ cond (equal xs (take (length xs) ys)) (equal [] (untilZero (drop (length xs) ys))) false
@@ -59,7 +56,7 @@ until-equal (x ∷ xs) (y ∷ ys) t h = go (eqb y 0) refl (eqb x y) refl (until-
     go : (z : Bool) → eqb y 0 ≡ z → (e : Bool) → eqb x y ≡ e → equal xs (untilZero ys) ≡ cond (equal xs (take (length xs) ys)) (equal [] (untilZero (drop (length xs) ys))) false
         → equal (x ∷ xs) (untilZero (y ∷ ys)) ≡ cond (equal (x ∷ xs) (y ∷ take (length xs) ys)) (equal [] (untilZero (drop (length xs) ys))) false
     go true f e g i =
-        let w : eqb x y ≡ false = ap (eqb x) (eqb-true y 0 f) ∙ text-some x (cond-left (isText x) (every isText xs) t) in
+        let w : eqb x y ≡ false = ap (eqb x) (eqb-true y 0 f) ∙ text-byte x (cond-left (isText x) (every isText xs) t) in
         rw (f, w)
     go false f true g i = rw (f, g) i
     go false f false g i = rw (f, g)

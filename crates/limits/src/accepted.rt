@@ -1,14 +1,13 @@
-// The section of the references accepted today: each of the right form, all distinct, and zeros behind them.
+// The section of the references accepted today: each of the right form, in order and so distinct, and zeros behind them.
 use crate::header::zeros_at;
 use crate::header::zeros_hold;
+use crate::positions::before_last;
 ghost use mathlib.Core.Path.{_≡_};
-ghost use Prim.Native.Nat.{_+_, _*_, _≤_};
-ghost use lib.Dec.{eqb};
+ghost use Prim.Native.Nat.{_+_, _-_, _≤_};
 ghost use lib.ListN.{length};
-ghost use Rattle.rules.specs.Text.{equal};
 ghost use Rattle.laws.specs.Parts.{cut};
 ghost use Rattle.area.specs.Walk.{walk, always};
-ghost use Rattle.area.specs.Tests.{textFits, referenceTest, otherTest, newTest, referencesTest};
+ghost use Rattle.area.specs.Tests.{textFits, referenceTest, filedTest, referencesTest};
 ghost use Rattle.area.specs.Texts.{endedFits};
 
 // Are the n bytes at a, a text's, a reference that 5 lets pass, with zeros behind them up to 16?
@@ -65,61 +64,33 @@ fn references_fit(area: &[u8], n: u32) -> bool
     true
 }
 
-// Where the records at two places differ last, counted from 1: 0 where they are equal.
-fn differ_at(area: &[u8], p: usize, q: usize) -> u32
-    requires { ⌜ p + 24 ≤ length (now area) ⌝ }
-    requires { ⌜ q + 24 ≤ length (now area) ⌝ }
-    ensures { λ r. ⌜ eqb r 0 ≡ equal (cut (now (area .entry)) p (p + 24)) (cut (now (area .entry)) q (q + 24)) ⌝ }
+// Does the record there stand before the next one: by sender, then by text?
+fn stands_before(area: &[u8], p: usize) -> bool
+    requires { ⌜ p + 24 + 24 ≤ length (now area) ⌝ }
+    ensures { λ r. ⌜ r ≡ filedTest (now (area .entry)) p ⌝ }
 {
-    let mut k: u32 = 24;
-    while k > 0 {
-        let same = area[p + k as usize - 1] == area[q + k as usize - 1];
-        if same {
-            k -= 1;
-        } else {
-            return k;
-        }
+    let q = p + 24;
+    let sender = text::read_be(area, p, p + 8);
+    let other = text::read_be(area, q, q + 8);
+    if sender < other {
+        return true;
     }
-    k
-}
-
-// Do the records at two places differ?
-fn differs(area: &[u8], p: usize, q: usize) -> bool
-    requires { ⌜ p + 24 ≤ length (now area) ⌝ }
-    requires { ⌜ q + 24 ≤ length (now area) ⌝ }
-    ensures { λ r. ⌜ r ≡ otherTest (now (area .entry)) p q ⌝ }
-{
-    differ_at(area, p, q) != 0
-}
-
-// Does the record there differ from the n behind it?
-fn is_new(area: &[u8], p: usize, n: u32) -> bool
-    requires { ⌜ p + 24 + 24 * n ≤ length (now area) ⌝ }
-    ensures { λ r. ⌜ r ≡ newTest (now (area .entry)) n p ⌝ }
-{
-    let mut k = n;
-    let mut q = p + 24;
-    while k > 0 {
-        if differs(area, p, q) {
-            k -= 1;
-            q += 24;
-        } else {
-            return false;
-        }
+    if other < sender {
+        return false;
     }
-    true
+    text::is_before(area, p + 8, 16, area, q + 8, 16)
 }
 
-// Are the n records distinct?
-fn references_new(area: &[u8], n: u32) -> bool
+// Do the n references stand in order?
+fn references_ordered(area: &[u8], n: u32) -> bool
     requires { ⌜ n ≤ 64 ⌝ }
     requires { ⌜ 2320 ≤ length (now area) ⌝ }
-    ensures { λ r. ⌜ r ≡ walk (newTest (now (area .entry))) n 16 ⌝ }
+    ensures { λ r. ⌜ r ≡ walk (always (filedTest (now (area .entry)))) (n - 1) 16 ⌝ }
 {
-    let mut k = n;
+    let mut k = before_last(n);
     let mut p = 16;
     while k > 0 {
-        if is_new(area, p, k - 1) {
+        if stands_before(area, p) {
             k -= 1;
             p += 24;
         } else {
@@ -138,7 +109,7 @@ pub fn references_hold(area: &[u8], n: u32) -> bool
     if !references_fit(area, n) {
         return false;
     }
-    if !references_new(area, n) {
+    if !references_ordered(area, n) {
         return false;
     }
     zeros_hold(area, (16 + 24 * n) as usize, 1552)

@@ -107,7 +107,7 @@ fn in_order(area: &[u8], p: usize) -> bool
 }
 
 // One less, and 0 where there is none.
-fn before_last(n: u32) -> u32
+pub fn before_last(n: u32) -> u32
     ensures { λ r. ⌜ r ≡ n - 1 ⌝ }
 {
     if n < 1 {

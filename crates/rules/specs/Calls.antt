@@ -13,7 +13,7 @@ use Rattle.rules.specs.Lines.{framed, type, receiver}
 use Rattle.rules.specs.Messages.{Message, mt103, mt101, Transfer, Detail, currency32A, account103, field21, currency32B, payer, account59, read, senderOf, referenceOf, detailsOf, dateOf, transferredBy, detailedBy, firstDate}
 use Rattle.rules.specs.Register.{Register, Account, register, registerOf}
 use Rattle.rules.specs.Verdict.{Verdict, credited, returned, verdict, isReturned, accountAt}
-use Rattle.rules.specs.Engine.{Position, Reference, Engine, limit, positionOf, isOpen, booked, kept, slashed, sameReference, hasDetails}
+use Rattle.rules.specs.Engine.{Position, Reference, Engine, limit, positionOf, isOpen, booked, kept, slashed, sameReference, filed, hasDetails}
 use Rattle.rules.specs.Written.{Book, fromBank, toAccount, toBank, verdicts, partsOf, correctionPostings, corrections, correctedCount, corrected, isRefund}
 
 -- ---- conditions of refusal
@@ -183,7 +183,7 @@ afterMessage e m = record {
   register = e .register;
   day = e .day;
   positions = booked (added m) (e .positions);
-  references = e .references ++ (ownReference m ∷ []);
+  references = filed (ownReference m) (e .references);
   count = e .count + writes e m;
 }
 

@@ -4,7 +4,7 @@ use mathlib.Core.List.{List, [], _∷_}
 use Prim.Native.Nat.{ℕ, _+_, _*_}
 use lib.Dec.{leb, eqb}
 use lib.ListN.{length, getD}
-use Rattle.rules.specs.Text.{isText, run, equal, bytes, isSome, any, twice}
+use Rattle.rules.specs.Text.{isText, run, equal, bytes, isSome, any, ordered, textBefore}
 use Rattle.rules.specs.Dates.{exists}
 use Rattle.rules.specs.Accounts.{isBic}
 use Rattle.rules.specs.Register.{register}
@@ -93,6 +93,15 @@ slashed cs = eqb (getD cs 0 0) 47 || slashesFrom cs
 unfoldable pub sameReference : Reference → Reference → Bool
 sameReference r q = eqb (r .sender) (q .sender) && equal (r .text) (q .text)
 
+-- references are kept by sender in byte order and then text
+unfoldable pub precedes : Reference → Reference → Bool
+precedes r q = not (leb (q .sender) (r .sender)) || (eqb (r .sender) (q .sender) && textBefore (r .text) (q .text))
+
+-- a reference put in its place
+unfoldable pub filed : Reference → List Reference → List Reference
+filed r [] = r ∷ []
+filed r (q ∷ rs) = let on = q ∷ filed r rs in cond (precedes q r) on (r ∷ q ∷ rs)
+
 -- ---- "within the limits above"
 
 -- a position of a BIC and an existing date no later than the day, both totals within the limit
@@ -104,12 +113,6 @@ unfoldable pub goodPositions : ℕ → List Position → Bool
 goodPositions day [] = true
 goodPositions day (p ∷ ps) = let r = goodPositions day ps in cond (goodPosition day p) r false
 
--- "positions distinct", in their order
-unfoldable pub ordered : List Position → Bool
-ordered [] = true
-ordered (p ∷ []) = true
-ordered (p ∷ q ∷ ps) = let r = ordered (q ∷ ps) in cond (earlier p q) r false
-
 -- a reference of a BIC, in the form R, which 5 lets pass
 unfoldable pub goodReference : Reference → Bool
 goodReference r = isBank (r .sender) && run isText 1 16 (r .text) && not (slashed (r .text))
@@ -120,15 +123,15 @@ goodReferences [] = true
 goodReferences (r ∷ rs) = let q = goodReferences rs in cond (goodReference r) q false
 
 -- the engine is within the limits: a register that passes 9, an existing day, "positions distinct and dated no later than the day, references of one sender distinct,
--- at most 64 of them in all, outgoing number at most 32 + 18 × their count"
+-- at most 64 of them in all, outgoing number at most 32 + 18 × their count"; positions and references in their order are distinct
 unfoldable pub within : Engine → Bool
 within e =
     isSome (register (e .register))
     && exists (e .day)
     && leb (length (e .positions)) 32
     && goodPositions (e .day) (e .positions)
-    && ordered (e .positions)
+    && ordered earlier (e .positions)
     && leb (length (e .references)) 64
     && goodReferences (e .references)
-    && not (twice sameReference (e .references))
+    && ordered precedes (e .references)
     && leb (e .count) (32 + 18 * length (e .references))

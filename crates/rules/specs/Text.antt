@@ -86,6 +86,19 @@ unfoldable pub twice : {A : Type 0} → (A → A → Bool) → List A → Bool
 twice alike [] = false
 twice alike (x ∷ xs) = let r = twice alike xs in cond (any (alike x) xs) true r
 
+-- each of a list stands before the next
+unfoldable pub ordered : {A : Type 0} → (A → A → Bool) → List A → Bool
+ordered before [] = true
+ordered before (x ∷ []) = true
+ordered before (x ∷ y ∷ zs) = let r = ordered before (y ∷ zs) in cond (before x y) r false
+
+-- byte order: the first byte that differs decides, and a text stands before one that goes on behind it
+unfoldable pub textBefore : List ℕ → List ℕ → Bool
+textBefore [] [] = false
+textBefore [] (d ∷ ds) = true
+textBefore (c ∷ cs) [] = false
+textBefore (c ∷ cs) (d ∷ ds) = let r = textBefore cs ds in cond (eqb c d) r (not (leb d c))
+
 -- ---- numbers: "Quantities are in base ten."
 
 -- the number v and then the digits cs behind it; none where a byte is no digit

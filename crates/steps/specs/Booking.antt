@@ -1,7 +1,7 @@
--- A message booked in an area: its position raised or put in its place, its reference behind the others, the header's numbers. Assumes nothing.
+-- A message booked in an area: its position raised or put in its place, its reference put in its place, the header's numbers. Assumes nothing.
 use mathlib.Core.Path.{_≡_, refl, sym, ap, _∙_}
 use mathlib.Core.Bool.{Bool, true, false, not}
-use mathlib.Core.List.{List, [], _∷_, _++_}
+use mathlib.Core.List.{List, _∷_, _++_, map}
 use Prim.Native.Nat.{ℕ, suc, _+_, _-_, _*_, _≤_, _<_}
 use native.Mathlib.Omega.{arith}
 use lib.Dec.{leb}
@@ -9,35 +9,34 @@ use lib.ListN.{length, drop, length-append, drop-of-length-le}
 use borrow.Author.Tests.{leb-true, leb-false, not-false}
 use Rattle.rules.specs.Text.{isSome, bytes}
 use Rattle.rules.specs.Messages.{Message}
-use Rattle.rules.specs.Engine.{Position, Reference, Engine, limit, positionOf, booked, within}
+use Rattle.rules.specs.Engine.{Position, Reference, Engine, limit, positionOf, booked, filed, within}
 use Rattle.rules.specs.Calls.{added, ownReference, after, noRoom, overLimit, writes, afterMessage}
 use Rattle.rules.specs.Area.{numberAt, referenceRecord, positionRecord, header, encode, decode, holds}
 use Rattle.laws.specs.Digits.{places-length}
 use Rattle.laws.specs.Parts.{cut, cut-length}
-use Rattle.laws.specs.Laid.{laid}
+use Rattle.laws.specs.Laid.{laid, laid-length}
 use Rattle.laws.specs.Pieces.{wrote-5}
 use Rattle.laws.specs.Writing.{Wrote}
-use Rattle.laws.specs.Sections.{Each.no-record, Each.and-record, inserted, replaced, each-map, each-append, map-appended, padded-length}
+use Rattle.laws.specs.Sections.{Each, inserted, replaced, each-map, each-inserted, map-inserted, padded-length}
 use Rattle.laws.specs.Standing.{Stands, moved}
 use Rattle.laws.specs.Moving.{Opens, opens}
 use Rattle.area.specs.Facts.{never, or-left, or-right}
 use Rattle.area.specs.Limits.{Limits, limits}
 use Rattle.area.specs.Held.{Held}
 use Rattle.area.specs.Sections.{referencePart, positionPart, textPart, Of, held-sections, positions-stand}
-use Rattle.area.specs.Positions.{ordered-sorted, booked-few, found-same}
+use Rattle.area.specs.Order.{ordered-sorted}
+use Rattle.area.specs.Positions.{position-order, booked-few, found-same}
+use Rattle.area.specs.References.{filed-length}
 use Rattle.steps.specs.declared.parts.Numbers.{Numbers}
 use Rattle.steps.specs.Header.{numbers}
-use Rattle.steps.specs.Changes.{section, inserted-length, replaced-length, section-appended, section-replaced, section-inserted, stands-back, stands-other}
+use Rattle.steps.specs.Changes.{section, inserted-length, replaced-length, section-replaced, section-inserted, stands-back, stands-other}
 use Rattle.steps.specs.Next.{holding, position-wide, references-each, positions-length, positions-section, Fits, assembled}
 use Rattle.steps.specs.Numbers.{NumbersOf}
 use Rattle.steps.specs.Places.{position, isFirst, PlaceOf}
+use Rattle.steps.specs.Filing.{reference, FiledAt, Files}
 use Rattle.steps.specs.Records.{positionAt, transferred-at, detailed-at, Many, positions-from}
 
 -- ---- the engine then
-
--- a bank's reference
-abbrev pub reference : ℕ → List ℕ → Reference
-reference bank text = record { sender = bank; text = text }
 
 -- the engine with a position booked, a reference accepted, and the outgoing number stepped forward
 unfoldable pub bookedWith : Engine → Position → Reference → ℕ → Engine
@@ -45,7 +44,7 @@ bookedWith e q r written = record {
   register = e .register;
   day = e .day;
   positions = booked q (e .positions);
-  references = e .references ++ (r ∷ []);
+  references = filed r (e .references);
   count = e .count + written;
 }
 
@@ -67,7 +66,7 @@ unfolding noRoom overLimit after
 booking-clear e m w t n o =
     let l : Limits e = limits e w in record {
       today = t;
-      few = booked-few (added m) (ordered-sorted (e .positions) (l .order)) (l .few) n;
+      few = booked-few (added m) (ordered-sorted position-order (e .positions) (l .order)) (l .few) n;
       transferred = leb-true _ _ (not-false _ (or-left _ _ o));
       detailed = leb-true _ _ (not-false _ (or-right (not (leb (after e m .transferred) limit)) _ o));
     }
@@ -173,24 +172,32 @@ unfolding referenceRecord
 reference-wide r h = rw (length-append, places-length, padded-length 16 (r .text) h)
 
 module _ (a : List ℕ) (x : Numbers) (q : Position) (bank : ℕ) (text : List ℕ) (from to written : ℕ) (h : isSome (holds a) ≡ true) (n : NumbersOf a x) (g : Booking (decode a) q) where
-  pub book-done : {k m z : ℕ} {b c d : List ℕ} → to ≤ length text → to - from ≤ 16 → Positions (booked q (decode a .positions)) a k b
-      → Wrote (referenceRecord (reference bank (cut text from to))) (16 + 24 * x .references) b m c → Wrote (numbers (x .day) (x .count + written) k (x .references + 1)) 0 c z d
-      → d ≡ encode (bookedWith (decode a) q (reference bank (cut text from to)) written) ++ drop 6144 a
-  unfolding bookedWith referencePart
-  book-done {k} {m} {z} {b} {c} {d} i j p u w =
-      let r : Reference = reference bank (cut text from to) in
-      let s : length (r .text) ≤ 16 = rw (cut-length text from to i) j in
-      let e : Engine = decode a in
-      let H : Held a e = holding h in
-      let S : Of e (drop 6144 a) a = held-sections a e H in
-      let P' : List ℕ = positionPart (booked q (e .positions)) in
-      let Q : List ℕ = textPart (e .register) ++ drop 6144 a in
-      let lP : length P' ≡ 768 = positions-length (booked q (e .positions)) (g .few) in
-      let y : Stands (header e ++ referencePart (e .references)) P' Q 1552 b = rw (← p .bytes) at (stands-other P' (lP ∙ sym (S .positions)) (positions-stand S)) in
-      let o : Stands (header e) (section 1536 referenceRecord (e .references)) (P' ++ Q) 16 b = stands-back (header e) (referencePart (e .references)) P' Q (S .head) y in
-      let u' : Wrote (referenceRecord r) (16 + 24 * length (e .references)) b m c = rw (n .references) at u in
-      let v : c ≡ laid (referencePart (e .references ++ r ∷ [])) 16 b =
-      section-appended referenceRecord 1536 (e .references) (references-each H) (omega (arith, g .today)) o r (reference-wide r s) (omega (arith, g .today)) u' in
-      let l : length (e .references ++ r ∷ []) ≡ length (e .references) + 1 = length-append (e .references) (r ∷ []) in
-      let f : Fits (bookedWith e q r written) = record { few = g .few; today = omega (arith, g .today, l); wide = rw map-appended (each-append (references-each H) (and-record (reference-wide r s) no-record)) } in
-      assembled (bookedWith e q r written) H refl f (p .bytes) v (rw (n .day, n .count, n .references, p .count, ← l) at w)
+  module _ {i : ℕ} (f : FiledAt (reference bank (cut text from to)) (decode a .references) i) {k : ℕ} {b : List ℕ} (p : Positions (booked q (decode a .positions)) a k b) where
+    -- there is room for the reference
+    pub file-fits : Opens 16 24 (x .references) i (length b)
+    file-fits =
+        let l : length b ≡ length a = ap length (p .bytes) ∙ laid-length (positionPart (booked q (decode a .positions))) 1552 a in
+        opens 16 24 (x .references) i (length b) (omega (arith, f .within, n .references)) (omega (arith, g .today, n .references, n .long, l))
+
+    pub book-done : {z : ℕ} {c d : List ℕ} → to ≤ length text → to - from ≤ 16 → Files (x .references) i (reference bank (cut text from to)) b c
+        → Wrote (numbers (x .day) (x .count + written) k (x .references + 1)) 0 c z d → d ≡ encode (bookedWith (decode a) q (reference bank (cut text from to)) written) ++ drop 6144 a
+    unfolding bookedWith referencePart
+    book-done {z} {c} {d} j m u w =
+        let r : Reference = reference bank (cut text from to) in
+        let s : length (r .text) ≤ 16 = rw (cut-length text from to j) m in
+        let e : Engine = decode a in
+        let rs : List Reference = e .references in
+        let H : Held a e = holding h in
+        let S : Of e (drop 6144 a) a = held-sections a e H in
+        let P' : List ℕ = positionPart (booked q (e .positions)) in
+        let Q : List ℕ = textPart (e .register) ++ drop 6144 a in
+        let lP : length P' ≡ 768 = positions-length (booked q (e .positions)) (g .few) in
+        let y : Stands (header e ++ referencePart rs) P' Q 1552 b = rw (← p .bytes) at (stands-other P' (lP ∙ sym (S .positions)) (positions-stand S)) in
+        let o : Stands (header e) (section 1536 referenceRecord rs) (P' ++ Q) 16 b = stands-back (header e) (referencePart rs) P' Q (S .head) y in
+        let up : u .between ≡ moved (16 + 24 * i) (16 + 24 * i + 24) (24 * (length rs - i)) b = rw (n .references) at (u .up) in
+        let v : c ≡ laid (section 1536 referenceRecord (inserted i r rs)) 16 b =
+        section-inserted referenceRecord 1536 rs (references-each H) (omega (arith, g .today)) o i r (reference-wide r s) (f .within) (omega (arith, g .today)) up (u .wrote) in
+        let l : length (filed r rs) ≡ length rs + 1 = filed-length r rs in
+        let wide : Each 24 (map referenceRecord (filed r rs)) = rw (f .place, map-inserted) (each-inserted i (referenceRecord r) (references-each H) (reference-wide r s)) in
+        let fits : Fits (bookedWith e q r written) = record { few = g .few; today = omega (arith, g .today, l); wide = wide } in
+        assembled (bookedWith e q r written) H refl fits (p .bytes) (rw (f .place) v) (rw (n .day, n .count, n .references, p .count, ← l) at w)

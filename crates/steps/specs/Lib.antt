@@ -8,5 +8,6 @@ pub mod Turning
 pub mod Order
 pub mod Places
 pub mod Records
+pub mod Filing
 pub mod Booking
 pub mod Sets

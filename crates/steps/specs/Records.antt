@@ -65,7 +65,7 @@ pub record Many (a : List ℕ) (n : ℕ) : Type 0 where
 pub many : (a : List ℕ) (x : Numbers) → NumbersOf a x → Many a (x .positions)
 many a x n = record { same = n .positions; few = n .few; long = n .long }
 
-read-at : {A : Type 0} (f : List ℕ → A) (n i : ℕ) (bs : List ℕ) (none : A) → i < n → getD (map f (records n bs)) i none ≡ f (take 24 (drop (24 * i) bs))
+pub read-at : {A : Type 0} (f : List ℕ → A) (n i : ℕ) (bs : List ℕ) (none : A) → i < n → getD (map f (records n bs)) i none ≡ f (take 24 (drop (24 * i) bs))
 unfolding records
 read-at f zero i bs none h = absurd (omega arith)
 read-at f (suc n) zero bs none h = refl

@@ -1,7 +1,8 @@
-// A message booked in an area: its position raised or put in its place, its reference behind the others, the header's numbers.
+// A message booked in an area: its position raised or put in its place, its reference put in its place, the header's numbers.
+use crate::filing::file_reference;
+use crate::filing::reference_place;
 use crate::parts::numbers_of;
 use crate::parts::put_numbers;
-use crate::parts::put_padded;
 use crate::placing::is_at;
 use crate::placing::place_of;
 use text::number_at;
@@ -10,14 +11,15 @@ ghost use mathlib.Core.Bool.{true};
 ghost use mathlib.Core.List.{_++_};
 ghost use Prim.Native.Nat.{_-_, _≤_};
 ghost use lib.ListN.{length, drop};
-ghost use Rattle.rules.specs.Text.{isSome};
+ghost use Rattle.rules.specs.Text.{isText, every, isSome};
 ghost use Rattle.rules.specs.Engine.{booked};
-ghost use Rattle.rules.specs.Area.{positionRecord, referenceRecord, encode, decode, holds};
+ghost use Rattle.rules.specs.Area.{positionRecord, encode, decode, holds};
 ghost use Rattle.laws.specs.Parts.{cut};
 ghost use Rattle.laws.specs.Writing.{Wrote};
 ghost use Rattle.steps.specs.Places.{position};
 ghost use Rattle.steps.specs.Records.{Many};
-ghost use Rattle.steps.specs.Booking.{reference, raisedAt, Raises, Booking, Positions, bookedWith};
+ghost use Rattle.steps.specs.Filing.{reference};
+ghost use Rattle.steps.specs.Booking.{raisedAt, Raises, Booking, Positions, bookedWith};
 
 // The record of a position.
 fn put_position(
@@ -72,17 +74,6 @@ fn book_position(
     n + 1
 }
 
-// The record of a bank's reference, the bytes of s from a up to b.
-fn put_reference(area: &mut [u8], at: usize, bank: u64, s: &[u8], a: usize, b: usize) -> usize
-    requires { ⌜ a ≤ b ⌝ }
-    requires { ⌜ b ≤ length (now s) ⌝ }
-    requires { ⌜ b - a ≤ 16 ⌝ }
-    ensures { λ r. ⌜ Wrote (referenceRecord (reference bank (cut (now (s .entry)) a b))) at (now (area .entry)) r (now (area .exit)) ⌝ }
-{
-    let o = put::put_be(area, at, 8, bank);
-    put_padded(area, o, 16, s, a, b)
-}
-
 // A bank's message of a date booked: what it adds to both totals, its reference, the bytes of s from a up to b, and how many messages it writes.
 pub fn book_area(
     area: &mut [u8],
@@ -100,9 +91,13 @@ pub fn book_area(
     requires { ⌜ a ≤ b ⌝ }
     requires { ⌜ b ≤ length (now s) ⌝ }
     requires { ⌜ b - a ≤ 16 ⌝ }
+    requires { ⌜ every isText (cut (now s) a b) ≡ true ⌝ }
     ensures { λ _. ⌜ now (area .exit) ≡ encode (bookedWith (decode (now (area .entry))) (position bank date transferred detailed) (reference bank (cut (now (s .entry)) a b)) written) ++ drop 6144 (now (area .entry)) ⌝ }
 {
     let x = numbers_of(area);
+    let n = x.references as u32;
+    let count = x.count + written as u64;
+    let i = reference_place(area, n, bank, s, a, b);
     let k = book_position(
         area,
         x.positions as u32,
@@ -111,19 +106,6 @@ pub fn book_area(
         transferred,
         detailed,
     );
-    put_reference(
-        area,
-        (16 + 24 * x.references as u32) as usize,
-        bank,
-        s,
-        a,
-        b,
-    );
-    put_numbers(
-        area,
-        x.day,
-        x.count + written as u64,
-        k as u64,
-        x.references + 1,
-    );
+    file_reference(area, n, i, bank, s, a, b);
+    put_numbers(area, x.day, count, k as u64, x.references + 1);
 }

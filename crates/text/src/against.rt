@@ -6,7 +6,7 @@ ghost use mathlib.Core.Path.{_≡_};
 ghost use Prim.Native.Nat.{_+_, _≤_};
 ghost use lib.Dec.{eqb};
 ghost use lib.ListN.{length};
-ghost use Rattle.rules.specs.Text.{equal, fits, fitsSign};
+ghost use Rattle.rules.specs.Text.{equal, textBefore, fits, fitsSign};
 ghost use Rattle.laws.specs.Parts.{cut};
 
 // How many of the n bytes from a are those of t from b, up to the first that is another.
@@ -34,6 +34,30 @@ pub fn equal_parts(s: &[u8], a: usize, t: &[u8], b: usize, n: u32) -> bool
     ensures { λ r. ⌜ r ≡ equal (cut (now (s .entry)) a (a + n)) (cut (now (t .entry)) b (b + n)) ⌝ }
 {
     alike(s, a, t, b, n) == n
+}
+
+// Do the m bytes from a stand before the n bytes of t from b, in byte order?
+pub fn is_before(s: &[u8], a: usize, m: u32, t: &[u8], b: usize, n: u32) -> bool
+    requires { ⌜ a + m ≤ length (now s) ⌝ }
+    requires { ⌜ b + n ≤ length (now t) ⌝ }
+    ensures { λ r. ⌜ r ≡ textBefore (cut (now (s .entry)) a (a + m)) (cut (now (t .entry)) b (b + n)) ⌝ }
+{
+    let mut k: u32 = 0;
+    while k < n {
+        if k == m {
+            return true;
+        }
+        let c = s[a + k as usize];
+        let d = t[b + k as usize];
+        if c < d {
+            return true;
+        }
+        if d < c {
+            return false;
+        }
+        k += 1;
+    }
+    false
 }
 
 // A byte against the sign of its place: n a digit, a a letter, c a letter or digit, any other sign itself.

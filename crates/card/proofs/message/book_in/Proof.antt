@@ -17,7 +17,7 @@ detailed-by-requires : tie.Need-detailed-by-requires
 detailed-by-requires c κs = search (sending, needs)
 
 book-area-requires : tie.Need-book-area-requires
-book-area-requires c κs = let p = (c .before .before .before .before .before .before .before .before .pre) in (p .0, (booking-of _ _ (p .0) _ (p .1 .0) (c .before .transferred-by .ensures) (c .detailed-by .ensures) (p .1 .1 .0), (search needs, (search needs, search needs))))
+book-area-requires c κs = let p = (c .before .before .before .before .before .before .before .before .pre) in (p .0, (booking-of _ _ (p .0) _ (p .1 .0) (c .before .transferred-by .ensures) (c .detailed-by .ensures) (p .1 .1 .0), (search needs, (search needs, (search needs, p .1 .0 .text)))))
 
 same-length : tie.Need-same-length
 same-length c = search (sending, needs)

@@ -13,8 +13,8 @@ returns : tie.Need-returns
 unfolding referencesTest
 returns c = search (calling, needs)
 
-references-new-requires : tie.Need-references-new-requires
-references-new-requires c κs = search (limiting, needs)
+references-ordered-requires : tie.Need-references-ordered-requires
+references-ordered-requires c κs = search (limiting, needs)
 
 returns-2 : tie.Need-returns-2
 unfolding referencesTest
@@ -42,7 +42,7 @@ references-hold-spec =
     (tie.spec
     references-fit-requires
     returns
-    references-new-requires
+    references-ordered-requires
     returns-2
     mul-zeros-hold
     add-zeros-hold

@@ -2,8 +2,8 @@
 use Rattle.rules.specs.Area.{referenceRecord}
 use Rattle.steps.specs.Sets.{booking}
 use borrow.Author.Needs.{needs}
-use Rattle.steps.proofs.booking.put_reference.Statement.{statement}
-use Rattle.steps.proofs.booking.put_reference.Tie as tie
+use Rattle.steps.proofs.filing.put_reference.Statement.{statement}
+use Rattle.steps.proofs.filing.put_reference.Tie as tie
 
 put-be-requires : tie.Need-put-be-requires
 put-be-requires c κs = search (booking, needs)
