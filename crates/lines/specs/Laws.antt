@@ -17,7 +17,7 @@ use Rattle.rules.specs.Lines.{Line, Taken, lead, line, lines, begun, before, cl
 use Rattle.laws.specs.Parts.{cut, from, cut-done, cut-snoc, cut-all, from-step, from-done, from-length, from-cut, from-all}
 use Rattle.laws.specs.Equal.{equal-true}
 use Rattle.laws.specs.Tests.{not-held, never, and-left, and-right}
-use Rattle.lines.specs.Answers.{taken, LineEnd, NoLine, Plain, line-told, no-line-told}
+use Rattle.lines.specs.Answers.{taken, LineEnd, NoLine, Plain}
 
 -- ---- bytes before a line
 
@@ -284,4 +284,4 @@ module _ (s : List ℕ) where
     unfolding framed opening cut
     framed-opens k r e = rw (le-leb _ _ h, ← u, k) e
 
-pub ruleset framing = (line-told, no-line-told, line-starts, line-out, line-ends, line-cr, line-lf, line-on, plain-starts, plain-on, plain-far, plain-cr, plain-lf, plain-end, closes-never, closes-now, closes-bad, closes-on, closing-long, closing-part, framed-long, framed-open, framed-not, framed-opens)
+pub ruleset framing = (line-starts, line-out, line-ends, line-cr, line-lf, line-on, plain-starts, plain-on, plain-far, plain-cr, plain-lf, plain-end, closing-long, closing-part, framed-long, framed-open, framed-not, framed-opens)

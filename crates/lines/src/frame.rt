@@ -1,6 +1,7 @@
 // The frame of a message: its length, its lines, the closing line and the first line's form.
 use crate::line::Next;
-use crate::reader::next_line;
+use crate::reader::reader_over;
+use crate::reader::take_line;
 use text::equal_parts;
 use text::fits_pattern;
 ghost use mathlib.Core.Path.{_≡_};
@@ -8,6 +9,8 @@ ghost use Prim.Native.Nat.{_-_, _≤_};
 ghost use lib.ListN.{length};
 ghost use Rattle.rules.specs.Lines.{lines, inLines, closing, framed};
 ghost use Rattle.laws.specs.Parts.{from};
+ghost use Rattle.lines.specs.Answers.{LineAt};
+ghost use Rattle.lines.specs.Seen.{Seeing, ToSee, Behind};
 
 // Is all that is left from `at` on the closing line?
 pub fn closes_at(s: &[u8], at: usize) -> bool
@@ -20,25 +23,65 @@ pub fn closes_at(s: &[u8], at: usize) -> bool
     equal_parts(s, at, b"-\r\n", 0, 3)
 }
 
-// Is all of it lines, the last of them the closing line?
+// What is seen of a text, line by line: is a line to come, is the last one seen the closing line, and where does the next one begin?
+pub struct Seen {
+    pub more: bool,
+    pub closed: bool,
+    pub at: usize,
+}
+
+// Before the first line.
+fn none_seen(s: &[u8]) -> Seen
+    ensures { λ r. ⌜ Seeing (now (s .entry)) r ⌝ }
+{
+    Seen {
+        more: 0 < s.len(),
+        closed: false,
+        at: 0,
+    }
+}
+
+// Behind the line that the reader handed out at `at`.
+fn line_seen(s: &[u8], line: Next, at: usize) -> Seen
+    requires { ⌜ ToSee (now s) at × LineAt (now s) at line ⌝ }
+    ensures { λ r. ⌜ Behind (now (s .entry)) at r ⌝ }
+{
+    match line {
+        Next::Line(e) => {
+            if closes_at(s, at) {
+                return Seen {
+                    more: false,
+                    closed: true,
+                    at,
+                };
+            }
+            let next = e + 2;
+            Seen {
+                more: next < s.len(),
+                closed: false,
+                at: next,
+            }
+        }
+        Next::Bad => Seen {
+            more: false,
+            closed: false,
+            at,
+        },
+    }
+}
+
+// Is all of it lines, the last of them the closing line? One reader hands them out, and is moved behind each.
 fn in_lines(s: &[u8]) -> bool
     ensures { λ r. ⌜ r ≡ inLines (lines (now (s .entry))) ⌝ }
 {
-    let mut at: usize = 0;
-    while at < s.len() {
-        if closes_at(s, at) {
-            return true;
-        }
-        match next_line(s, at) {
-            Next::Line(e) => {
-                at = e + 2;
-            }
-            Next::Bad => {
-                return false;
-            }
-        }
+    let mut seen = none_seen(s);
+    let mut r = reader_over(s, seen.at);
+    while seen.more {
+        let line = take_line(r);
+        seen = line_seen(s, line, seen.at);
+        r.at = seen.at;
     }
-    false
+    seen.closed
 }
 
 // Do the last bytes make the closing line?
