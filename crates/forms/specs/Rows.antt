@@ -6,14 +6,17 @@ use mathlib.Core.Option.{Option, none, some}
 use Prim.Native.Nat.{ℕ, _+_, _-_, _≤_, _<_}
 use native.Mathlib.Nat.{add-zero, sub-zero}
 use native.Mathlib.Omega.{arith}
-use lib.ListN.{length, set}
+use lib.ListN.{length, set, length-set, replicate, length-replicate}
 use Rattle.rules.specs.Lines.{Line, Taken, line}
 use Rattle.rules.specs.Forms as F
 use Rattle.rules.specs.Forms.{fitsRow, Rowed, leadRows, rowed}
 use Rattle.laws.specs.Parts.{cut, from, cut-done}
-use Rattle.lines.specs.Answers.{LineEnd, NoLine, line-told, no-line-told}
-use Rattle.forms.specs.Table.{rowOf, RowAt, part, part-none, part-step}
-use Rattle.forms.specs.Spans.{noSpan, SpanIs, SpanIn, Within, within-none, within-set, held, held-none, held-more}
+use Rattle.laws.specs.Tests.{never}
+use Rattle.lines.specs.Answers.{LineAt, LineEnd, NoLine, line-told, no-line-told}
+use Rattle.lines.specs.declared.line.Next.{Next}
+use Rattle.forms.specs.Table.{rowOf, codeAt, RowAt, row-told, part, part-none, part-step}
+use Rattle.forms.specs.Spans.{spanOf, noSpan, SpanIs, SpanIn, Within, within-none, within-set, held, held-none, held-more}
+use Rattle.forms.specs.declared.rows.Held.{Held}
 use Rattle.forms.specs.declared.rows.Span.{Span}
 use Rattle.forms.specs.declared.rows.Rows.{Rows}
 use Rattle.forms.specs.declared.table.Row.{Row}
@@ -68,46 +71,94 @@ module _ (r : F.Row) (rs : List F.Row) (cs : List ℕ) where
     unfolding rowed
     row-bad h m = rw (e, h, m)
 
--- ---- the loop over the rows
+-- ---- the line at a place held against row k
 
-pub rows-start : (s : List ℕ) (l : List Span) (at f n : ℕ) → leadRows (held s l 0) (rowed (part (f + 0) (n - 0)) (from s at)) ≡ rowed (part f n) (from s at)
-rows-start s l at f n = rw (held-none, add-zero f, sub-zero n) (lead-nil _)
+-- what is asked of line and row
+pub record ToHold (s : List ℕ) (at k : ℕ) (n : Next) : Type 0 where
+  pub place : at ≤ length s
+  pub short : length s ≤ 4096
+  pub row : k < 40
+  pub told : LineAt s at n
 
-module _ (s : List ℕ) (l : List Span) (pos f n i : ℕ) (x : Option Rowed) (inv : leadRows (held s l i) (rowed (part (f + i) (n - i)) (from s pos)) ≡ x) where
-  pub rows-done : i ≤ n → n ≤ i → some record { rows = held s l n; others = from s pos } ≡ x
-  rows-done h k =
-      let e : n - i ≡ 0 = omega arith in
-      let d : i ≡ n = omega arith in
-      rw (← d) (sym (lead-done (held s l i) (from s pos)) ∙ (rw (e, part-none) at inv))
+-- the line's part stands before what the next rows make of the text behind it; or the row makes nothing of the text
+pub record HeldAt (s : List ℕ) (at k : ℕ) (r : Held) : Type 0 where
+  pub place : r .at ≤ length s
+  pub within : SpanIn s (r .span)
+  pub goes : r .ok ≡ true → (rs : List F.Row) → rowed (rowOf (codeAt k) ∷ rs) (from s at) ≡ leadRows (spanOf s (r .span) ∷ []) (rowed rs (from s (r .at)))
+  pub stops : r .ok ≡ false → (rs : List F.Row) → rowed (rowOf (codeAt k) ∷ rs) (from s at) ≡ none
 
-  module _ (b : f + n ≤ 40) (h : i < n) (r : Row) (w : RowAt (f + i) r) where
-    step : leadRows (held s l i) (rowed (rowOf r ∷ part (f + (i + 1)) (n - (i + 1))) (from s pos)) ≡ x
-    step =
-        let u : f + (i + 1) ≡ f + i + 1 = omega arith in
-        let v : n - (i + 1) ≡ n - i - 1 = omega arith in
-        rw (u, v, ← part-step (f + i) (n - i) r w (omega arith) (omega arith)) inv
-
-    pub rows-cut : NoLine s pos → none ≡ x
-    rows-cut e = sym (lead-none (held s l i)) ∙ (rw (row-none _ _ _ (e .same)) at step)
-
-    module _ (e : ℕ) (le : LineEnd s pos e) (t : Bool) (u : t ≡ fitsRow (rowOf r) (cut s pos e)) where
-      pub rows-bad : t ≡ false → r .3 ≡ false → none ≡ x
-      unfolding rowOf
-      rows-bad d m = sym (lead-none (held s l i)) ∙ (rw (row-bad (rowOf r) _ _ _ (le .same) (sym u ∙ d) m) at step)
-
-      module _ (g : length l ≡ 23) (q : n ≤ 23) where
-        pub rows-with : t ≡ true → (p : Span) → SpanIs pos e p → leadRows (held s (set l i p) (i + 1)) (rowed (part (f + (i + 1)) (n - (i + 1))) (from s (e + 2))) ≡ x
-        rows-with d p y = rw (held-more s l i p (omega arith), y .start, y .end) (lead-more _ _ _ ∙ (rw (row-with (rowOf r) _ _ _ (le .same) (sym u ∙ d)) at step))
-
-        pub rows-without : t ≡ false → r .3 ≡ true → leadRows (held s (set l i noSpan) (i + 1)) (rowed (part (f + (i + 1)) (n - (i + 1))) (from s pos)) ≡ x
-        unfolding rowOf
-        rows-without d m = rw (held-more s l i noSpan (omega arith), cut-done s 0 0 (omega arith) (omega arith)) (lead-more _ _ _ ∙ (rw (row-without (rowOf r) _ _ _ (le .same) (sym u ∙ d) m) at step))
-
--- the part of a line that was found, and the part of none
-pub line-in : (s : List ℕ) (at e : ℕ) (p : Span) → LineEnd s at e → SpanIs at e p → SpanIn s p
-line-in s at e p l h = record { order = omega (arith, h .start, h .end, l .start); room = omega (arith, h .end, l .room) }
-
-pub none-in : (s : List ℕ) → SpanIn s noSpan
+none-in : (s : List ℕ) → SpanIn s noSpan
 none-in s = record { order = omega arith; room = omega arith }
 
-pub ruleset rowing = (line-told, no-line-told, line-in, none-in, within-none, within-set, rows-start, rows-done, rows-cut, rows-bad, rows-with, rows-without)
+module _ (s : List ℕ) (at k : ℕ) (n : Next) (w : ToHold s at k n) (r : Row) (y : RowAt k r) where
+  pub hold-none : NoLine s at → HeldAt s at k record { ok = false; at = at; span = noSpan }
+  hold-none e = record { place = w .place; within = none-in s; goes = λ h rs. never h; stops = λ h rs. row-none _ _ _ (e .same) }
+
+  module _ (e : ℕ) (l : LineEnd s at e) (t : Bool) (u : t ≡ fitsRow (rowOf r) (cut s at e)) where
+    row-is : t ≡ fitsRow (rowOf (codeAt k)) (cut s at e)
+    row-is = rw (← y .same) u
+
+    pub hold-with : t ≡ true → (p : Span) → SpanIs at e p → HeldAt s at k record { ok = true; at = e + 2; span = p }
+    hold-with d p h = record {
+      place = l .room;
+      within = record { order = omega (arith, h .start, h .end, l .start); room = omega (arith, h .end, l .room) };
+      goes = λ _ rs. rw (h .start, h .end) (row-with _ _ _ _ (l .same) (sym row-is ∙ d));
+      stops = λ g rs. never (sym g);
+    }
+
+    pub hold-without : t ≡ false → HeldAt s at k record { ok = r .3; at = at; span = noSpan }
+    unfolding rowOf
+    hold-without d = record {
+      place = w .place;
+      within = none-in s;
+      goes = λ g rs. rw (cut-done s 0 0 (omega arith) (omega arith)) (row-without _ _ _ _ (l .same) (sym row-is ∙ d) (may g));
+      stops = λ g rs. row-bad _ _ _ _ (l .same) (sym row-is ∙ d) (may g);
+    }
+      where
+        may : {b : Bool} → r .3 ≡ b → rowOf (codeAt k) .may ≡ b
+        may g = ap (λ (x : Row). x .3) (sym (y .same)) ∙ g
+
+pub ruleset holding = (line-told, no-line-told, hold-none, hold-with, hold-without)
+
+-- ---- the loop over the rows
+
+-- i rows are held: their lines stand before what the rows that are left make of the text from `pos` on
+pub record Rowing (s : List ℕ) (at first count : ℕ) (l : List Span) (pos i : ℕ) : Type 0 where
+  pub few : i ≤ count
+  pub place : pos ≤ length s
+  pub size : length l ≡ 23
+  pub same : leadRows (held s l i) (rowed (part (first + i) (count - i)) (from s pos)) ≡ rowed (part first count) (from s at)
+  pub within : Within s l
+
+module _ (s : List ℕ) (at f n : ℕ) where
+  pub rows-start : at ≤ length s → Rowing s at f n (replicate 23 noSpan) at 0
+  rows-start h = record { few = omega arith; place = h; size = length-replicate 23 noSpan; same = rw (held-none, add-zero f, sub-zero n) (lead-nil _); within = within-none s 23 }
+
+  module _ (l : List Span) (pos i : ℕ) (inv : Rowing s at f n l pos i) where
+    pub rows-done : n ≤ i → RowsAt s at f n record { ok = true; next = pos; spans = l }
+    rows-done k = record { same = go _ (inv .same); next = inv .place; within = inv .within }
+      where
+        go : (x : Option Rowed) → leadRows (held s l i) (rowed (part (f + i) (n - i)) (from s pos)) ≡ x → some record { rows = held s l n; others = from s pos } ≡ x
+        go x g =
+            let e : n - i ≡ 0 = omega (arith, k) in
+            let d : i ≡ n = omega (arith, k, inv .few) in
+            rw (← d) (sym (lead-done (held s l i) (from s pos)) ∙ (rw (e, part-none) at g))
+
+    module _ (b : f + n ≤ 40) (h : i < n) (r : Held) (w : HeldAt s pos (f + i) r) where
+      step : leadRows (held s l i) (rowed (rowOf (codeAt (f + i)) ∷ part (f + (i + 1)) (n - (i + 1))) (from s pos)) ≡ rowed (part f n) (from s at)
+      step =
+          let u : f + (i + 1) ≡ f + i + 1 = omega arith in
+          let v : n - (i + 1) ≡ n - i - 1 = omega arith in
+          rw (u, v, ← part-step (f + i) (n - i) _ (row-told (omega arith) refl) (omega arith) (omega arith)) (inv .same)
+
+      pub rows-stop : r .ok ≡ false → at ≤ length s → RowsAt s at f n record { ok = false; next = at; spans = l }
+      rows-stop e k = record { same = sym (lead-none (held s l i)) ∙ (rw (w .stops e _) at step); next = k; within = inv .within }
+
+      pub rows-on : r .ok ≡ true → n ≤ 23 → Rowing s at f n (set l i (r .span)) (r .at) (i + 1)
+      rows-on e q = record {
+        few = omega arith;
+        place = w .place;
+        size = length-set l i (r .span) ∙ inv .size;
+        same = rw (held-more s l i (r .span) (omega (arith, inv .size))) (lead-more _ _ _ ∙ (rw (w .goes e _) at step));
+        within = within-set s l i (r .span) (inv .within) (w .within);
+      }

@@ -2,11 +2,12 @@
 use crate::fits::row_fits;
 use crate::table::row_at;
 use lines::Next;
-use lines::next_line;
+use lines::reader_over;
+use lines::take_line;
 ghost use Prim.Native.Nat.{_+_, _<_, _≤_};
 ghost use lib.ListN.{length};
 ghost use Rattle.forms.specs.Spans.{SpanIs};
-ghost use Rattle.forms.specs.Rows.{RowsAt};
+ghost use Rattle.forms.specs.Rows.{RowsAt, ToHold, HeldAt};
 
 // A part of the message, from start up to end.
 pub struct Span {
@@ -33,7 +34,43 @@ fn part(a: usize, e: usize) -> Span
     }
 }
 
-// The lines from `at` on against count rows of the table, from row first on.
+// What a row makes of the line at its place: does it fit, or may the row be left out; where the next row's line begins; the part of the line, an empty one for a row left out.
+pub struct Held {
+    pub ok: bool,
+    pub at: usize,
+    pub span: Span,
+}
+
+// The line at `at` held against row k of the table.
+fn hold_line(s: &[u8], at: usize, line: Next, k: usize) -> Held
+    requires { ⌜ ToHold (now s) at k line ⌝ }
+    ensures { λ r. ⌜ HeldAt (now (s .entry)) at k r ⌝ }
+{
+    let row = row_at(k);
+    match line {
+        Next::Line(e) => {
+            if row_fits(s, at, e, row) {
+                return Held {
+                    ok: true,
+                    at: e + 2,
+                    span: part(at, e),
+                };
+            }
+            Held {
+                ok: row.3,
+                at,
+                span: Span { start: 0, end: 0 },
+            }
+        }
+        Next::Bad => Held {
+            ok: false,
+            at,
+            span: Span { start: 0, end: 0 },
+        },
+    }
+}
+
+// The lines from `at` on against count rows of the table, from row first on. One reader hands them out, and is moved behind each that a row holds.
 pub fn read_rows(s: &[u8], at: usize, first: usize, count: usize) -> Rows
     requires { ⌜ at ≤ length (now s) ⌝ }
     requires { ⌜ length (now s) ≤ 4096 ⌝ }
@@ -42,41 +79,26 @@ pub fn read_rows(s: &[u8], at: usize, first: usize, count: usize) -> Rows
     ensures { λ r. ⌜ RowsAt (now (s .entry)) at first count r ⌝ }
 {
     let mut spans = [Span { start: 0, end: 0 }; 23];
-    let mut pos = at;
+    let mut r = reader_over(s, at);
     let mut i: usize = 0;
     while i < count {
-        let row = row_at(first + i);
-        match next_line(s, pos) {
-            Next::Line(e) => {
-                if row_fits(s, pos, e, row) {
-                    spans[i] = part(pos, e);
-                    pos = e + 2;
-                    i += 1;
-                } else {
-                    if row.3 {
-                        spans[i] = Span { start: 0, end: 0 };
-                        i += 1;
-                    } else {
-                        return Rows {
-                            ok: false,
-                            next: at,
-                            spans,
-                        };
-                    }
-                }
-            }
-            Next::Bad => {
-                return Rows {
-                    ok: false,
-                    next: at,
-                    spans,
-                };
-            }
+        let line = take_line(r);
+        let held = hold_line(s, r.at, line, first + i);
+        if held.ok {
+            spans[i] = held.span;
+            r.at = held.at;
+            i += 1;
+        } else {
+            return Rows {
+                ok: false,
+                next: at,
+                spans,
+            };
         }
     }
     Rows {
         ok: true,
-        next: pos,
+        next: r.at,
         spans,
     }
 }
