@@ -14,11 +14,11 @@ use Rattle.rules.specs.Text.{isSome, over}
 use Rattle.rules.specs.Messages.{Message, read}
 use Rattle.rules.specs.Register.{registerOf}
 use Rattle.rules.specs.Engine.{Engine, Position}
-use Rattle.rules.specs.Calls.{stop, firstOf, holdsOf, noRoom, overLimit, added, inputStops, stateStops, messageStops, messageText, after, afterMessage, messageCall, bothOf, acceptedMessage, refused}
+use Rattle.rules.specs.Calls.{stop, firstOf, holdsOf, noRoom, overLimit, added, inputStops, stateStops, messageStops, messageText, writes, after, afterMessage, messageCall, bothOf, acceptedMessage, refused}
 use Rattle.rules.specs.Area.{cardMessage, onAreas, stored, encode, decode, holds}
 use Rattle.laws.specs.Parts.{cut}
 use Rattle.laws.specs.Tests.{held-told}
-use Rattle.laws.specs.Writing.{Wrote, wrote-over, furthest}
+use Rattle.laws.specs.Writing.{wrote-over, furthest}
 use Rattle.area.specs.Facts.{Passed, passed}
 use Rattle.area.specs.Held.{held}
 use Rattle.engine.specs.Find.{TotalsOf}
@@ -27,6 +27,7 @@ use Rattle.engine.specs.declared.find.Totals.{Totals}
 use Rattle.steps.specs.Booking.{Booking as CanBook, booking-clear, bookedWith, booked-after}
 use Rattle.steps.specs.Filing.{reference}
 use Rattle.steps.specs.Places.{position}
+use Rattle.outgoing_number.specs.declared.Numbered.{Numbered}
 use Rattle.outgoing.specs.Area.{standing}
 use Rattle.details.specs.Message.{messageIn}
 use Rattle.details.specs.Kept.{Room}
@@ -38,7 +39,7 @@ use Rattle.conditions.specs.declared.message.Checked.the-variants.{Refused}
 use Rattle.verdict.specs.Details.{VerdictsIn, JudgedIn}
 use Rattle.state.specs.Stops.{limitStops}
 use Rattle.detail_lines.specs.Returned.{ReturnedCount}
-use Rattle.message_text.specs.Message.{text-here, text-passes, AfterOf, amount-part, after-is, WritesOf, Writes, writes-told}
+use Rattle.message_text.specs.Message.{text-here, text-passes, AfterOf, amount-part, after-is, WritesOf, Writes, writes-told, TextPut}
 use Rattle.written.specs.Values.{positionOf}
 use Rattle.written.specs.declared.Position as W
 use Rattle.card.specs.Answers.{Answers}
@@ -176,17 +177,17 @@ module _ (s area : List ℕ) (h : isSome (holds area) ≡ true) where
           rw position-is (booking-clear (decode area) (messageIn s) (held area (decode area) engine .good) (leb-false 64 _ (p13 .first)) (p14 .first) (p15 .first))
 
       -- the area with the message
-      pub booked-done : {a' : List ℕ} {w : ℕ} → Writes (decode area) (messageIn s) w
+      pub booked-done : {a' : List ℕ} {w : ℕ} → w ≡ decode area .count + writes (decode area) (messageIn s)
           → a' ≡ encode (bookedWith (decode area) (position (b .bank) (b .date) t d) (reference (b .bank) (cut s (b .reference .start) (b .reference .end))) w) ++ drop 6144 area → Booked s area a'
-      booked-done f c = record { area = c ∙ rw (position-is, k .bank, k .reference, f .value, booked-after) refl }
+      booked-done f c = record { area = c ∙ rw (position-is, k .bank, k .reference, f, booked-after) refl }
 
-pub sent-done : {s area : List ℕ} {b : Booking} {p : W.Position} {parts : ℕ} {amounts places verdicts : List ℕ} → Ready s area b p parts amounts places verdicts → {out out' a' : List ℕ} {r : ℕ} {z : ℤ} → length (messageText (decode area) (messageIn s)) ≤ length out
-    → Wrote (messageText (decode area) (messageIn s)) 0 out r out' → z ≡ subℕ (p .transferred) (p .detailed) → Booked s area a' → Sent s area out r z a' out'
+pub sent-done : {s area : List ℕ} {b : Booking} {p : W.Position} {parts : ℕ} {amounts places verdicts : List ℕ} → Ready s area b p parts amounts places verdicts → {out out' a' : List ℕ} {r : Numbered} {z : ℤ} → length (messageText (decode area) (messageIn s)) ≤ length out
+    → TextPut (decode area) (messageIn s) 0 out r out' → z ≡ subℕ (p .transferred) (p .detailed) → Booked s area a' → Sent s area out (r .at) z a' out'
 sent-done {s} {area} {b} {p} m l w e c = record {
-  written = wrote-exact w l;
+  written = wrote-exact (w .wrote) l;
   difference = e ∙ ap (λ (x : Position). subℕ (x .transferred) (x .detailed)) (m .leaves .same);
   area = c .area;
-  output = wrote-over w l;
+  output = wrote-over (w .wrote) l;
   small = rw e (difference-small (p .transferred) (p .detailed) (m .leaves .few) (m .leaves .small));
 }
 

@@ -16,7 +16,9 @@ use Rattle.rules.specs.Engine.{Engine}
 use Rattle.rules.specs.Calls.{firstOf, turnStops, turnText, refunded, collected, afterTurn, turnCall, acceptedTurn, refused}
 use Rattle.rules.specs.Area.{cardTurn, onAreas, stored, encode, decode, holds}
 use Rattle.laws.specs.Tests.{held-told}
-use Rattle.laws.specs.Writing.{Wrote, wrote-over, furthest}
+use Rattle.laws.specs.Writing.{wrote-over, furthest}
+use Rattle.outgoing_number.specs.declared.Numbered.{Numbered}
+use Rattle.outgoing.specs.Area.{TurnPut}
 use Rattle.outgoing.specs.Sums.{Totals}
 use Rattle.outgoing.specs.declared.sums.Sums.{Sums}
 use Rattle.steps.specs.Turning.{turned, turned-after}
@@ -74,13 +76,13 @@ pub record Turned (day : ℕ) (a out : List ℕ) (n : ℕ) (z : ℤ) (a' out' : 
   pub small : mag z < 2 ^ 63
 
 -- its text written, its sums, and the area turned
-pub turned-done : (day : ℕ) {a out out' a' : List ℕ} {r : ℕ} {z : ℤ} (x : Sums) → length (turnText (decode a) day) ≤ length out → Wrote (turnText (decode a) day) 0 out r out'
-    → Totals (decode a .positions) x → z ≡ subℕ (x .refunded) (x .collected) → a' ≡ encode (turned (decode a) day (x .count)) ++ drop 6144 a → Turned day a out r z a' out'
+pub turned-done : (day : ℕ) {a out out' a' : List ℕ} {r : Numbered} {z : ℤ} (x : Sums) → length (turnText (decode a) day) ≤ length out → TurnPut a day 0 out r out'
+    → Totals (decode a .positions) x → z ≡ subℕ (x .refunded) (x .collected) → a' ≡ encode (turned (decode a) day (r .count)) ++ drop 6144 a → Turned day a out (r .at) z a' out'
 turned-done day {a} x l w t d c = record {
-  written = wrote-exact w l;
+  written = wrote-exact (w .wrote) l;
   difference = d ∙ rw (t .refunded, t .collected) refl;
-  area = c ∙ rw (t .count, turned-after (decode a) day) refl;
-  output = wrote-over w l;
+  area = c ∙ rw (w .count, turned-after (decode a) day) refl;
+  output = wrote-over (w .wrote) l;
   small = rw d (difference-small (x .refunded) (x .collected) (omega (arith, t .small)) (omega (arith, t .little)));
 }
 

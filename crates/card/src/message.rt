@@ -5,10 +5,10 @@ use conditions::Checked;
 use written::Position;
 ghost use mathlib.Core.Path.{_≡_};
 ghost use mathlib.Core.Bool.{true};
-ghost use Prim.Native.Nat.{_≤_};
+ghost use Prim.Native.Nat.{_+_, _≤_};
 ghost use lib.ListN.{length};
 ghost use Rattle.rules.specs.Text.{isSome};
-ghost use Rattle.rules.specs.Calls.{firstOf, messageText};
+ghost use Rattle.rules.specs.Calls.{firstOf, messageText, writes};
 ghost use Rattle.rules.specs.Area.{holds, decode, cardMessage};
 ghost use Rattle.details.specs.Message.{messageIn};
 ghost use Rattle.details.specs.Kept.{Room, LinesIn};
@@ -16,7 +16,6 @@ ghost use Rattle.conditions.specs.Answers.{CheckedAs, Passes};
 ghost use Rattle.conditions.specs.Books.{Books};
 ghost use Rattle.verdict.specs.Details.{VerdictsIn};
 ghost use Rattle.state.specs.Stops.{limitStops};
-ghost use Rattle.message_text.specs.Message.{Writes};
 ghost use Rattle.card.specs.Answers.{Answers};
 ghost use Rattle.card.specs.Held.{Measured};
 ghost use Rattle.card.specs.Message.{Sent, Booked, Leaves, Ready, temporaryOf};
@@ -56,7 +55,7 @@ fn message_size(
     ensures { λ r. ⌜ Measured (messageText (decode (now (area .entry))) (messageIn (now (message .entry)))) r ⌝ }
 {
     let mut nothing = [0u8; 0];
-    message_text::put_message_text(
+    let text = message_text::put_message_text(
         &mut nothing,
         0,
         message,
@@ -67,15 +66,16 @@ fn message_size(
         b,
         p,
         parts,
-    )
+    );
+    text.at
 }
 
-// The message booked in the area: its reference, its position and the messages written.
-fn book_in(message: &[u8], area: &mut [u8], b: Booking, parts: u32)
+// The message booked in the area: its reference, its position and the outgoing count behind it.
+fn book_in(message: &[u8], area: &mut [u8], b: Booking, count: u32)
     requires { ⌜ isSome (holds (now area)) ≡ true ⌝ }
     requires { ⌜ Books (now message) (messageIn (now message)) b ⌝ }
     requires { ⌜ 0 ≡ firstOf (limitStops (decode (now area)) (messageIn (now message))) ⌝ }
-    requires { ⌜ Writes (decode (now area)) (messageIn (now message)) parts ⌝ }
+    requires { ⌜ count ≡ decode (now area) .count + writes (decode (now area)) (messageIn (now message)) ⌝ }
     ensures { λ _. ⌜ Booked (now (message .entry)) (now (area .entry)) (now (area .exit)) ⌝ }
 {
     let reference = b.reference;
@@ -88,7 +88,7 @@ fn book_in(message: &[u8], area: &mut [u8], b: Booking, parts: u32)
         b.date,
         state::transferred_by(b),
         state::detailed_by(b),
-        parts,
+        count,
     );
 }
 
@@ -110,7 +110,7 @@ fn accept_message(
     requires { ⌜ length (messageText (decode (now area)) (messageIn (now message))) ≤ length (now output) ⌝ }
     ensures { λ _. ⌜ Sent (now (message .entry)) (now (area .entry)) (now (output .entry)) (now (written .exit)) (now (difference .exit)) (now (area .exit)) (now (output .exit)) ⌝ }
 {
-    *written = message_text::put_message_text(
+    let text = message_text::put_message_text(
         output,
         0,
         message,
@@ -122,8 +122,9 @@ fn accept_message(
         p,
         parts,
     );
+    *written = text.at;
     *difference = minus(p.transferred, p.detailed);
-    book_in(message, area, b, parts);
+    book_in(message, area, b, text.count);
 }
 
 // A message that none of 1 to 15 stops; p is its position as it leaves it.

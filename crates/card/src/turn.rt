@@ -24,10 +24,11 @@ fn accept_turn(
     requires { ⌜ length (turnText (decode (now area)) day) ≤ length (now output) ⌝ }
     ensures { λ _. ⌜ Turned day (now (area .entry)) (now (output .entry)) (now (written .exit)) (now (difference .exit)) (now (area .exit)) (now (output .exit)) ⌝ }
 {
-    *written = outgoing::put_turn_text(output, 0, day, area);
+    let text = outgoing::put_turn_text(output, 0, day, area);
+    *written = text.at;
     let sums = outgoing::turn_sums(area);
     *difference = minus(sums.refunded, sums.collected);
-    steps::turn_area(area, day, sums.count);
+    steps::turn_area(area, day, text.count);
 }
 
 // How many bytes the turn writes.
@@ -36,7 +37,8 @@ fn turn_size(day: u32, area: &[u8]) -> usize
     ensures { λ r. ⌜ Measured (turnText (decode (now (area .entry))) day) r ⌝ }
 {
     let mut nothing = [0u8; 0];
-    outgoing::put_turn_text(&mut nothing, 0, day, area)
+    let text = outgoing::put_turn_text(&mut nothing, 0, day, area);
+    text.at
 }
 
 // The turn of an area that holds an engine.

@@ -30,8 +30,9 @@ use Rattle.conditions.specs.declared.booking.Booking.{Booking}
 use Rattle.verdict.specs.Details.{JudgedIn}
 use Rattle.written.specs.Values.{positionOf}
 use Rattle.written.specs.declared.Position as W
-use Rattle.detail_lines.specs.Returned.{returnedAt, returned-all, ReturnedCount, count-paper}
-use Rattle.message_text.specs.Parts.{PartsOf}
+use Rattle.detail_lines.specs.Returned.{returned-all, ReturnedCount, count-paper}
+use Rattle.outgoing_number.specs.declared.Numbered.{Numbered}
+use Rattle.message_text.specs.Parts.{PartsOf, PartsPut}
 use Rattle.message_text.specs.Postings.{bookFor, transfer-is, order-is}
 use Rattle.message_text.specs.declared.message.Header.{Header}
 
@@ -149,6 +150,11 @@ after-is a s b k x y p q = rw (q .bank, q .date, q .transferred, q .detailed, y 
 
 -- ---- the text
 
+-- it was written, and the count then kept is the engine's with the messages written
+pub record TextPut (e : Engine) (m : Message) (at : ℕ) (out : List ℕ) (r : Numbered) (out' : List ℕ) : Type 0 where
+  pub wrote : Wrote (messageText e m) at out (r .at) out'
+  pub count : r .count ≡ e .count + writes e m
+
 -- posting lines, and as many parts of an MT199 as messages are written
 text-is : (e : Engine) (m : Message)
     → messageText e m
@@ -169,15 +175,19 @@ module _ (a s : List ℕ) (h : Header) (d : HeaderOf a h) {amounts places verdic
   pub judged-here : JudgedIn (textIn a (h .end)) s amounts places verdicts n
   judged-here = rw (d .text) j
 
-  module _ (b : Booking) (k : Books s (messageIn s) b) (p : W.Position) (q : positionOf p ≡ after (decode a) (messageIn s)) (parts : ℕ) (w : Writes (decode a) (messageIn s) parts) {at m r : ℕ} {out out₁ out₂ : List ℕ} where
+  module _ (b : Booking) (k : Books s (messageIn s) b) (p : W.Position) (q : positionOf p ≡ after (decode a) (messageIn s)) (parts : ℕ) (w : Writes (decode a) (messageIn s) parts) {at m : ℕ} {r : Numbered} {out out₁ out₂ : List ℕ} where
     pub message-wrote : Wrote (postings (registerOf (textIn a (h .end))) (bookFor (h .day) (textIn a (h .end)) (positionOf p)) (messageIn s)) at out m out₁
-        → Wrote (mt199s parts (h .day) (h .count) (positionOf p) 1 parts (returnedAt s verdicts 0 n)) m out₁ r out₂ → Wrote (messageText (decode a) (messageIn s)) at out r out₂
+        → PartsPut (h .day) (h .count) (positionOf p) parts s verdicts n m out₁ r out₂ → TextPut (decode a) (messageIn s) at out r out₂
     unfolding after
     message-wrote u v =
         let bank : positionOf p .bank ≡ bankOf (messageIn s) = ap (λ (x : Position). x .bank) q in
         let date : positionOf p .date ≡ dateOf (messageIn s) = ap (λ (x : Position). x .date) q in
-        rw (text-is (decode a) (messageIn s))
-        (wrote-then (rw (d .day, d .text, bank, date) at u)
-        (rw (w .value, d .day, d .count, q, returned-all (decode a .register) s places verdicts n (j .lines-kept) (j .verdicts-kept)) at v))
+        record {
+          wrote =
+              rw (text-is (decode a) (messageIn s))
+              (wrote-then (rw (d .day, d .text, bank, date) at u)
+              (rw (w .value, d .day, d .count, q, returned-all (decode a .register) s places verdicts n (j .lines-kept) (j .verdicts-kept)) at (v .wrote)));
+          count = v .kept ∙ rw (d .count, w .value);
+        }
 
 pub ruleset messages = (transfer-follows, writes-parts, writes-none, judged-here, message-wrote)

@@ -1,11 +1,13 @@
 -- The parts of an MT199, as a loop writes them. Assumes nothing.
-use mathlib.Core.Path.{_≡_}
+use mathlib.Core.Path.{_≡_, refl, ap, _∙_}
+use mathlib.Core.Bool.{Bool, true, false}
 use mathlib.Core.List.{List, _++_}
 use Prim.Native.Nat.{ℕ, zero, suc, _+_, _-_, _/_, _≤_, _<_}
 use native.Mathlib.Nat.{sub-zero}
 use native.Mathlib.Omega.{arith}
 use lib.ListN.{length, take, drop}
-use borrow.Author.Tests.{eq-eqb, ne-eqb}
+use lib.Dec.{leb}
+use borrow.Author.Tests.{eq-eqb, ne-eqb, leb-true, leb-false}
 use Rattle.rules.specs.Text.{ascii}
 use Rattle.rules.specs.Engine.{Position}
 use Rattle.rules.specs.Written.{opened, field, reference, linked, position79, closed79, mt199, mt199s, partsOf}
@@ -13,7 +15,11 @@ use Rattle.laws.specs.Writing.{Wrote, Left, left-turn, left-none, left-length, 
 use Rattle.laws.specs.Pieces.{wrote-4, left-all}
 use Rattle.detail_lines.specs.Returned.{returnedAt, Passed, RowsPut}
 use Rattle.detail_lines.specs.declared.returned.Place.{Place}
-use Rattle.message_text.specs.declared.verdicts.Part.{Part}
+use Rattle.outgoing_number.specs.declared.Numbered.{Numbered}
+use Rattle.outgoing_number.specs.declared.Outgoing.{Outgoing}
+use Rattle.outgoing_number.specs.declared.Reference.{Reference}
+use Rattle.outgoing_number.specs.Issue.{Steps, Next, next-steps}
+use Rattle.message_text.specs.declared.verdicts.Parting.{Parting}
 
 -- ---- how many
 
@@ -32,36 +38,139 @@ parts-more returned n h = record { value = rw (ne-eqb returned 0 n); few = omega
 
 -- ---- one part, with the next 14 of the returned details
 
-pub record PartPut (h : Part) (p : Position) (s verdicts : List ℕ) (first n at : ℕ) (out : List ℕ) (r : Place) (out' : List ℕ) : Type 0 where
-  pub wrote : Wrote (mt199 (h .day) (h .n) p (h .part) (h .parts) (take 14 (returnedAt s verdicts first (n - first)))) at out (r .out) out'
-  pub passed : Passed s verdicts first n 14 (r .at)
+-- the part's place among them, so many being left
+abbrev pub partAt : ℕ → Parting → ℕ
+partAt parts t = parts - t .left + 1
 
-module _ (h : Part) (p : Position) (s verdicts : List ℕ) (first n : ℕ) {at a b r : ℕ} {c : Place} {out out₁ out₂ out₃ out₄ : List ℕ} where
-  pub part-wrote : h .number ≡ h .n + h .part → Wrote (opened (ascii "199") (p .bank) ++ field (ascii ":20:") (reference (h .day) (h .number)) ++ linked (h .day) (h .n) (h .part)) at out a out₁ → Wrote (position79 (p .date) (p .transferred) (p .detailed)) a out₁ b out₂
-      → RowsPut s verdicts first n 14 b out₂ c out₃ → Wrote (closed79 (h .part) (h .parts)) (c .out) out₃ r out₄ → PartPut h p s verdicts first n at out (record { out = r; at = c .at }) out₄
+-- a part is due by the reference r: its number is that of part 1 with the parts since, and from part 2 on that of part 1 is kept
+pub record PartDue (r : Reference) (parts n : ℕ) (t : Parting) : Type 0 where
+  pub some : 0 < t .left
+  pub few : t .left ≤ parts
+  pub small : parts ≤ 4096
+  pub within : t .detail ≤ n
+  pub numbered : partAt parts t ≤ r .number
+  pub kept : 2 ≤ partAt parts t → t .first + partAt parts t ≡ r .number + 1
+
+-- the number of part 1, by which part this is
+pub record FirstOf (part number kept first : ℕ) : Type 0 where
+  pub own : part < 2 → first ≡ number
+  pub other : 2 ≤ part → first ≡ kept
+
+pub first-own : (part number kept : ℕ) → part < 2 → FirstOf part number kept number
+first-own part number kept h = record { own = λ _. refl; other = λ l. absurd (omega arith) }
+
+pub first-other : (part number kept : ℕ) → 2 ≤ part → FirstOf part number kept kept
+first-other part number kept h = record { own = λ l. absurd (omega arith); other = λ _. refl }
+
+module _ {r : Reference} {parts n : ℕ} {t : Parting} (d : PartDue r parts n t) {first : ℕ} (f : FirstOf (partAt parts t) (r .number) (t .first) first) where
+  pub first-is : first + partAt parts t ≡ r .number + 1
+  first-is = go (leb 2 (partAt parts t)) refl
+    where
+      go : (b : Bool) → leb 2 (partAt parts t) ≡ b → first + partAt parts t ≡ r .number + 1
+      go true e = let l : 2 ≤ partAt parts t = leb-true 2 (partAt parts t) e in omega (arith, f .other l, d .kept l)
+      go false e = let l : partAt parts t < 2 = leb-false 2 (partAt parts t) e in omega (arith, f .own l)
+
+  pub first-some : 0 < first
+  first-some = omega (arith, first-is, d .numbered)
+
+-- it was written, and t' is where the parts then stand
+pub record PartPut (r : Reference) (p : Position) (parts : ℕ) (s verdicts : List ℕ) (n : ℕ) (t : Parting) (out : List ℕ) (t' : Parting) (out' : List ℕ) : Type 0 where
+  pub wrote : Wrote (mt199 (r .day) (r .number - partAt parts t) p (partAt parts t) parts (take 14 (returnedAt s verdicts (t .detail) (n - t .detail)))) (t .out) out (t' .out) out'
+  pub passed : Passed s verdicts (t .detail) n 14 (t' .detail)
+  pub fewer : t' .left ≡ t .left - 1
+  pub first : t' .first + partAt parts t ≡ r .number + 1
+
+module _ (r : Reference) (p : Position) (parts : ℕ) (s verdicts : List ℕ) (n : ℕ) (t : Parting) {first a b e : ℕ} {c : Place} {out out₁ out₂ out₃ out₄ : List ℕ} (d : PartDue r parts n t) (f : FirstOf (partAt parts t) (r .number) (t .first) first) where
+  pub part-wrote : Wrote (opened (ascii "199") (p .bank) ++ field (ascii ":20:") (reference (r .day) (r .number)) ++ linked (r .day) (first - 1) (partAt parts t)) (t .out) out a out₁ → Wrote (position79 (p .date) (p .transferred) (p .detailed)) a out₁ b out₂
+      → RowsPut s verdicts (t .detail) n 14 b out₂ c out₃ → Wrote (closed79 (partAt parts t) parts) (c .out) out₃ e out₄ → PartPut r p parts s verdicts n t out (record { out = e; detail = c .at; left = t .left - 1; first = first }) out₄
   unfolding mt199
-  part-wrote e u v w x = record { wrote = wrote-4 (rw e at u) v (w .wrote) x; passed = w .passed }
+  part-wrote u v w x =
+      let i : first - 1 ≡ r .number - partAt parts t = omega (arith, first-is d f, d .numbered) in
+      let j : r .number - partAt parts t + partAt parts t ≡ r .number = omega (arith, d .numbered) in
+      record { wrote = rw j (wrote-4 (rw i at u) v (w .wrote) x); passed = w .passed; fewer = refl; first = first-is d f }
 
 -- ---- part by part, those of the returned from detail q on being left
 
-module _ (s verdicts : List ℕ) (day m : ℕ) (p : Position) (left part parts n q : ℕ) {o at : ℕ} {out whole start : List ℕ} (l : Left (mt199s left day m p part parts (returnedAt s verdicts q (n - q))) o out whole at start) where
-  parts-step : 0 < left → mt199s left day m p part parts (returnedAt s verdicts q (n - q)) ≡ mt199 day m p part parts (take 14 (returnedAt s verdicts q (n - q))) ++ mt199s (left - 1) day m p (part + 1) parts (drop 14 (returnedAt s verdicts q (n - q)))
+parts-step : (s verdicts : List ℕ) (day m : ℕ) (p : Position) (left part parts q k : ℕ) → 0 < left → mt199s left day m p part parts (returnedAt s verdicts q k) ≡ mt199 day m p part parts (take 14 (returnedAt s verdicts q k)) ++ mt199s (left - 1) day m p (part + 1) parts (drop 14 (returnedAt s verdicts q k))
+unfolding mt199s
+parts-step s verdicts day m p left part parts q k h = go left h
+  where
+    go : (j : ℕ) → 0 < j → mt199s j day m p part parts (returnedAt s verdicts q k) ≡ mt199 day m p part parts (take 14 (returnedAt s verdicts q k)) ++ mt199s (j - 1) day m p (part + 1) parts (drop 14 (returnedAt s verdicts q k))
+    go zero h = absurd (omega arith)
+    go (suc j) h = let e : suc j - 1 ≡ j = omega arith in rw e
+
+-- all parts, the outgoing number having been at a count before them
+abbrev pub allParts : ℕ → ℕ → Position → ℕ → List ℕ → List ℕ → ℕ → List ℕ
+allParts day count p parts s verdicts n = mt199s parts day count p 1 parts (returnedAt s verdicts 0 n)
+
+-- they were written, and the count then kept
+pub record PartsPut (day count : ℕ) (p : Position) (parts : ℕ) (s verdicts : List ℕ) (n at : ℕ) (start : List ℕ) (r : Numbered) (out : List ℕ) : Type 0 where
+  pub wrote : Wrote (allParts day count p parts s verdicts n) at start (r .at) out
+  pub kept : r .count ≡ count + parts
+
+-- by the outgoing number as it is kept, the parts from t on are left to write
+pub record PartsLeft (day count : ℕ) (p : Position) (parts : ℕ) (s verdicts : List ℕ) (n at : ℕ) (start : List ℕ) (o : Outgoing) (t : Parting) (out : List ℕ) : Type 0 where
+  pub on-day : o .day ≡ day
+  pub kept : o .count + t .left ≡ count + parts
+  pub few : t .left ≤ parts
+  pub small : parts ≤ 4096
+  pub low : count ≤ 65535
+  pub within : t .detail ≤ n
+  pub first : t .left < parts → t .first ≡ count + 1
+  pub text : Left (mt199s (t .left) day count p (partAt parts t) parts (returnedAt s verdicts (t .detail) (n - t .detail))) (t .out) out (allParts day count p parts s verdicts n) at start
+
+pub parts-start : (day count : ℕ) (p : Position) (parts : ℕ) (s verdicts : List ℕ) (n at : ℕ) (start : List ℕ) → parts ≤ 4096 → count ≤ 65535 → length start ≤ furthest
+    → PartsLeft day count p parts s verdicts n at start (record { day = day; count = count }) (record { out = at; detail = 0; left = parts; first = 0 }) start
+parts-start day count p parts s verdicts n at start l m h =
+    let e : parts - parts + 1 ≡ 1 = omega arith in
+    record { on-day = refl; kept = refl; few = omega arith; small = l; low = m; within = omega arith; first = λ k. absurd (omega arith); text = rw (e, sub-zero n) (left-all _ h) }
+
+module _ {day count : ℕ} {p : Position} {parts : ℕ} {s verdicts : List ℕ} {n at : ℕ} {start : List ℕ} {o : Outgoing} {t : Parting} {out : List ℕ} (l : PartsLeft day count p parts s verdicts n at start o t out) where
+  pub parts-room : o .count + 1 < 4294967296
+  parts-room = omega (arith, l .kept, l .small, l .low)
+
+  pub parts-long : length out ≡ length start
+  parts-long = left-length (l .text)
+
+  module _ (h : 0 < t .left) {r : Reference} {o' : Outgoing} (i : Steps o r o') where
+    number-is : r .number ≡ o .count + 1
+    number-is = ap (λ (z : Reference). z .number) (i .reference)
+
+    pub part-due : PartDue r parts n t
+    part-due = record {
+      some = h;
+      few = l .few;
+      small = l .small;
+      within = l .within;
+      numbered = omega (arith, number-is, l .kept, l .few);
+      kept = λ k. let f : t .first ≡ count + 1 = l .first (omega arith) in omega (arith, number-is, l .kept, l .few);
+    }
+
+    pub parts-turn : {t' : Parting} {out' : List ℕ} → PartPut r p parts s verdicts n t out t' out' → PartsLeft day count p parts s verdicts n at start o' t' out'
+    parts-turn {t'} {out'} w =
+        let e : r .number - partAt parts t ≡ count = omega (arith, number-is, l .kept, l .few) in
+        let f : r .day ≡ day = ap (λ (z : Reference). z .day) (i .reference) ∙ l .on-day in
+        let g : partAt parts t' ≡ partAt parts t + 1 = omega (arith, w .fewer, l .few) in
+        rw (i .kept) record {
+          on-day = l .on-day;
+          kept = omega (arith, l .kept, w .fewer);
+          few = omega (arith, l .few, w .fewer);
+          small = l .small;
+          low = l .low;
+          within = w .passed .within;
+          first = λ k. omega (arith, w .first, number-is, l .kept, l .few);
+          text = rw (g, w .fewer) (left-turn (rw (w .passed .same) (rw (parts-step s verdicts day count p (t .left) (partAt parts t) parts (t .detail) (n - t .detail) h) at (l .text))) (rw (e, f) at (w .wrote)));
+        }
+
+  pub part-due-next : 0 < t .left → {r : Reference} {is : ℕ} → Next (o .day) (o .count) r is → PartDue r parts n t
+  part-due-next h i = part-due h (next-steps i)
+
+  pub parts-next : 0 < t .left → {r : Reference} {is : ℕ} → Next (o .day) (o .count) r is → {t' : Parting} {out' : List ℕ} → PartPut r p parts s verdicts n t out t' out'
+      → PartsLeft day count p parts s verdicts n at start (record { day = o .day; count = is }) t' out'
+  parts-next h i w = parts-turn h (next-steps i) w
+
+  pub parts-end : t .left ≤ 0 → PartsPut day count p parts s verdicts n at start (record { at = t .out; count = o .count }) out
   unfolding mt199s
-  parts-step h = go left h
-    where
-      go : (k : ℕ) → 0 < k → mt199s k day m p part parts (returnedAt s verdicts q (n - q)) ≡ mt199 day m p part parts (take 14 (returnedAt s verdicts q (n - q))) ++ mt199s (k - 1) day m p (part + 1) parts (drop 14 (returnedAt s verdicts q (n - q)))
-      go zero h = absurd (omega arith)
-      go (suc k) h = let e : suc k - 1 ≡ k = omega arith in rw e
+  parts-end h = let e : t .left ≡ 0 = omega arith in record { wrote = left-none (rw e at (l .text)); kept = omega (arith, l .kept) }
 
-  pub parts-next : 0 < left → {o' : ℕ} {out' : List ℕ} → Wrote (mt199 day m p part parts (take 14 (returnedAt s verdicts q (n - q)))) o out o' out' → {q' : ℕ} → Passed s verdicts q n 14 q'
-      → Left (mt199s (left - 1) day m p (part + 1) parts (returnedAt s verdicts q' (n - q'))) o' out' whole at start
-  parts-next h w d = left-turn (rw (d .same) (rw (parts-step h) at l)) w
-
-  pub parts-end : left ≤ 0 → Wrote whole at start o out
-  unfolding mt199s
-  parts-end h = let e : left ≡ 0 = omega arith in left-none (rw e at l)
-
-pub parts-start : (s verdicts : List ℕ) (day m : ℕ) (p : Position) (parts n at : ℕ) (out : List ℕ) → length out ≤ furthest → Left (mt199s parts day m p 1 parts (returnedAt s verdicts 0 (n - 0))) at out (mt199s parts day m p 1 parts (returnedAt s verdicts 0 n)) at out
-parts-start s verdicts day m p parts n at out h = rw (sub-zero n) (left-all _ h)
-
-pub ruleset parting = (left-length, parts-one, parts-more, part-wrote, parts-next, parts-end)
+pub ruleset parting = (left-length, parts-one, parts-more, first-own, first-other, first-some, part-wrote, parts-start, parts-room, parts-long, part-due-next, parts-next, parts-end)

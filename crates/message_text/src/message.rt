@@ -5,6 +5,7 @@ use crate::verdicts::put_parts;
 use conditions::Booking;
 use engine::Totals;
 use engine::register_end;
+use outgoing_number::Numbered;
 use state::detailed_by;
 use state::transferred_by;
 use steps::numbers_of;
@@ -13,14 +14,13 @@ ghost use mathlib.Core.Path.{_≡_};
 ghost use mathlib.Core.Bool.{true};
 ghost use Prim.Native.Nat.{_≤_, _<_};
 ghost use Rattle.rules.specs.Text.{isSome};
-ghost use Rattle.rules.specs.Calls.{after, messageText};
+ghost use Rattle.rules.specs.Calls.{after};
 ghost use Rattle.rules.specs.Area.{decode, holds};
-ghost use Rattle.laws.specs.Writing.{Wrote};
 ghost use Rattle.details.specs.Message.{messageIn};
 ghost use Rattle.conditions.specs.Books.{Books};
 ghost use Rattle.verdict.specs.Details.{JudgedIn};
 ghost use Rattle.written.specs.Values.{positionOf};
-ghost use Rattle.message_text.specs.Message.{HeaderOf, AfterOf, WritesOf, Writes, verdictFollows};
+ghost use Rattle.message_text.specs.Message.{HeaderOf, AfterOf, WritesOf, Writes, TextPut, verdictFollows};
 
 // Day and outgoing count of the engine in the area, and where its register's text ends.
 pub struct Header {
@@ -91,13 +91,13 @@ pub fn put_message_text(
     b: Booking,
     p: Position,
     parts: u32,
-) -> usize
+) -> Numbered
     requires { ⌜ isSome (holds (now area)) ≡ true ⌝ }
     requires { ⌜ Books (now s) (messageIn (now s)) b ⌝ }
     requires { ⌜ JudgedIn (decode (now area) .register) (now s) (now amounts) (now places) (now verdicts) (b .count) ⌝ }
     requires { ⌜ positionOf p ≡ after (decode (now area)) (messageIn (now s)) ⌝ }
     requires { ⌜ Writes (decode (now area)) (messageIn (now s)) parts ⌝ }
-    ensures { λ r. ⌜ Wrote (messageText (decode (now (area .entry))) (messageIn (now (s .entry)))) at (now (out .entry)) r (now (out .exit)) ⌝ }
+    ensures { λ r. ⌜ TextPut (decode (now (area .entry))) (messageIn (now (s .entry))) at (now (out .entry)) r (now (out .exit)) ⌝ }
 {
     let h = header_of(area);
     let end = h.end;

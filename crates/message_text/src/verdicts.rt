@@ -1,19 +1,17 @@
 // An MT199 in its parts.
-use detail_lines::Place;
 use detail_lines::put_returned;
-use outgoing_number::next_number;
+use outgoing_number::Numbered;
+use outgoing_number::Outgoing;
+use outgoing_number::Reference;
+use outgoing_number::issue_at;
 use written::Position;
 use written::put_closed79;
 use written::put_opened199;
 use written::put_position79;
-ghost use mathlib.Core.Path.{_≡_};
-ghost use Prim.Native.Nat.{_+_, _≤_, _<_};
-ghost use Rattle.rules.specs.Written.{mt199s};
-ghost use Rattle.laws.specs.Writing.{Wrote};
+ghost use Prim.Native.Nat.{_≤_};
 ghost use Rattle.details.specs.Kept.{LinesIn};
 ghost use Rattle.written.specs.Values.{positionOf};
-ghost use Rattle.detail_lines.specs.Returned.{returnedAt};
-ghost use Rattle.message_text.specs.Parts.{PartsOf, PartPut};
+ghost use Rattle.message_text.specs.Parts.{PartsOf, FirstOf, PartDue, PartPut, PartsPut};
 
 // How many parts there are: 14 returned details to each, and one part where there are none.
 pub fn parts_of(returned: u32) -> u32
@@ -26,47 +24,29 @@ pub fn parts_of(returned: u32) -> u32
     ((returned as u16 + 13) / 14) as u32
 }
 
-// The numbers of a part: the day, how many messages were numbered before part 1, its own number, and part of parts.
-pub struct Part {
-    pub day: u32,
-    pub n: u32,
-    pub number: u32,
-    pub part: u32,
-    pub parts: u32,
+// Where the parts of an MT199 have come to: the place in the output, the first detail that is in no part, how many parts are left, and the number of part 1.
+pub struct Parting {
+    pub out: usize,
+    pub detail: u32,
+    pub left: u32,
+    pub first: u32,
 }
 
-// One part: the next 14 returned of the n details of the message s, from detail `first` on.
-fn put_mt199(
-    out: &mut [u8],
-    at: usize,
-    h: Part,
-    p: Position,
-    s: &[u8],
-    amounts: &[u64; 16],
-    places: &[u16; 96],
-    verdicts: &[u8; 16],
-    first: u32,
-    n: u32,
-) -> Place
-    requires { ⌜ LinesIn (now s) (now places) n ⌝ }
-    requires { ⌜ first ≤ n ⌝ }
-    requires { ⌜ h .n + 1 < 4294967296 ⌝ }
-    requires { ⌜ h .number ≡ h .n + h .part ⌝ }
-    ensures { λ r. ⌜ PartPut h (positionOf p) (now (s .entry)) (now (verdicts .entry)) first n at (now (out .entry)) r (now (out .exit)) ⌝ }
+// The number of part 1: that of the reference where this is part 1, and else the one kept of it.
+fn first_number(part: u32, r: Reference, kept: u32) -> u32
+    ensures { λ x. ⌜ FirstOf part (r .number) kept x ⌝ }
 {
-    let a = put_opened199(out, at, h.day, h.n, h.number, p.bank, h.part);
-    let b = put_position79(out, a, p.date, p.transferred, p.detailed);
-    let c = put_returned(out, b, s, amounts, places, verdicts, first, n, 14);
-    let d = put_closed79(out, c.out, h.part, h.parts);
-    Place { out: d, at: c.at }
+    if part < 2 {
+        return r.number;
+    }
+    kept
 }
 
-// The parts for the returned of the n details of the message s, each by the next number of the day, `numbered` being before them.
-pub fn put_parts(
+// The next of the parts, by the reference that was issued for it: the next 14 returned of the n details of the message s.
+fn put_part(
     out: &mut [u8],
-    at: usize,
-    day: u32,
-    numbered: u32,
+    t: Parting,
+    r: Reference,
     p: Position,
     parts: u32,
     s: &[u8],
@@ -74,31 +54,57 @@ pub fn put_parts(
     places: &[u16; 96],
     verdicts: &[u8; 16],
     n: u32,
-) -> usize
+) -> Parting
+    requires { ⌜ PartDue r parts n t ⌝ }
     requires { ⌜ LinesIn (now s) (now places) n ⌝ }
-    requires { ⌜ numbered ≤ 65535 ⌝ }
-    requires { ⌜ parts ≤ 4096 ⌝ }
-    ensures { λ r. ⌜ Wrote (mt199s parts day numbered (positionOf p) 1 parts (returnedAt (now (s .entry)) (now (verdicts .entry)) 0 n)) at (now (out .entry)) r (now (out .exit)) ⌝ }
+    ensures { λ x. ⌜ PartPut r (positionOf p) parts (now (s .entry)) (now (verdicts .entry)) n t (now (out .entry)) x (now (out .exit)) ⌝ }
 {
-    let mut o = at;
-    let mut part: u32 = 1;
-    let mut left = parts;
-    let mut number = numbered;
-    let mut q: u32 = 0;
-    while left > 0 {
-        number = next_number(day, number);
-        let h = Part {
-            day,
-            n: numbered,
-            number,
-            part,
-            parts,
-        };
-        let next = put_mt199(out, o, h, p, s, amounts, places, verdicts, q, n);
-        o = next.out;
-        q = next.at;
-        part += 1;
-        left -= 1;
+    let part = parts - t.left + 1;
+    let first = first_number(part, r, t.first);
+    let a = put_opened199(out, t.out, r.day, first, r.number, p.bank, part);
+    let b = put_position79(out, a, p.date, p.transferred, p.detailed);
+    let c = put_returned(out, b, s, amounts, places, verdicts, t.detail, n, 14);
+    let d = put_closed79(out, c.out, part, parts);
+    Parting {
+        out: d,
+        detail: c.at,
+        left: t.left - 1,
+        first,
     }
-    o
+}
+
+// The parts for the returned of the n details of the message s, each by the next reference of the day, `count` being numbered before them.
+pub fn put_parts(
+    out: &mut [u8],
+    at: usize,
+    day: u32,
+    count: u32,
+    p: Position,
+    parts: u32,
+    s: &[u8],
+    amounts: &[u64; 16],
+    places: &[u16; 96],
+    verdicts: &[u8; 16],
+    n: u32,
+) -> Numbered
+    requires { ⌜ LinesIn (now s) (now places) n ⌝ }
+    requires { ⌜ count ≤ 65535 ⌝ }
+    requires { ⌜ parts ≤ 4096 ⌝ }
+    ensures { λ r. ⌜ PartsPut day count (positionOf p) parts (now (s .entry)) (now (verdicts .entry)) n at (now (out .entry)) r (now (out .exit)) ⌝ }
+{
+    let mut o = Outgoing { day, count };
+    let mut t = Parting {
+        out: at,
+        detail: 0,
+        left: parts,
+        first: 0,
+    };
+    while t.left > 0 {
+        let r = issue_at(o.day, &mut o.count);
+        t = put_part(out, t, r, p, parts, s, amounts, places, verdicts, n);
+    }
+    Numbered {
+        at: t.out,
+        count: o.count,
+    }
 }

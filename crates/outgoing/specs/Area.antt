@@ -1,5 +1,5 @@
 -- An area that holds an engine, as a turn reads it: how many positions stand in it, the positions, and the temporary account. Assumes nothing.
-use mathlib.Core.Path.{_≡_, refl, ap, _∙_}
+use mathlib.Core.Path.{_≡_, refl, sym, ap, _∙_}
 use mathlib.Core.Bool.{true}
 use mathlib.Core.List.{List, _++_}
 use Prim.Native.Nat.{ℕ, zero, suc, _+_, _-_, _≤_, _<_}
@@ -8,7 +8,7 @@ use lib.ListN.{length, getD, take, drop, length-take}
 use lib.Seq.{drop-cons, take-take}
 use Rattle.rules.specs.Text.{isSome, numberFrom}
 use Rattle.rules.specs.Register.{register, registerOf}
-use Rattle.rules.specs.Written.{correctionPostings, corrections}
+use Rattle.rules.specs.Written.{correctionPostings, corrections, correctedCount}
 use Rattle.rules.specs.Calls.{turnText}
 use Rattle.rules.specs.Area.{numberAt, decode, holds}
 use Rattle.laws.specs.Parts.{cut}
@@ -17,6 +17,9 @@ use Rattle.area.specs.Decoded.{decoded, decoded-limits}
 use Rattle.register.specs.Places.{place, count}
 use Rattle.register.specs.Passed.{temporary-at, text-size}
 use Rattle.engine.specs.Positions.{valuesAt, positionsAt, values-are}
+use Rattle.outgoing_number.specs.declared.Numbered.{Numbered}
+use Rattle.outgoing.specs.declared.turn.Correcting.{Correcting}
+use Rattle.outgoing.specs.Turn.{temporaryAt, Found, CorrectionsPut}
 
 -- a byte as a number
 pub byte-at : (area : List ℕ) (i : ℕ) → i < length area → numberAt area i 1 ≡ getD area i 0
@@ -62,12 +65,20 @@ module _ (area : List ℕ) (h : isSome (holds area) ≡ true) where
     temporary = temporary;
   }
 
+-- the text of a turn was written, and the count is that of its corrections
+pub record TurnPut (area : List ℕ) (day at : ℕ) (out : List ℕ) (r : Numbered) (out' : List ℕ) : Type 0 where
+  pub wrote : Wrote (turnText (decode area) day) at out (r .at) out'
+  pub count : r .count ≡ correctedCount (decode area .positions)
+
 module _ (area : List ℕ) (day n : ℕ) (s : Standing area n) where
-  turn-text : correctionPostings day (take 22 (drop 2320 area)) (positionsAt area 1552 n) ++ corrections day (take 22 (drop 2320 area)) 0 (positionsAt area 1552 n) ≡ turnText (decode area) day
+  turn-text : correctionPostings day (temporaryAt area) (positionsAt area 1552 n) ++ corrections day (temporaryAt area) 0 (positionsAt area 1552 n) ≡ turnText (decode area) day
   unfolding turnText
   turn-text = rw (s .temporary, s .positions)
 
   -- "Posting lines come first, .. then messages."
-  pub turn-wrote : {at m r : ℕ} {out out₁ out₂ : List ℕ} → Wrote (correctionPostings day (take 22 (drop 2320 area)) (positionsAt area 1552 n)) at out m out₁
-      → Wrote (corrections day (take 22 (drop 2320 area)) 0 (positionsAt area 1552 n)) m out₁ r out₂ → Wrote (turnText (decode area) day) at out r out₂
-  turn-wrote v w = rw (← turn-text) (wrote-then v w)
+  pub turn-wrote : {at m : ℕ} {r : Numbered} {out out₁ out₂ : List ℕ} {first : Correcting} → Wrote (correctionPostings day (temporaryAt area) (positionsAt area 1552 n)) at out m out₁
+      → Found area m 1552 n first → CorrectionsPut day area first out₁ r out₂ → TurnPut area day at out r out₂
+  turn-wrote v f w = record {
+    wrote = rw (← turn-text) (wrote-then v (rw (f .alike .texts day (temporaryAt area) 0, ← f .behind) (w .wrote)));
+    count = w .count ∙ sym (f .alike .counts) ∙ rw (s .positions);
+  }

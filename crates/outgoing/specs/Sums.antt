@@ -1,13 +1,12 @@
--- What a turn refunds and collects and how many positions it corrects, summed position by position. Assumes nothing.
+-- What a turn refunds and collects, summed position by position. Assumes nothing.
 use mathlib.Core.Path.{_≡_, refl, subst, sym, ap, _∙_}
-use mathlib.Core.Bool.{Bool, true, false, not, cond}
+use mathlib.Core.Bool.{Bool, true, false, cond}
 use mathlib.Core.List.{List, [], _∷_}
 use Prim.Native.Nat.{ℕ, suc, _+_, _-_, _*_, _≤_, _<_}
 use native.Mathlib.Omega.{arith}
-use lib.Dec.{leb, eqb}
-use borrow.Author.Tests.{le-leb, eq-eqb, ne-eqb}
+use lib.Dec.{leb}
+use borrow.Author.Tests.{le-leb}
 use Rattle.rules.specs.Engine.{Position, hasDetails}
-use Rattle.rules.specs.Written.{corrected, correctedCount}
 use Rattle.rules.specs.Calls.{refunded, collected}
 use Rattle.rules.specs.Area.{positionIn, decode}
 use Rattle.written.specs.Values.{positionOf}
@@ -23,30 +22,24 @@ refundOf p = refunded (p ∷ [])
 unfoldable pub collectionOf : Position → ℕ
 collectionOf p = collected (p ∷ [])
 
-unfoldable pub correctionsOf : Position → ℕ
-correctionsOf p = correctedCount (p ∷ [])
-
 -- r is s with what the position adds
 pub record Adds (p : Position) (s r : Sums) : Type 0 where
   pub refunded : r .refunded ≡ s .refunded + refundOf p
   pub collected : r .collected ≡ s .collected + collectionOf p
-  pub count : r .count ≡ s .count + correctionsOf p
 
 -- the sums of some positions, 32 of them at most
 pub record Totals (ps : List Position) (r : Sums) : Type 0 where
   pub refunded : r .refunded ≡ refunded ps
   pub collected : r .collected ≡ collected ps
-  pub count : r .count ≡ correctedCount ps
   pub small : r .refunded ≤ 9007199254740992
   pub little : r .collected ≤ 9007199254740992
-  pub few : r .count ≤ 32
 
 -- ---- one position
 
 module _ (p : Position) (s : Sums) where
   pub adds-nothing : p .detailed ≡ 0 → Adds p s s
-  unfolding refundOf collectionOf correctionsOf refunded collected correctedCount corrected hasDetails
-  adds-nothing e = record { refunded = rw e (omega arith); collected = rw e (omega arith); count = rw e (omega arith) }
+  unfolding refundOf collectionOf refunded collected hasDetails
+  adds-nothing e = record { refunded = rw e (omega arith); collected = rw e (omega arith) }
 
   module _ (h : p .detailed ≡ 0 → ⊥) where
     some : leb 1 (p .detailed) ≡ true
@@ -60,28 +53,8 @@ module _ (p : Position) (s : Sums) where
     unfolding collectionOf collected hasDetails
     collection-is = rw some (omega arith)
 
-    corrections-are : correctionsOf p ≡ cond (eqb (p .transferred) (p .detailed)) 0 1
-    unfolding correctionsOf correctedCount corrected hasDetails
-    corrections-are = rw some (go (eqb (p .transferred) (p .detailed)))
-      where
-        go : (t : Bool) → _≡_ {A = ℕ} (cond (not t) 1 0) (cond t 0 1)
-        go true = refl
-        go false = refl
-
-    pub adds-even : p .transferred ≡ p .detailed → Adds p s s
-    adds-even e = record {
-      refunded = omega (arith, refund-is);
-      collected = omega (arith, collection-is);
-      count = omega (arith, rw (eq-eqb (p .transferred) (p .detailed) e) at corrections-are);
-    }
-
-    pub adds-odd : (p .transferred ≡ p .detailed → ⊥) → {a b : ℕ} → a ≡ p .transferred - p .detailed → b ≡ p .detailed - p .transferred
-        → Adds p s (record { refunded = s .refunded + a; collected = s .collected + b; count = s .count + 1 })
-    adds-odd n u v = record {
-      refunded = omega (arith, refund-is);
-      collected = omega (arith, collection-is);
-      count = omega (arith, rw (ne-eqb (p .transferred) (p .detailed) n) at corrections-are);
-    }
+    pub adds-some : {a b : ℕ} → a ≡ p .transferred - p .detailed → b ≡ p .detailed - p .transferred → Adds p s (record { refunded = s .refunded + a; collected = s .collected + b })
+    adds-some u v = record { refunded = omega (arith, refund-is); collected = omega (arith, collection-is) }
 
 -- a position adds no more than its totals
 pub refund-small : (p : Position) → refundOf p ≤ p .transferred
@@ -100,14 +73,6 @@ collection-small p = go (leb 1 (p .detailed))
     go true = omega arith
     go false = omega arith
 
-pub corrections-small : (p : Position) → correctionsOf p ≤ 1
-unfolding correctionsOf correctedCount
-corrections-small p = go (corrected p)
-  where
-    go : (t : Bool) → cond t 1 0 ≤ 1
-    go true = omega arith
-    go false = omega arith
-
 -- ---- position by position
 
 -- what is left of the n positions, k from the place p on, completes the sums; each may still add 2 ^ 48
@@ -115,10 +80,8 @@ pub record SumsLeft (area : List ℕ) (p k n : ℕ) (s : Sums) : Type 0 where
   pub place : p + 24 * k ≡ 1552 + 24 * n
   pub refunded : s .refunded + refunded (positionsAt area p k) ≡ refunded (positionsAt area 1552 n)
   pub collected : s .collected + collected (positionsAt area p k) ≡ collected (positionsAt area 1552 n)
-  pub count : s .count + correctedCount (positionsAt area p k) ≡ correctedCount (positionsAt area 1552 n)
   pub small : s .refunded + 281474976710656 * k ≤ 281474976710656 * n
   pub little : s .collected + 281474976710656 * k ≤ 281474976710656 * n
-  pub few : s .count + k ≤ n
 
 module _ (p : Position) (ps : List Position) where
   refunded-first : refunded (p ∷ ps) ≡ refundOf p + refunded ps
@@ -137,16 +100,8 @@ module _ (p : Position) (ps : List Position) where
       go true = omega arith
       go false = omega arith
 
-  count-first : correctedCount (p ∷ ps) ≡ correctionsOf p + correctedCount ps
-  unfolding correctionsOf correctedCount
-  count-first = go (corrected p)
-    where
-      go : (t : Bool) → cond t (suc (correctedCount ps)) (correctedCount ps) ≡ cond t 1 0 + correctedCount ps
-      go true = omega arith
-      go false = omega arith
-
-pub sums-all : (area : List ℕ) (n : ℕ) → SumsLeft area 1552 n n (record { refunded = 0; collected = 0; count = 0 })
-sums-all area n = record { place = refl; refunded = omega arith; collected = omega arith; count = omega arith; small = omega arith; little = omega arith; few = omega arith }
+pub sums-all : (area : List ℕ) (n : ℕ) → SumsLeft area 1552 n n (record { refunded = 0; collected = 0 })
+sums-all area n = record { place = refl; refunded = omega arith; collected = omega arith; small = omega arith; little = omega arith }
 
 module _ (area : List ℕ) (p k n : ℕ) (s : Sums) (l : SumsLeft area p k n s) where
   pub sums-more : 0 < k → {q : W.Position} → PositionAt area p q → {r : Sums} → Adds (positionOf q) s r → SumsLeft area (p + 24) (k - 1) n r
@@ -158,27 +113,23 @@ module _ (area : List ℕ) (p k n : ℕ) (s : Sums) (l : SumsLeft area p k n s) 
         place = omega (arith, l .place);
         refunded = omega (arith, l .refunded, ap refunded e, refunded-first x xs, d .refunded);
         collected = omega (arith, l .collected, ap collected e, collected-first x xs, d .collected);
-        count = omega (arith, l .count, ap correctedCount e, count-first x xs, d .count);
         small = omega (arith, l .small, d .refunded, refund-small x, a .transferred);
         little = omega (arith, l .little, d .collected, collection-small x, a .detailed);
-        few = omega (arith, l .few, d .count, corrections-small x);
       }
 
   pub sums-end : k ≤ 0 → n ≤ 32 → Totals (positionsAt area 1552 n) s
-  unfolding refunded collected correctedCount
+  unfolding refunded collected
   sums-end h m =
       let e : positionsAt area p k ≡ [] = values-none positionIn area p k h in
       record {
         refunded = omega (arith, l .refunded, ap refunded e);
         collected = omega (arith, l .collected, ap collected e);
-        count = omega (arith, l .count, ap correctedCount e);
         small = omega (arith, l .small);
         little = omega (arith, l .little);
-        few = omega (arith, l .few);
       }
 
 -- the positions that stand in the area
 pub sums-stand : (area : List ℕ) (n : ℕ) (s : Sums) → Standing area n → Totals (positionsAt area 1552 n) s → Totals (decode area .positions) s
 sums-stand area n s a t = subst (λ (ps : List Position). Totals ps s) (sym (a .positions)) t
 
-pub ruleset summing = (adds-nothing, adds-even, adds-odd, sums-all, sums-more, sums-end, sums-stand)
+pub ruleset summing = (adds-nothing, adds-some, sums-all, sums-more, sums-end, sums-stand)

@@ -1,4 +1,4 @@
-// What a turn refunds and collects, and how many positions it corrects.
+// What a turn refunds and collects.
 use crate::positions::position_count;
 use engine::position_at;
 use written::Position;
@@ -12,11 +12,10 @@ ghost use Rattle.written.specs.Values.{positionOf};
 ghost use Rattle.engine.specs.Positions.{positionsAt};
 ghost use Rattle.outgoing.specs.Sums.{Adds, Totals};
 
-// The sum refunded, the sum collected, and the number of corrections.
+// The sum refunded and the sum collected.
 pub struct Sums {
     pub refunded: u64,
     pub collected: u64,
-    pub count: u32,
 }
 
 // What a is above b, 0 where it is not.
@@ -33,19 +32,14 @@ fn above(a: u64, b: u64) -> u64
 fn with_position(s: Sums, p: Position) -> Sums
     requires { ⌜ s .refunded + p .transferred < 18446744073709551616 ⌝ }
     requires { ⌜ s .collected + p .detailed < 18446744073709551616 ⌝ }
-    requires { ⌜ s .count < 32 ⌝ }
     ensures { λ r. ⌜ Adds (positionOf p) s r ⌝ }
 {
     if p.detailed == 0 {
         return s;
     }
-    if p.transferred == p.detailed {
-        return s;
-    }
     Sums {
         refunded: s.refunded + above(p.transferred, p.detailed),
         collected: s.collected + above(p.detailed, p.transferred),
-        count: s.count + 1,
     }
 }
 
@@ -58,7 +52,6 @@ fn sums_of(area: &[u8], n: usize) -> Sums
     let mut s = Sums {
         refunded: 0,
         collected: 0,
-        count: 0,
     };
     let mut p: usize = 1552;
     let mut k = n;

@@ -2,19 +2,23 @@
 use crate::positions::is_corrected;
 use crate::positions::position_count;
 use engine::position_at;
-use outgoing_number::next_number;
+use outgoing_number::Numbered;
+use outgoing_number::Outgoing;
+use outgoing_number::Reference;
+use outgoing_number::issue_at;
 use written::put_correction;
 use written::put_correction_posting;
 ghost use mathlib.Core.Path.{_≡_};
 ghost use mathlib.Core.Bool.{true};
-ghost use Prim.Native.Nat.{_+_, _*_, _≤_};
+ghost use Prim.Native.Nat.{_+_, _*_, _≤_, _<_};
 ghost use lib.ListN.{length};
 ghost use Rattle.rules.specs.Text.{isSome};
-ghost use Rattle.rules.specs.Written.{correctionPostings, corrections};
-ghost use Rattle.rules.specs.Calls.{turnText};
-ghost use Rattle.rules.specs.Area.{decode, holds};
+ghost use Rattle.rules.specs.Written.{correctionPostings};
+ghost use Rattle.rules.specs.Area.{holds};
 ghost use Rattle.laws.specs.Writing.{Wrote};
 ghost use Rattle.engine.specs.Positions.{positionsAt};
+ghost use Rattle.outgoing.specs.Turn.{Stands, Found, CorrectionPut, CorrectionsPut};
+ghost use Rattle.outgoing.specs.Area.{TurnPut};
 
 // The posting lines of the n positions, in their order.
 fn put_correction_postings(
@@ -45,44 +49,77 @@ fn put_correction_postings(
     o
 }
 
-// The messages of the n positions, each by the next number of the day.
-fn put_corrections(
-    out: &mut [u8],
-    at: usize,
-    day: u32,
-    temporary: &[u8],
-    area: &[u8],
-    n: usize,
-) -> usize
-    requires { ⌜ n ≤ 32 ⌝ }
-    requires { ⌜ 1552 + 24 * n ≤ length (now area) ⌝ }
-    ensures { λ r. ⌜ Wrote (corrections day (now (temporary .entry)) 0 (positionsAt (now (area .entry)) 1552 n)) at (now (out .entry)) r (now (out .exit)) ⌝ }
+// Where the messages of a turn have come to: the place in the output, that of the next position to correct, and how many positions there are from it on; where none is
+// to correct, none is left.
+pub struct Correcting {
+    pub out: usize,
+    pub at: u32,
+    pub left: u32,
+}
+
+// The first position to correct of some that are left from a place on.
+fn next_corrected(area: &[u8], out: usize, from: u32, left: u32) -> Correcting
+    requires { ⌜ left ≤ 32 ⌝ }
+    requires { ⌜ from + 24 * left ≤ 2320 ⌝ }
+    requires { ⌜ 2342 ≤ length (now area) ⌝ }
+    ensures { λ r. ⌜ Found (now (area .entry)) out from left r ⌝ }
 {
-    let mut o = at;
-    let mut p: usize = 1552;
-    let mut k = n;
-    let mut number: u32 = 0;
+    let mut p = from;
+    let mut k = left;
     while k > 0 {
-        let q = position_at(area, p);
-        if is_corrected(q) {
-            number = next_number(day, number);
-            o = put_correction(out, o, day, temporary, number, q);
-            p += 24;
-            k -= 1;
+        if is_corrected(position_at(area, p as usize)) {
+            return Correcting {
+                out,
+                at: p,
+                left: k,
+            };
         } else {
             p += 24;
             k -= 1;
         }
     }
-    o
+    Correcting {
+        out,
+        at: p,
+        left: 0,
+    }
+}
+
+// The message of the next position to correct, by the reference that was issued for it.
+fn put_next(out: &mut [u8], t: Correcting, r: Reference, area: &[u8]) -> Correcting
+    requires { ⌜ Stands (now area) t ⌝ }
+    requires { ⌜ 0 < t .left ⌝ }
+    ensures { λ x. ⌜ CorrectionPut (now (area .entry)) t r (now (out .entry)) x (now (out .exit)) ⌝ }
+{
+    let q = position_at(area, t.at as usize);
+    let o = put_correction(out, t.out, r.day, &area[2320..2342], r.number, q);
+    next_corrected(area, o, t.at + 24, t.left - 1)
+}
+
+// The messages of the positions to correct, each by the next reference of the day.
+fn put_corrections(out: &mut [u8], first: Correcting, day: u32, area: &[u8]) -> Numbered
+    requires { ⌜ Stands (now area) first ⌝ }
+    ensures { λ r. ⌜ CorrectionsPut day (now (area .entry)) first (now (out .entry)) r (now (out .exit)) ⌝ }
+{
+    let mut o = Outgoing { day, count: 0 };
+    let mut t = first;
+    while t.left > 0 {
+        let r = issue_at(o.day, &mut o.count);
+        t = put_next(out, t, r, area);
+    }
+    Numbered {
+        at: t.out,
+        count: o.count,
+    }
 }
 
 // The whole text of a turn to a day.
-pub fn put_turn_text(out: &mut [u8], at: usize, day: u32, area: &[u8]) -> usize
+pub fn put_turn_text(out: &mut [u8], at: usize, day: u32, area: &[u8]) -> Numbered
     requires { ⌜ isSome (holds (now area)) ≡ true ⌝ }
-    ensures { λ r. ⌜ Wrote (turnText (decode (now (area .entry))) day) at (now (out .entry)) r (now (out .exit)) ⌝ }
+    ensures { λ r. ⌜ TurnPut (now (area .entry)) day at (now (out .entry)) r (now (out .exit)) ⌝ }
 {
     let n = position_count(area);
     let a = put_correction_postings(out, at, day, &area[2320..2342], area, n);
-    put_corrections(out, a, day, &area[2320..2342], area, n)
+    let first = next_corrected(area, a, 1552, n as u32);
+    put_corrections(out, first, day, area)
 }

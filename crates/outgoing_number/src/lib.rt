@@ -1,7 +1,7 @@
 // "The outgoing number is one small record of day and count, stepped forward where it is kept; a message's reference is the day, `GA`, six digits from 000001."
 ghost use mathlib.Core.Path.{_≡_};
 ghost use Prim.Native.Nat.{_+_, _<_, _^_};
-ghost use Rattle.outgoing_number.specs.Issue.{Steps};
+ghost use Rattle.outgoing_number.specs.Issue.{Steps, Next};
 
 // The outgoing number: the day, and how many messages were numbered on it.
 pub struct Outgoing {
@@ -13,6 +13,12 @@ pub struct Outgoing {
 pub struct Reference {
     pub day: u32,
     pub number: u32,
+}
+
+// What numbered messages come to: the place behind the last of them, and the count then kept.
+pub struct Numbered {
+    pub at: usize,
+    pub count: u32,
 }
 
 // The next reference: the count is stepped forward where it is kept.
@@ -27,11 +33,14 @@ pub fn issue(o: &mut Outgoing) -> Reference
     }
 }
 
-// The number of the next message of a day on which `count` were numbered: all messages are numbered by this function.
-pub fn next_number(day: u32, count: u32) -> u32
-    requires { ⌜ count + 1 < 2 ^ 32 ⌝ }
-    ensures { λ r. ⌜ r ≡ count + 1 ⌝ }
+// The next reference of a day, whose count alone is lent.
+pub fn issue_at(day: u32, count: &mut u32) -> Reference
+    requires { ⌜ now count + 1 < 4294967296 ⌝ }
+    ensures { λ r. ⌜ Next day (now (count .entry)) r (now (count .exit)) ⌝ }
 {
-    let mut o = Outgoing { day, count };
-    issue(&mut o).number
+    *count = *count + 1;
+    Reference {
+        day,
+        number: *count,
+    }
 }

@@ -38,18 +38,18 @@ use Rattle.steps.specs.Records.{positionAt, transferred-at, detailed-at,
 
 -- ---- the engine then
 
--- the engine with a position booked, a reference accepted, and the outgoing number stepped forward
+-- the engine with a position booked, a reference accepted, and the outgoing number at a count
 unfoldable pub bookedWith : Engine → Position → Reference → ℕ → Engine
-bookedWith e q r written = record {
+bookedWith e q r count = record {
   register = e .register;
   day = e .day;
   positions = booked q (e .positions);
   references = filed r (e .references);
-  count = e .count + written;
+  count = count;
 }
 
 -- with a message's own parts it is the engine after the message
-pub booked-after : (e : Engine) (m : Message) → bookedWith e (added m) (ownReference m) (writes e m) ≡ afterMessage e m
+pub booked-after : (e : Engine) (m : Message) → bookedWith e (added m) (ownReference m) (e .count + writes e m) ≡ afterMessage e m
 unfolding bookedWith afterMessage
 booked-after e m = refl
 
@@ -171,7 +171,7 @@ pub reference-wide : (r : Reference) → length (r .text) ≤ 16 → length (ref
 unfolding referenceRecord
 reference-wide r h = rw (length-append, places-length, padded-length 16 (r .text) h)
 
-module _ (a : List ℕ) (x : Numbers) (q : Position) (bank : ℕ) (text : List ℕ) (from to written : ℕ) (h : isSome (holds a) ≡ true) (n : NumbersOf a x) (g : Booking (decode a) q) where
+module _ (a : List ℕ) (x : Numbers) (q : Position) (bank : ℕ) (text : List ℕ) (from to count : ℕ) (h : isSome (holds a) ≡ true) (n : NumbersOf a x) (g : Booking (decode a) q) where
   module _ {i : ℕ} (f : FiledAt (reference bank (cut text from to)) (decode a .references) i) {k : ℕ} {b : List ℕ} (p : Positions (booked q (decode a .positions)) a k b) where
     -- there is room for the reference
     pub file-fits : Opens 16 24 (x .references) i (length b)
@@ -180,7 +180,7 @@ module _ (a : List ℕ) (x : Numbers) (q : Position) (bank : ℕ) (text : List �
         opens 16 24 (x .references) i (length b) (omega (arith, f .within, n .references)) (omega (arith, g .today, n .references, n .long, l))
 
     pub book-done : {z : ℕ} {c d : List ℕ} → to ≤ length text → to - from ≤ 16 → Files (x .references) i (reference bank (cut text from to)) b c
-        → Wrote (numbers (x .day) (x .count + written) k (x .references + 1)) 0 c z d → d ≡ encode (bookedWith (decode a) q (reference bank (cut text from to)) written) ++ drop 6144 a
+        → Wrote (numbers (x .day) count k (x .references + 1)) 0 c z d → d ≡ encode (bookedWith (decode a) q (reference bank (cut text from to)) count) ++ drop 6144 a
     unfolding bookedWith referencePart
     book-done {z} {c} {d} j m u w =
         let r : Reference = reference bank (cut text from to) in
@@ -199,5 +199,5 @@ module _ (a : List ℕ) (x : Numbers) (q : Position) (bank : ℕ) (text : List �
         section-inserted referenceRecord 1536 rs (references-each H) (omega (arith, g .today)) o i r (reference-wide r s) (f .within) (omega (arith, g .today)) up (u .wrote) in
         let l : length (filed r rs) ≡ length rs + 1 = filed-length r rs in
         let wide : Each 24 (map referenceRecord (filed r rs)) = rw (f .place, map-inserted) (each-inserted i (referenceRecord r) (references-each H) (reference-wide r s)) in
-        let fits : Fits (bookedWith e q r written) = record { few = g .few; today = omega (arith, g .today, l); wide = wide } in
-        assembled (bookedWith e q r written) H refl fits (p .bytes) (rw (f .place) v) (rw (n .day, n .count, n .references, p .count, ← l) at w)
+        let fits : Fits (bookedWith e q r count) = record { few = g .few; today = omega (arith, g .today, l); wide = wide } in
+        assembled (bookedWith e q r count) H refl fits (p .bytes) (rw (f .place) v) (rw (n .day, n .references, p .count, ← l) at w)

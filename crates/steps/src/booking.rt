@@ -74,7 +74,7 @@ fn book_position(
     n + 1
 }
 
-// A bank's message of a date booked: what it adds to both totals, its reference, the bytes of s from a up to b, and how many messages it writes.
+// A bank's message of a date booked: what it adds to both totals, its reference, the bytes of s from a up to b, and the outgoing count behind it.
 pub fn book_area(
     area: &mut [u8],
     s: &[u8],
@@ -84,7 +84,7 @@ pub fn book_area(
     date: u32,
     transferred: u64,
     detailed: u64,
-    written: u32,
+    count: u32,
 )
     requires { ⌜ isSome (holds (now area)) ≡ true ⌝ }
     requires { ⌜ Booking (decode (now area)) (position bank date transferred detailed) ⌝ }
@@ -92,11 +92,10 @@ pub fn book_area(
     requires { ⌜ b ≤ length (now s) ⌝ }
     requires { ⌜ b - a ≤ 16 ⌝ }
     requires { ⌜ every isText (cut (now s) a b) ≡ true ⌝ }
-    ensures { λ _. ⌜ now (area .exit) ≡ encode (bookedWith (decode (now (area .entry))) (position bank date transferred detailed) (reference bank (cut (now (s .entry)) a b)) written) ++ drop 6144 (now (area .entry)) ⌝ }
+    ensures { λ _. ⌜ now (area .exit) ≡ encode (bookedWith (decode (now (area .entry))) (position bank date transferred detailed) (reference bank (cut (now (s .entry)) a b)) count) ++ drop 6144 (now (area .entry)) ⌝ }
 {
     let x = numbers_of(area);
     let n = x.references as u32;
-    let count = x.count + written as u64;
     let i = reference_place(area, n, bank, s, a, b);
     let k = book_position(
         area,
@@ -107,5 +106,5 @@ pub fn book_area(
         detailed,
     );
     file_reference(area, n, i, bank, s, a, b);
-    put_numbers(area, x.day, count, k as u64, x.references + 1);
+    put_numbers(area, x.day, count as u64, k as u64, x.references + 1);
 }

@@ -58,7 +58,7 @@ fn try_turn() {
 fn try_only_part() {
     let mut out = [0u8; 256];
     let bank = text::read_be(b"AAAABGSF", 0, 8);
-    let a = written::put_opened199(&mut out, 0, 60302, 0, 1, bank, 1);
+    let a = written::put_opened199(&mut out, 0, 60302, 1, 1, bank, 1);
     let b = written::put_position79(&mut out, a, 60302, 10000, 11400);
     let c = written::put_closed79(&mut out, b, 1, 1);
     say(&out, c);
@@ -68,7 +68,7 @@ fn try_only_part() {
 fn try_second_part() {
     let mut out = [0u8; 256];
     let bank = text::read_be(b"FBBMXFIK", 0, 8);
-    let a = written::put_opened199(&mut out, 0, 51108, 2, 4, bank, 2);
+    let a = written::put_opened199(&mut out, 0, 51108, 3, 4, bank, 2);
     let b = written::put_position79(&mut out, a, 51108, 0, 39876122005479);
     let c = written::put_closed79(&mut out, b, 2, 2);
     say(&out, c);

@@ -31,6 +31,7 @@ unfolding linked
 linked-first day n part h k = wrote-beyond (field (ascii ":21:") (reference day (n + 1))) [] 2 part h (wrote-nothing k)
 
 -- every other part has part 1's reference in it
-pub linked-later : (day n part : ℕ) {at r : ℕ} {out out' : List ℕ} → 2 ≤ part → Wrote (field (ascii ":21:") (reference day (n + 1))) at out r out' → Wrote (linked day n part) at out r out'
+pub linked-later : (day first part : ℕ) {at r : ℕ} {out out' : List ℕ} → 0 < first → 2 ≤ part → Wrote (field (ascii ":21:") (reference day first)) at out r out' → Wrote (linked day (first - 1) part) at out r out'
 unfolding linked
-linked-later day n part h w = wrote-within (field (ascii ":21:") (reference day (n + 1))) [] 2 part h w
+linked-later day first part f h w =
+    let e : first - 1 + 1 ≡ first = omega arith in wrote-within (field (ascii ":21:") (reference day (first - 1 + 1))) [] 2 part h (rw e w)

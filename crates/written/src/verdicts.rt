@@ -4,39 +4,39 @@ use crate::fields::put_date_field;
 use crate::fields::put_opened;
 use crate::fields::put_reference_field;
 ghost use mathlib.Core.List.{[], _++_};
-ghost use Prim.Native.Nat.{_+_, _<_};
+ghost use Prim.Native.Nat.{_-_, _<_};
 ghost use Rattle.rules.specs.Text.{ascii};
 ghost use Rattle.rules.specs.Amounts.{withComma};
 ghost use Rattle.rules.specs.Written.{reference, opened, field, size, linked, position79, closed79};
 ghost use Rattle.laws.specs.Writing.{Wrote};
 
-// Field 21, from part 2 on: part 1's reference. n is the number before part 1's.
-fn put_linked(out: &mut [u8], at: usize, day: u32, n: u32, part: u32) -> usize
-    requires { ⌜ n + 1 < 4294967296 ⌝ }
-    ensures { λ r. ⌜ Wrote (linked day n part) at (now (out .entry)) r (now (out .exit)) ⌝ }
+// Field 21, from part 2 on: part 1's reference, by its number.
+fn put_linked(out: &mut [u8], at: usize, day: u32, first: u32, part: u32) -> usize
+    requires { ⌜ 0 < first ⌝ }
+    ensures { λ r. ⌜ Wrote (linked day (first - 1) part) at (now (out .entry)) r (now (out .exit)) ⌝ }
 {
     if part < 2 {
         return at;
     }
-    put_reference_field(out, at, b":21:", day, n + 1)
+    put_reference_field(out, at, b":21:", day, first)
 }
 
-// First line, field 20 with the part's own number, and field 21.
+// First line, field 20 with the part's own number, and field 21 with that of part 1.
 pub fn put_opened199(
     out: &mut [u8],
     at: usize,
     day: u32,
-    n: u32,
+    first: u32,
     number: u32,
     bank: u64,
     part: u32,
 ) -> usize
-    requires { ⌜ n + 1 < 4294967296 ⌝ }
-    ensures { λ r. ⌜ Wrote (opened (ascii "199") bank ++ field (ascii ":20:") (reference day number) ++ linked day n part) at (now (out .entry)) r (now (out .exit)) ⌝ }
+    requires { ⌜ 0 < first ⌝ }
+    ensures { λ r. ⌜ Wrote (opened (ascii "199") bank ++ field (ascii ":20:") (reference day number) ++ linked day (first - 1) part) at (now (out .entry)) r (now (out .exit)) ⌝ }
 {
     let a = put_opened(out, at, b"199", bank);
     let b = put_reference_field(out, a, b":20:", day, number);
-    put_linked(out, b, day, n, part)
+    put_linked(out, b, day, first, part)
 }
 
 // The row of the size of the difference.

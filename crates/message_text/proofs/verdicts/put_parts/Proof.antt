@@ -1,36 +1,25 @@
--- The loop's invariant: the parts from `part` on, for the returned of the details from q on, are left to write. Assumes nothing.
-use mathlib.Core.Path.{_≡_}
-use Prim.Native.Nat.{_+_, _-_, _≤_}
-use native.Mathlib.Omega.{arith}
-use Rattle.rules.specs.Written.{mt199s}
-use Rattle.laws.specs.Writing.{Left}
-use Rattle.detail_lines.specs.Returned.{returnedAt}
-use Rattle.written.specs.Values.{positionOf}
+-- The loop's invariant: by the outgoing number as it is kept, the parts from t on are left to write. Assumes nothing.
 use borrow.Author.Needs.{needs}
-use Rattle.message_text.specs.Parts.{parts-start, parting}
+use Rattle.message_text.specs.Parts.{PartsLeft, parts-start, parting}
+use Rattle.written.specs.Values.{positionOf}
+use native.Mathlib.Omega.{arith}
 use Rattle.message_text.proofs.verdicts.put_parts.Statement.{statement}
 use Rattle.message_text.proofs.verdicts.put_parts.Tie as tie
 
 abbrev Inv-loop : tie.InvT-loop
-Inv-loop out₀ at day numbered p parts s amounts places verdicts n o₀ part₀ left₀ number₀ q₀ out o part left number q = (q ≤ n) × (part + left ≡ parts + 1) × (number + 1 ≡ numbered + part) × Left (mt199s left day numbered (positionOf p) part parts (returnedAt s verdicts q (n - q))) o out (mt199s parts day numbered (positionOf p) 1 parts (returnedAt s verdicts 0 n)) at out₀
+Inv-loop out₀ at day count p parts s amounts places verdicts n o₀ t₀ out o t = PartsLeft day count (positionOf p) parts s verdicts n at out₀ o t out
 
 abbrev μ-loop : tie.MeasureT-loop
-μ-loop out₀ at day numbered p parts s amounts places verdicts n o₀ part₀ left₀ number₀ q₀ out o part left number q = left
+μ-loop out₀ at day count p parts s amounts places verdicts n o₀ t₀ out o t = t .left
 
 loop-holds : tie.Need-loop-holds Inv-loop μ-loop
-loop-holds c = (omega arith, omega arith, omega arith, parts-start _ _ _ _ _ _ _ _ _ (omega arith))
+loop-holds c = parts-start _ _ _ _ _ _ _ _ _ (search needs) (search needs) (omega arith)
 
-next-number-requires : tie.Need-next-number-requires Inv-loop μ-loop
-next-number-requires c κs = search (parting, needs)
+issue-at-requires : tie.Need-issue-at-requires Inv-loop μ-loop
+issue-at-requires c κs = search (parting, needs)
 
-put-mt199-requires : tie.Need-put-mt199-requires Inv-loop μ-loop
-put-mt199-requires c κs = (search needs, (search needs, (search needs, search needs)))
-
-add-part : tie.Need-add-part Inv-loop μ-loop
-add-part c = search (parting, needs)
-
-sub-left : tie.Need-sub-left Inv-loop μ-loop
-sub-left c = search (parting, needs)
+put-part-requires : tie.Need-put-part-requires Inv-loop μ-loop
+put-part-requires c κs = search (parting, needs)
 
 loop-less : tie.Need-loop-less Inv-loop μ-loop
 loop-less c = search (parting, needs)
@@ -51,10 +40,8 @@ put-parts-spec =
     Inv-loop
     μ-loop
     loop-holds
-    next-number-requires
-    put-mt199-requires
-    add-part
-    sub-left
+    issue-at-requires
+    put-part-requires
     loop-less
     loop-again
     same-length

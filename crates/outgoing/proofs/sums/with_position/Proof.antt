@@ -1,4 +1,4 @@
--- `outgoing::sums::with_position` meets its contract: a position with no details, or with even totals, adds nothing; every other adds its difference. Assumes nothing.
+-- `outgoing::sums::with_position` meets its contract: a position with no details adds nothing, every other its difference. Assumes nothing.
 use borrow.Author.Needs.{needs}
 use Rattle.outgoing.specs.Sums.{summing}
 use Rattle.outgoing.proofs.sums.with_position.Statement.{statement}
@@ -6,9 +6,6 @@ use Rattle.outgoing.proofs.sums.with_position.Tie as tie
 
 returns : tie.Need-returns
 returns c = search (summing, needs)
-
-returns-2 : tie.Need-returns-2
-returns-2 c = search (summing, needs)
 
 above-requires : tie.Need-above-requires
 above-requires c κs = search (summing, needs)
@@ -22,13 +19,9 @@ above-requires-2 c κs = search (summing, needs)
 add-t7 : tie.Need-add-t7
 add-t7 c = search (summing, needs)
 
-add-t8 : tie.Need-add-t8
-add-t8 c = search (summing, needs)
-
-returns-3 : tie.Need-returns-3
-returns-3 c = search (summing, needs)
+returns-2 : tie.Need-returns-2
+returns-2 c = search (summing, needs)
 
 pub with-position-spec : {M : Type 1} → statement M
 with-position-spec =
-    tie.close
-    (tie.spec returns returns-2 above-requires add-t5 above-requires-2 add-t7 add-t8 returns-3)
+    tie.close (tie.spec returns above-requires add-t5 above-requires-2 add-t7 returns-2)

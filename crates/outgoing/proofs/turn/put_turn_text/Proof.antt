@@ -1,6 +1,6 @@
--- `outgoing::turn::put_turn_text` meets its contract: posting lines, then messages, of the positions that stand in the area. Assumes nothing.
-use borrow.Author.Needs.{needs}
+-- Posting lines, then messages, of the positions that stand in the area. Assumes nothing.
 use Rattle.outgoing.specs.Area.{turn-wrote}
+use borrow.Author.Needs.{needs}
 use Rattle.outgoing.proofs.turn.put_turn_text.Statement.{statement}
 use Rattle.outgoing.proofs.turn.put_turn_text.Tie as tie
 
@@ -19,14 +19,11 @@ part-put-correction-postings-end c = search needs
 put-correction-postings-requires : tie.Need-put-correction-postings-requires
 put-correction-postings-requires c κs = search needs
 
-sub-put-corrections : tie.Need-sub-put-corrections
-sub-put-corrections c = search needs
+cast-next-corrected : tie.Need-cast-next-corrected
+cast-next-corrected c = search needs
 
-part-put-corrections-start : tie.Need-part-put-corrections-start
-part-put-corrections-start c = search needs
-
-part-put-corrections-end : tie.Need-part-put-corrections-end
-part-put-corrections-end c = search needs
+next-corrected-requires : tie.Need-next-corrected-requires
+next-corrected-requires c κs = search needs
 
 put-corrections-requires : tie.Need-put-corrections-requires
 put-corrections-requires c κs = search needs
@@ -46,9 +43,8 @@ put-turn-text-spec =
     part-put-correction-postings-start
     part-put-correction-postings-end
     put-correction-postings-requires
-    sub-put-corrections
-    part-put-corrections-start
-    part-put-corrections-end
+    cast-next-corrected
+    next-corrected-requires
     put-corrections-requires
     same-length
     returns)

@@ -11,9 +11,6 @@ numbers-of-requires c κs = search (booking, needs)
 cast-n : tie.Need-cast-n
 cast-n c = search (booking, needs)
 
-add-count : tie.Need-add-count
-add-count c = search (booking, needs)
-
 reference-place-requires : tie.Need-reference-place-requires
 reference-place-requires c κs = search (booking, needs)
 
@@ -24,7 +21,7 @@ book-position-requires : tie.Need-book-position-requires
 book-position-requires c κs = search (booking, needs)
 
 file-reference-requires : tie.Need-file-reference-requires
-file-reference-requires c κs = let p = (c .before .before .before .before .before .before .before .before .before .before .before .before .before .before .pre) in ((c .before .before .before .before .before .before .before .before .before .before .numbers-of .ensures .today), (file-fits _ _ _ _ _ _ _ 0 (p .0) (c .before .before .before .before .before .before .before .before .before .before .numbers-of .ensures) (p .1 .0) (c .before .before .before .before .before .before .reference-place .ensures) (c .before .before .before .book-position .ensures), (p .1 .1 .0, (p .1 .1 .1 .0, p .1 .1 .1 .1 .0))))
+file-reference-requires c κs = let p = (c .before .before .before .before .before .before .before .before .before .before .before .before .before .pre) in ((c .before .before .before .before .before .before .before .before .before .numbers-of .ensures .today), (file-fits _ _ _ _ _ _ _ 0 (p .0) (c .before .before .before .before .before .before .before .before .before .numbers-of .ensures) (p .1 .0) (c .before .before .before .before .before .before .reference-place .ensures) (c .before .before .before .book-position .ensures), (p .1 .1 .0, (p .1 .1 .1 .0, p .1 .1 .1 .1 .0))))
 
 cast-put-numbers : tie.Need-cast-put-numbers
 cast-put-numbers c = search (booking, needs)
@@ -39,7 +36,7 @@ same-length : tie.Need-same-length
 same-length c = search (booking, needs)
 
 returns : tie.Need-returns
-returns c = let p = (c .before .before .before .before .before .before .before .before .before .before .before .before .before .before .before .before .before .before .before .before .before .before .pre) in book-done _ _ _ _ _ _ _ _ (p .0) (c .before .before .before .before .before .before .before .before .before .before .before .before .before .before .before .before .before .before .numbers-of .ensures) (p .1 .0) (c .before .before .before .before .before .before .before .before .before .before .before .before .before .before .reference-place .ensures) (c .before .before .before .before .before .before .before .before .before .before .before .book-position .ensures) (p .1 .1 .1 .0) (p .1 .1 .1 .1 .0) (c .before .before .before .before .before .before .before .file-reference .ensures) (c .before .before .put-numbers .ensures)
+returns c = let p = (c .before .before .before .before .before .before .before .before .before .before .before .before .before .before .before .before .before .before .before .before .before .pre) in book-done _ _ _ _ _ _ _ _ (p .0) (c .before .before .before .before .before .before .before .before .before .before .before .before .before .before .before .before .before .numbers-of .ensures) (p .1 .0) (c .before .before .before .before .before .before .before .before .before .before .before .before .before .before .reference-place .ensures) (c .before .before .before .before .before .before .before .before .before .before .before .book-position .ensures) (p .1 .1 .1 .0) (p .1 .1 .1 .1 .0) (c .before .before .before .before .before .before .before .file-reference .ensures) (c .before .before .put-numbers .ensures)
 
 pub book-area-spec : {M : Type 1} → statement M
 book-area-spec =
@@ -47,7 +44,6 @@ book-area-spec =
     (tie.spec
     numbers-of-requires
     cast-n
-    add-count
     reference-place-requires
     cast-book-position
     book-position-requires

@@ -11,9 +11,6 @@ returns c = linked-first _ _ _ (omega arith) (search needs)
 slice-aggregate-put-reference-field : tie.Need-slice-aggregate-put-reference-field
 slice-aggregate-put-reference-field c = search needs
 
-add-put-reference-field : tie.Need-add-put-reference-field
-add-put-reference-field c = search needs
-
 put-reference-field-requires : tie.Need-put-reference-field-requires
 put-reference-field-requires c κs = search needs
 
@@ -21,7 +18,7 @@ same-length : tie.Need-same-length
 same-length c = search needs
 
 returns-2 : tie.Need-returns-2
-returns-2 c = linked-later _ _ _ (omega arith) (c .before .before .put-reference-field .ensures)
+returns-2 c = linked-later _ _ _ (search needs) (omega arith) (c .before .before .put-reference-field .ensures)
 
 pub put-linked-spec : {M : Type 1} → statement M
 put-linked-spec =
@@ -29,7 +26,6 @@ put-linked-spec =
     (tie.spec
     returns
     slice-aggregate-put-reference-field
-    add-put-reference-field
     put-reference-field-requires
     same-length
     returns-2)

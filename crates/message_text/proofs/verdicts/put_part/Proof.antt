@@ -1,0 +1,51 @@
+-- The part's four groups of rows in their order, by the reference issued for it. Assumes nothing.
+use native.Mathlib.Omega.{arith}
+use Rattle.message_text.specs.Parts.{part-wrote, parting}
+use borrow.Author.Needs.{needs}
+use Rattle.message_text.proofs.verdicts.put_part.Statement.{statement}
+use Rattle.message_text.proofs.verdicts.put_part.Tie as tie
+
+sub-part : tie.Need-sub-part
+sub-part c = search (parting, needs)
+
+add-part : tie.Need-add-part
+add-part c = search (parting, needs)
+
+first-number-requires : tie.Need-first-number-requires
+first-number-requires c κs = search (parting, needs)
+
+put-opened199-requires : tie.Need-put-opened199-requires
+put-opened199-requires c κs = search (parting, needs)
+
+put-position79-requires : tie.Need-put-position79-requires
+put-position79-requires c κs = search (parting, needs)
+
+put-returned-requires : tie.Need-put-returned-requires
+put-returned-requires c κs = search (parting, needs)
+
+put-closed79-requires : tie.Need-put-closed79-requires
+put-closed79-requires c κs = search (parting, needs)
+
+sub-t17 : tie.Need-sub-t17
+sub-t17 c = omega (arith, (c .before .before .before .before .before .before .before .before .before .before .before .before .before .before .before .before .before .before .before .before .before .pre .0 .some))
+
+same-length : tie.Need-same-length
+same-length c = search (parting, needs)
+
+returns : tie.Need-returns
+returns c = part-wrote _ _ _ _ _ _ _ ((c .before .before .before .before .before .before .before .before .before .before .before .before .before .before .before .before .before .before .before .before .before .pre .0)) ((c .before .before .before .before .before .before .before .before .before .before .before .before .before .before .before .before .before .first-number .ensures)) ((c .before .before .before .before .before .before .before .before .before .before .before .before .before .before .before .put-opened199 .ensures)) ((c .before .before .before .before .before .before .before .before .before .before .before .put-position79 .ensures)) ((c .before .before .before .before .before .before .before .put-returned .ensures)) ((c .before .before .before .put-closed79 .ensures))
+
+pub put-part-spec : {M : Type 1} → statement M
+put-part-spec =
+    tie.close
+    (tie.spec
+    sub-part
+    add-part
+    first-number-requires
+    put-opened199-requires
+    put-position79-requires
+    put-returned-requires
+    put-closed79-requires
+    sub-t17
+    same-length
+    returns)

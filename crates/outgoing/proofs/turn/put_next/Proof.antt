@@ -1,0 +1,54 @@
+-- The position's message, and the search for the next behind it. Assumes nothing.
+use Rattle.outgoing.specs.Turn.{turning}
+use borrow.Author.Needs.{needs}
+use Rattle.outgoing.proofs.turn.put_next.Statement.{statement}
+use Rattle.outgoing.proofs.turn.put_next.Tie as tie
+
+cast-position-at : tie.Need-cast-position-at
+cast-position-at c = search (turning, needs)
+
+position-at-requires : tie.Need-position-at-requires
+position-at-requires c κs = search (turning, needs)
+
+sub-put-correction : tie.Need-sub-put-correction
+sub-put-correction c = search (turning, needs)
+
+part-put-correction-start : tie.Need-part-put-correction-start
+part-put-correction-start c = search (turning, needs)
+
+part-put-correction-end : tie.Need-part-put-correction-end
+part-put-correction-end c = search (turning, needs)
+
+put-correction-requires : tie.Need-put-correction-requires
+put-correction-requires c κs = search (turning, needs)
+
+add-next-corrected : tie.Need-add-next-corrected
+add-next-corrected c = search (turning, needs)
+
+sub-next-corrected : tie.Need-sub-next-corrected
+sub-next-corrected c = search (turning, needs)
+
+next-corrected-requires : tie.Need-next-corrected-requires
+next-corrected-requires c κs = search (turning, needs)
+
+same-length : tie.Need-same-length
+same-length c = search (turning, needs)
+
+returns : tie.Need-returns
+returns c = search (turning, needs)
+
+pub put-next-spec : {M : Type 1} → statement M
+put-next-spec =
+    tie.close
+    (tie.spec
+    cast-position-at
+    position-at-requires
+    sub-put-correction
+    part-put-correction-start
+    part-put-correction-end
+    put-correction-requires
+    add-next-corrected
+    sub-next-corrected
+    next-corrected-requires
+    same-length
+    returns)
