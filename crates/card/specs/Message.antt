@@ -22,13 +22,12 @@ use Rattle.laws.specs.Writing.{wrote-over, furthest}
 use Rattle.area.specs.Facts.{Passed, passed}
 use Rattle.area.specs.Held.{held}
 use Rattle.engine.specs.Find.{TotalsOf}
-use Rattle.engine.specs.Held.{RegisterEnd}
+use Rattle.engine.specs.Texts.{RegisterOf}
 use Rattle.engine.specs.declared.find.Totals.{Totals}
 use Rattle.steps.specs.Booking.{Booking as CanBook, booking-clear, bookedWith, booked-after}
 use Rattle.steps.specs.Filing.{reference}
 use Rattle.steps.specs.Places.{position}
 use Rattle.outgoing_number.specs.declared.Numbered.{Numbered}
-use Rattle.outgoing.specs.Area.{standing}
 use Rattle.details.specs.Message.{messageIn}
 use Rattle.details.specs.Kept.{Room}
 use Rattle.conditions.specs.Books.{Books, amountIf}
@@ -39,7 +38,7 @@ use Rattle.conditions.specs.declared.message.Checked.the-variants.{Refused}
 use Rattle.verdict.specs.Details.{VerdictsIn, JudgedIn}
 use Rattle.state.specs.Stops.{limitStops}
 use Rattle.detail_lines.specs.Returned.{ReturnedCount}
-use Rattle.message_text.specs.Message.{text-here, text-passes, AfterOf, amount-part, after-is, WritesOf, Writes, writes-told, TextPut}
+use Rattle.message_text.specs.Message.{AfterOf, amount-part, after-is, WritesOf, Writes, writes-told, TextPut}
 use Rattle.written.specs.Values.{positionOf}
 use Rattle.written.specs.declared.Position as W
 use Rattle.card.specs.Answers.{Answers}
@@ -140,8 +139,8 @@ leaves-told a s b k x y p q = record {
 }
 
 -- the register's own text
-pub judged-told : (a s : List ℕ) (e : ℕ) → RegisterEnd a e → {verdicts : List ℕ} {n : ℕ} → VerdictsIn (take (e - 2320) (drop 2320 a)) s verdicts n → VerdictsIn (decode a .register) s verdicts n
-judged-told a s e r v = rw (← text-here a e r) v
+pub judged-told : (a s t : List ℕ) → RegisterOf a t → {verdicts : List ℕ} {n : ℕ} → VerdictsIn t s verdicts n → VerdictsIn (decode a .register) s verdicts n
+judged-told a s t r v = rw (r .same) at v
 
 module _ (s area : List ℕ) (h : isSome (holds area) ≡ true) (b : Booking) {amounts places : List ℕ} (k : Passes (temporaryOf (decode area)) s b amounts places) (p : W.Position) (q : Leaves area s p) (z : 0 ≡ firstOf (limitStops (decode area) (messageIn s))) where
   pub ready : {verdicts : List ℕ} → VerdictsIn (decode area .register) s verdicts (b .count) → {n : ℕ} → ReturnedCount verdicts (b .count) n → {parts : ℕ} → WritesOf b p n parts → Ready s area b p parts amounts places verdicts
@@ -215,9 +214,9 @@ text-fits out w m f = size-fits w (length out) m f
 
 -- ---- the ways out of a message to an area that holds an engine
 
--- the temporary account, where it stands
-pub check-told : (s area : List ℕ) (r : Checked) {amounts places : List ℕ} → isSome (holds area) ≡ true → CheckedAs (take 22 (drop 2320 area)) s r amounts places → CheckedAs (temporaryOf (decode area)) s r amounts places
-check-told s area r h c = rw (standing area h (getD area 7 0) refl .temporary) c
+-- by the engine's temporary account
+pub check-told : (s area t : List ℕ) (r : Checked) {amounts places : List ℕ} → t ≡ temporaryOf (decode area) → CheckedAs t s r amounts places → CheckedAs (temporaryOf (decode area)) s r amounts places
+check-told s area t r e c = rw e at c
 
 pub checked-refused : (s area : List ℕ) → isSome (holds area) ≡ true → (r : Checked) {amounts places : List ℕ} → CheckedAs (temporaryOf (decode area)) s r amounts places → (out : List ℕ) (k : ℕ) → r ≡ Refused k → Answers (cardMessage s area out) k 0 (pos 0) area out
 checked-refused s area h r {amounts} {places} c out k e =
@@ -231,4 +230,4 @@ room-made = record { amounts-size = refl; places-size = refl }
 pub message-no-engine : (s area out : List ℕ) (t : Bool) → t ≡ isSome (holds area) → t ≡ false → Answers (cardMessage s area out) 10 0 (pos 0) area out
 message-no-engine s area out t u d = message-engine s area out (sym u ∙ d)
 
-pub ruleset sending = (held-told, measured, text-passes, judged-told, leaves-told, ready, booking-of, booked-done, sent-done, sent-state, sent-room, sent-made, state-none, text-fits, room-made, check-told, checked-refused, passed-told, message-no-engine)
+pub ruleset sending = (held-told, measured, judged-told, leaves-told, ready, booking-of, booked-done, sent-done, sent-state, sent-room, sent-made, state-none, text-fits, room-made, check-told, checked-refused, passed-told, message-no-engine)

@@ -22,8 +22,8 @@ use Rattle.outgoing.specs.Area.{TurnPut}
 use Rattle.outgoing.specs.Sums.{Totals}
 use Rattle.outgoing.specs.declared.sums.Sums.{Sums}
 use Rattle.steps.specs.Turning.{turned, turned-after}
-use Rattle.steps.specs.Numbers.{NumbersOf}
-use Rattle.steps.specs.declared.parts.Numbers.{Numbers}
+use Rattle.engine.specs.Header.{HeaderOf}
+use Rattle.engine.specs.declared.header.Header.{Header}
 use Rattle.card.specs.Held.{held-decode, wrote-exact, Measured, measured, size-long, size-fits}
 use Rattle.card.specs.Answers.{Answers}
 use Rattle.card.specs.Minus.{difference-small}
@@ -94,7 +94,7 @@ module _ (day : ℕ) (area out : List ℕ) (h : isSome (holds area) ≡ true) wh
     pub turn-refused-day : t ≡ false → Answers (cardTurn day area out) 3 0 (pos 0) area out
     turn-refused-day d = turn-day day area out (decode area) engine (sym u ∙ d)
 
-    module _ (d : t ≡ true) (x : Numbers) (n : NumbersOf area x) where
+    module _ (d : t ≡ true) (x : Header) (n : HeaderOf area x) where
       pub turn-refused-early : day ≤ x .day → Answers (cardTurn day area out) 11 0 (pos 0) area out
       turn-refused-early l = turn-early day area out (decode area) engine (sym u ∙ d) (rw (n .day) at l)
 

@@ -26,7 +26,7 @@ fn check_in(message: &[u8], area: &[u8], amounts: &mut [u64; 16], places: &mut [
     requires { ⌜ Room (now amounts) (now places) ⌝ }
     ensures { λ r. ⌜ CheckedAs (temporaryOf (decode (now (area .entry)))) (now (message .entry)) r (now (amounts .exit)) (now (places .exit)) ⌝ }
 {
-    conditions::check_message(message, &area[2320..2342], amounts, places)
+    conditions::check_message(message, engine::temporary(area), amounts, places)
 }
 
 // The verdicts of the message's n details, by the register of the engine that the area holds.
@@ -36,8 +36,7 @@ fn judge_in(message: &[u8], area: &[u8], places: &[u16; 96], n: u32, verdicts: &
     requires { ⌜ length (now verdicts) ≡ 16 ⌝ }
     ensures { λ _. ⌜ VerdictsIn (decode (now (area .entry)) .register) (now (message .entry)) (now (verdicts .exit)) n ⌝ }
 {
-    let end = engine::register_end(area);
-    verdict::judge_details(&area[2320..end], message, places, n, verdicts);
+    verdict::judge_details(engine::register_text(area), message, places, n, verdicts);
 }
 
 // How many bytes the message makes the card write.

@@ -55,8 +55,8 @@ fn turn_engine(
     *written = 0;
     *difference = 0;
     if calendar::exists(day) {
-        let x = steps::numbers_of(area);
-        if day as u64 <= x.day {
+        let h = engine::header_of(area);
+        if day <= h.day {
             return 11;
         }
         let size = turn_size(day, area);

@@ -2,3 +2,5 @@ pub mod Positions
 pub mod Find
 pub mod References
 pub mod Held
+pub mod Header
+pub mod Texts

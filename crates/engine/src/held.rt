@@ -1,8 +1,8 @@
 // An area that holds an engine: what is looked up in it, by the numbers of its header.
 use crate::find::Totals;
 use crate::find::find_position;
+use crate::header::header_of;
 use crate::reference::reference_used;
-use text::number_at;
 ghost use mathlib.Core.Path.{_≡_};
 ghost use mathlib.Core.Bool.{true};
 ghost use Prim.Native.Nat.{_-_, _≤_};
@@ -13,14 +13,14 @@ ghost use Rattle.rules.specs.Area.{decode, holds};
 ghost use Rattle.laws.specs.Parts.{cut};
 ghost use Rattle.engine.specs.Find.{TotalsOf};
 ghost use Rattle.engine.specs.References.{ofBank};
-ghost use Rattle.engine.specs.Held.{RegisterEnd};
 
 // The totals of a bank's position of a date.
 pub fn totals_of(area: &[u8], bank: u64, date: u32) -> Totals
     requires { ⌜ isSome (holds (now area)) ≡ true ⌝ }
     ensures { λ r. ⌜ TotalsOf (decode (now (area .entry)) .positions) bank date r ⌝ }
 {
-    find_position(area, number_at(area, 7, 1) as u32, bank, date)
+    let h = header_of(area);
+    find_position(area, h.positions, bank, date)
 }
 
 // Was this bank's reference, the bytes of s from a up to b, accepted today?
@@ -32,13 +32,6 @@ pub fn is_used(area: &[u8], bank: u64, s: &[u8], a: usize, b: usize) -> bool
     requires { ⌜ every isText (cut (now s) a b) ≡ true ⌝ }
     ensures { λ r. ⌜ r ≡ any (sameReference (ofBank bank (cut (now (s .entry)) a b))) (decode (now (area .entry)) .references) ⌝ }
 {
-    reference_used(area, number_at(area, 8, 1) as u32, bank, s, a, b)
-}
-
-// Where the register's text ends, which begins at 2,320.
-pub fn register_end(area: &[u8]) -> usize
-    requires { ⌜ isSome (holds (now area)) ≡ true ⌝ }
-    ensures { λ r. ⌜ RegisterEnd (now (area .entry)) r ⌝ }
-{
-    2320 + number_at(area, 10, 2) as usize
+    let h = header_of(area);
+    reference_used(area, h.references, bank, s, a, b)
 }

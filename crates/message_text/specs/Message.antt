@@ -13,17 +13,12 @@ use Rattle.rules.specs.Engine.{Engine, Position, hasDetails}
 use Rattle.rules.specs.Written.{mt199s, partsOf, verdicts}
 use Rattle.rules.specs.Calls.{bankOf, judged, after, returnedOf, postings, messageText, writes}
 use Rattle.rules.specs.Area.{decode, holds}
-use Rattle.laws.specs.Parts.{cut, from, from-take}
 use Rattle.laws.specs.Writing.{Wrote, wrote-then}
-use Rattle.area.specs.Limits.{date-small}
-use Rattle.area.specs.Decoded.{decoded-limits, decoded-short}
-use Rattle.register.specs.Places.{place, count}
-use Rattle.register.specs.Passed.{text-size}
 use Rattle.engine.specs.Find.{TotalsOf}
-use Rattle.engine.specs.Held.{RegisterEnd}
+use Rattle.engine.specs.Header.{HeaderOf}
+use Rattle.engine.specs.Texts.{RegisterOf}
+use Rattle.engine.specs.declared.header.Header.{Header}
 use Rattle.engine.specs.declared.find.Totals.{Totals}
-use Rattle.steps.specs.Numbers.{NumbersOf}
-use Rattle.steps.specs.declared.parts.Numbers.{Numbers}
 use Rattle.details.specs.Message.{messageIn, detailsIn}
 use Rattle.conditions.specs.Books.{Books, amountIf}
 use Rattle.conditions.specs.declared.booking.Booking.{Booking}
@@ -34,54 +29,6 @@ use Rattle.detail_lines.specs.Returned.{returned-all, ReturnedCount, count-pape
 use Rattle.outgoing_number.specs.declared.Numbered.{Numbered}
 use Rattle.message_text.specs.Parts.{PartsOf, PartsPut}
 use Rattle.message_text.specs.Postings.{bookFor, transfer-is, order-is}
-use Rattle.message_text.specs.declared.message.Header.{Header}
-
--- ---- what the area says
-
--- the register's text, which stands up to e
-abbrev pub textIn : List ℕ → ℕ → List ℕ
-textIn a e = take (e - 2320) (drop 2320 a)
-
-pub text-here : (a : List ℕ) (e : ℕ) → RegisterEnd a e → textIn a e ≡ decode a .register
-unfolding from
-text-here a e r = from-take a 2320 (e - 2320) ∙ ap (λ (k : ℕ). cut a 2320 k) (omega (arith, r .low)) ∙ r .text
-
-pub text-passes : (a : List ℕ) (e : ℕ) → isSome (holds a) ≡ true → RegisterEnd a e → isSome (register (textIn a e)) ≡ true
-text-passes a e h r = rw (text-here a e r) (decoded-limits a h .register)
-
--- day and outgoing count of the engine that the area holds, and where its register's text ends
-pub record HeaderOf (a : List ℕ) (h : Header) : Type 0 where
-  pub day : h .day ≡ decode a .day
-  pub count : h .count ≡ decode a .count
-  pub small : h .count ≤ 1184
-  pub long : 6144 ≤ length a
-  pub low : 2320 ≤ h .end
-  pub high : h .end ≤ 3864
-  pub enough : 22 ≤ length (textIn a (h .end))
-  pub short : length (textIn a (h .end)) ≤ 4096
-  pub text : textIn a (h .end) ≡ decode a .register
-  pub passes : isSome (register (textIn a (h .end))) ≡ true
-
-module _ (a : List ℕ) (g : isSome (holds a) ≡ true) where
-  pub day-small : (x : Numbers) → NumbersOf a x → x .day < 1000000
-  day-small x n = rw (n .day) (date-small (decode a .day) (decoded-limits a g .day))
-
-  pub header-told : (x : Numbers) → NumbersOf a x → (e : ℕ) → RegisterEnd a e → HeaderOf a (record { day = x .day; count = x .count; end = e })
-  header-told x n e r =
-      let t : textIn a e ≡ decode a .register = text-here a e r in
-      let size : length (decode a .register) ≡ place (count (decode a .register)) = text-size (decode a .register) (decoded-limits a g .register) in
-      record {
-        day = n .day;
-        count = n .count;
-        small = n .small;
-        long = n .long;
-        low = r .low;
-        high = r .high;
-        enough = rw t (omega (arith, size));
-        short = rw t (omega (arith, decoded-short a g));
-        text = t;
-        passes = text-passes a e g r;
-      }
 
 -- ---- the position as the message leaves it
 
@@ -171,12 +118,12 @@ text-is e m = go (judged m (after e m))
     go true = refl
     go false = refl
 
-module _ (a s : List ℕ) (h : Header) (d : HeaderOf a h) {amounts places verdicts : List ℕ} {n : ℕ} (j : JudgedIn (decode a .register) s amounts places verdicts n) where
-  pub judged-here : JudgedIn (textIn a (h .end)) s amounts places verdicts n
-  judged-here = rw (d .text) j
+module _ (a s text : List ℕ) (g : RegisterOf a text) {amounts places verdicts : List ℕ} {n : ℕ} (j : JudgedIn (decode a .register) s amounts places verdicts n) where
+  pub judged-here : JudgedIn text s amounts places verdicts n
+  judged-here = rw (g .same) j
 
-  module _ (b : Booking) (k : Books s (messageIn s) b) (p : W.Position) (q : positionOf p ≡ after (decode a) (messageIn s)) (parts : ℕ) (w : Writes (decode a) (messageIn s) parts) {at m : ℕ} {r : Numbered} {out out₁ out₂ : List ℕ} where
-    pub message-wrote : Wrote (postings (registerOf (textIn a (h .end))) (bookFor (h .day) (textIn a (h .end)) (positionOf p)) (messageIn s)) at out m out₁
+  module _ (h : Header) (d : HeaderOf a h) (b : Booking) (k : Books s (messageIn s) b) (p : W.Position) (q : positionOf p ≡ after (decode a) (messageIn s)) (parts : ℕ) (w : Writes (decode a) (messageIn s) parts) {at m : ℕ} {r : Numbered} {out out₁ out₂ : List ℕ} where
+    pub message-wrote : Wrote (postings (registerOf text) (bookFor (h .day) text (positionOf p)) (messageIn s)) at out m out₁
         → PartsPut (h .day) (h .count) (positionOf p) parts s verdicts n m out₁ r out₂ → TextPut (decode a) (messageIn s) at out r out₂
     unfolding after
     message-wrote u v =
@@ -185,7 +132,7 @@ module _ (a s : List ℕ) (h : Header) (d : HeaderOf a h) {amounts places verdic
         record {
           wrote =
               rw (text-is (decode a) (messageIn s))
-              (wrote-then (rw (d .day, d .text, bank, date) at u)
+              (wrote-then (rw (d .day, g .same, bank, date) at u)
               (rw (w .value, d .day, d .count, q, returned-all (decode a .register) s places verdicts n (j .lines-kept) (j .verdicts-kept)) at (v .wrote)));
           count = v .kept ∙ rw (d .count, w .value);
         }

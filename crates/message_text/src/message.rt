@@ -4,11 +4,11 @@ use crate::verdicts::parts_of;
 use crate::verdicts::put_parts;
 use conditions::Booking;
 use engine::Totals;
-use engine::register_end;
+use engine::header_of;
+use engine::register_text;
 use outgoing_number::Numbered;
 use state::detailed_by;
 use state::transferred_by;
-use steps::numbers_of;
 use written::Position;
 ghost use mathlib.Core.Path.{_≡_};
 ghost use mathlib.Core.Bool.{true};
@@ -20,28 +20,7 @@ ghost use Rattle.details.specs.Message.{messageIn};
 ghost use Rattle.conditions.specs.Books.{Books};
 ghost use Rattle.verdict.specs.Details.{JudgedIn};
 ghost use Rattle.written.specs.Values.{positionOf};
-ghost use Rattle.message_text.specs.Message.{HeaderOf, AfterOf, WritesOf, Writes, TextPut, verdictFollows};
-
-// Day and outgoing count of the engine in the area, and where its register's text ends.
-pub struct Header {
-    pub day: u32,
-    pub count: u32,
-    pub end: usize,
-}
-
-// They are read.
-fn header_of(area: &[u8]) -> Header
-    requires { ⌜ isSome (holds (now area)) ≡ true ⌝ }
-    ensures { λ r. ⌜ HeaderOf (now (area .entry)) r ⌝ }
-{
-    let x = numbers_of(area);
-    let end = register_end(area);
-    Header {
-        day: x.day as u32,
-        count: x.count as u32,
-        end,
-    }
-}
+ghost use Rattle.message_text.specs.Message.{AfterOf, WritesOf, Writes, TextPut, verdictFollows};
 
 // The position as the message leaves it, from its totals before.
 pub fn position_after(b: Booking, x: Totals) -> Position
@@ -100,13 +79,12 @@ pub fn put_message_text(
     ensures { λ r. ⌜ TextPut (decode (now (area .entry))) (messageIn (now (s .entry))) at (now (out .entry)) r (now (out .exit)) ⌝ }
 {
     let h = header_of(area);
-    let end = h.end;
     let a = put_postings(
         out,
         at,
         h.day,
         p,
-        &area[2320..end],
+        register_text(area),
         s,
         amounts,
         places,

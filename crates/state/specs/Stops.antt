@@ -17,8 +17,8 @@ use Rattle.laws.specs.Tests.{held-told}
 use Rattle.engine.specs.Find.{TotalsOf}
 use Rattle.engine.specs.References.{ofBank}
 use Rattle.engine.specs.declared.find.Totals.{Totals}
-use Rattle.steps.specs.Numbers.{NumbersOf}
-use Rattle.steps.specs.declared.parts.Numbers.{Numbers}
+use Rattle.engine.specs.Header.{HeaderOf}
+use Rattle.engine.specs.declared.header.Header.{Header}
 use Rattle.details.specs.Message.{messageIn}
 use Rattle.conditions.specs.Books.{Books, amountIf, misdatedBy}
 use Rattle.conditions.specs.declared.booking.Booking.{Booking}
@@ -125,7 +125,7 @@ pub used-is : (s area : List ℕ) (b : Booking) → Books s (messageIn s) b → 
     → q ≡ any (sameReference (ownReference (messageIn s))) (decode area .references)
 used-is s area b k e = e ∙ rw (k .bank, k .reference) refl
 
-module _ (s area : List ℕ) (b : Booking) (k : Books s (messageIn s) b) (x : Numbers) (n : NumbersOf area x) where
+module _ (s area : List ℕ) (b : Booking) (k : Books s (messageIn s) b) (x : Header) (n : HeaderOf area x) where
   day-is : misdated (decode area .day) (messageIn s) ≡ misdatedBy (b .transfer) (b .date) (x .day)
   day-is = rw (n .day) (k .dated (decode area .day))
 

@@ -16,10 +16,10 @@ ghost use Rattle.engine.specs.Find.{TotalsOf};
 ghost use Rattle.state.specs.Stops.{limitStops, overBy, restNumber};
 
 // 11: an MT103 not dated on the day, an MT101 dated after it?
-fn is_misdated(b: Booking, day: u64) -> bool
+fn is_misdated(b: Booking, day: u32) -> bool
     ensures { λ r. ⌜ r ≡ misdatedBy (b .transfer) (b .date) day ⌝ }
 {
-    let date = b.date as u64;
+    let date = b.date;
     if b.transfer {
         return date != day;
     }
@@ -75,7 +75,7 @@ fn is_over(t: Totals, b: Booking) -> bool
 }
 
 // 14 and 15, with n positions open; 0 where neither holds.
-fn rest_number(n: u64, t: Totals, b: Booking) -> u32
+fn rest_number(n: u32, t: Totals, b: Booking) -> u32
     requires { ⌜ t .transferred < 281474976710656 ⌝ }
     requires { ⌜ t .detailed < 281474976710656 ⌝ }
     requires { ⌜ b .amount ≤ 160000000000000000 ⌝ }
@@ -114,15 +114,15 @@ pub fn state_number(s: &[u8], area: &[u8], b: Booking, t: Totals) -> u32
     requires { ⌜ TotalsOf (decode (now area) .positions) (b .bank) (b .date) t ⌝ }
     ensures { λ r. ⌜ r ≡ firstOf (limitStops (decode (now (area .entry))) (messageIn (now (s .entry)))) ⌝ }
 {
-    let x = steps::numbers_of(area);
-    if is_misdated(b, x.day) {
+    let h = engine::header_of(area);
+    if is_misdated(b, h.day) {
         return 11;
     }
     if already_accepted(s, area, b) {
         return 12;
     }
-    if 64 <= x.references {
+    if 64 <= h.references {
         return 13;
     }
-    rest_number(x.positions, t, b)
+    rest_number(h.positions, t, b)
 }

@@ -27,11 +27,11 @@ use Rattle.area.specs.Sections.{referencePart, positionPart, textPart, Of, held
 use Rattle.area.specs.Order.{ordered-sorted}
 use Rattle.area.specs.Positions.{position-order, booked-few, found-same}
 use Rattle.area.specs.References.{filed-length}
-use Rattle.steps.specs.declared.parts.Numbers.{Numbers}
+use Rattle.engine.specs.Header.{HeaderOf}
+use Rattle.engine.specs.declared.header.Header.{Header}
 use Rattle.steps.specs.Header.{numbers}
 use Rattle.steps.specs.Changes.{section, inserted-length, replaced-length, section-replaced, section-inserted, stands-back, stands-other}
 use Rattle.steps.specs.Next.{holding, position-wide, references-each, positions-length, positions-section, Fits, assembled}
-use Rattle.steps.specs.Numbers.{NumbersOf}
 use Rattle.steps.specs.Places.{position, isFirst, PlaceOf}
 use Rattle.steps.specs.Filing.{reference, FiledAt, Files}
 use Rattle.steps.specs.Records.{positionAt, transferred-at, detailed-at, Many, positions-from}
@@ -171,7 +171,7 @@ pub reference-wide : (r : Reference) → length (r .text) ≤ 16 → length (ref
 unfolding referenceRecord
 reference-wide r h = rw (length-append, places-length, padded-length 16 (r .text) h)
 
-module _ (a : List ℕ) (x : Numbers) (q : Position) (bank : ℕ) (text : List ℕ) (from to count : ℕ) (h : isSome (holds a) ≡ true) (n : NumbersOf a x) (g : Booking (decode a) q) where
+module _ (a : List ℕ) (x : Header) (q : Position) (bank : ℕ) (text : List ℕ) (from to count : ℕ) (h : isSome (holds a) ≡ true) (n : HeaderOf a x) (g : Booking (decode a) q) where
   module _ {i : ℕ} (f : FiledAt (reference bank (cut text from to)) (decode a .references) i) {k : ℕ} {b : List ℕ} (p : Positions (booked q (decode a .positions)) a k b) where
     -- there is room for the reference
     pub file-fits : Opens 16 24 (x .references) i (length b)

@@ -20,8 +20,9 @@ use Rattle.laws.specs.Writing.{Wrote}
 use Rattle.laws.specs.Moving.{Opens, opens}
 use Rattle.area.specs.References.{filed-behind, filed-here}
 use Rattle.area.specs.Checked.{NoZero, until-before, text-in, texts-some, records-length}
-use Rattle.steps.specs.declared.parts.Numbers.{Numbers}
-use Rattle.steps.specs.Numbers.{NumbersOf, number-within}
+use Rattle.engine.specs.Header.{HeaderOf}
+use Rattle.engine.specs.declared.header.Header.{Header}
+use Rattle.steps.specs.Numbers.{number-within}
 use Rattle.steps.specs.Records.{read-at}
 
 -- a bank's reference
@@ -108,7 +109,7 @@ pub record Today (a : List ℕ) (n : ℕ) : Type 0 where
   pub few : n ≤ 64
   pub long : 6144 ≤ length a
 
-pub today : (a : List ℕ) (x : Numbers) → NumbersOf a x → Today a (x .references)
+pub today : (a : List ℕ) (x : Header) → HeaderOf a x → Today a (x .references)
 today a x n = record { same = n .references; few = n .today; long = n .long }
 
 reference-read : (a : List ℕ) (i : ℕ) → i < length (decode a .references) → getD (decode a .references) i (reference 0 []) ≡ referenceAt a (16 + 24 * i)

@@ -12,8 +12,9 @@ use borrow.Author.Tests.{eq-eqb, ne-eqb}
 use Rattle.rules.specs.Engine.{Position, earlier, alike}
 use Rattle.rules.specs.Area.{numberAt, positionIn, records, decode}
 use Rattle.area.specs.Checked.{records-length}
-use Rattle.steps.specs.declared.parts.Numbers.{Numbers}
-use Rattle.steps.specs.Numbers.{NumbersOf, number-within}
+use Rattle.engine.specs.Header.{HeaderOf}
+use Rattle.engine.specs.declared.header.Header.{Header}
+use Rattle.steps.specs.Numbers.{number-within}
 use Rattle.steps.specs.Order.{lower-bank, higher-bank, lower-date, later-date}
 use Rattle.steps.specs.Places.{position, isFirst, Passed, PlaceOf, passed-more, place-here, place-end}
 
@@ -62,7 +63,7 @@ pub record Many (a : List ℕ) (n : ℕ) : Type 0 where
   pub few : n ≤ 32
   pub long : 6144 ≤ length a
 
-pub many : (a : List ℕ) (x : Numbers) → NumbersOf a x → Many a (x .positions)
+pub many : (a : List ℕ) (x : Header) → HeaderOf a x → Many a (x .positions)
 many a x n = record { same = n .positions; few = n .few; long = n .long }
 
 pub read-at : {A : Type 0} (f : List ℕ → A) (n i : ℕ) (bs : List ℕ) (none : A) → i < n → getD (map f (records n bs)) i none ≡ f (take 24 (drop (24 * i) bs))

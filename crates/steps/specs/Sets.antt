@@ -4,7 +4,6 @@ use Rattle.laws.specs.Moving.{keeping-none, keeping-keep, keeping-skip, keeping
 use Rattle.steps.specs.Texts.{padded-wrote}
 use Rattle.steps.specs.Header.{numbers-wrote}
 use Rattle.steps.specs.Opening.{register-room, opened-wrote, opened-whole}
-use Rattle.steps.specs.Numbers.{held-room, numbers-told}
 use Rattle.steps.specs.Turning.{stays-not, stays-yes, turn-done}
 use Rattle.steps.specs.Places.{passed-none}
 use Rattle.steps.specs.Records.{many, low-at, high-at, early-at, late-at, walk-end, walk-on, walk-here, first-none, first-other, first-same}
@@ -13,9 +12,7 @@ use Rattle.steps.specs.Filing.{sender-low, sender-high, sender-same, fil
 
 pub ruleset opening = (wrote-then, wrote-length, numbers-wrote, padded-wrote, register-room, opened-wrote, opened-whole)
 
-pub ruleset reading = (held-room, numbers-told)
-
-pub ruleset turning = (wrote-length, keeping-none, keeping-keep, keeping-skip, keeping-end, lowers, held-room, stays-not, stays-yes, turn-done)
+pub ruleset turning = (wrote-length, keeping-none, keeping-keep, keeping-skip, keeping-end, lowers, stays-not, stays-yes, turn-done)
 
 pub ruleset placing = (low-at, high-at, early-at, late-at, passed-none, walk-end, walk-on, walk-here, first-none, first-other, first-same)
 

@@ -20,11 +20,12 @@ use Rattle.area.specs.Layout.{Kept, All, All.none, All.more}
 use Rattle.area.specs.Held.{Held, positions-kept}
 use Rattle.area.specs.Sections.{referencePart, positionPart}
 use Rattle.area.specs.Positions.{kept-length}
-use Rattle.steps.specs.declared.parts.Numbers.{Numbers}
+use Rattle.engine.specs.Header.{HeaderOf}
+use Rattle.engine.specs.declared.header.Header.{Header}
 use Rattle.steps.specs.Header.{numbers}
 use Rattle.steps.specs.Changes.{section-passing, section-counted}
 use Rattle.steps.specs.Next.{holding, position-wide, positions-section, Fits, assembled}
-use Rattle.steps.specs.Numbers.{NumbersOf, number-within}
+use Rattle.steps.specs.Numbers.{number-within}
 
 -- the engine after a turn to a day, with the outgoing number at a count
 unfoldable pub turned : Engine → ℕ → ℕ → Engine
@@ -69,7 +70,7 @@ stays-agrees (more k s) = on-more (ap undetailed (k .back)) (stays-agrees s)
 
 -- ---- the turn
 
-pub turn-done : {a b c d : List ℕ} {x : Numbers} {j m r : ℕ} (day count : ℕ) → isSome (holds a) ≡ true → NumbersOf a x → Sifted stays 24 (x .positions) 1552 a j b → Wrote (zeros 1536) 16 b m c
+pub turn-done : {a b c d : List ℕ} {x : Header} {j m r : ℕ} (day count : ℕ) → isSome (holds a) ≡ true → HeaderOf a x → Sifted stays 24 (x .positions) 1552 a j b → Wrote (zeros 1536) 16 b m c
     → Wrote (numbers day count j 0) 0 c r d → d ≡ encode (turned (decode a) day count) ++ drop 6144 a
 unfolding turned padded joined referencePart positionPart
 turn-done {a} {b} {c} {d} {x} {j} {m} {r} day count h n s z w =

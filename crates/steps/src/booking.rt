@@ -1,10 +1,10 @@
 // A message booked in an area: its position raised or put in its place, its reference put in its place, the header's numbers.
 use crate::filing::file_reference;
 use crate::filing::reference_place;
-use crate::parts::numbers_of;
 use crate::parts::put_numbers;
 use crate::placing::is_at;
 use crate::placing::place_of;
+use engine::header_of;
 use text::number_at;
 ghost use mathlib.Core.Path.{_≡_};
 ghost use mathlib.Core.Bool.{true};
@@ -94,17 +94,10 @@ pub fn book_area(
     requires { ⌜ every isText (cut (now s) a b) ≡ true ⌝ }
     ensures { λ _. ⌜ now (area .exit) ≡ encode (bookedWith (decode (now (area .entry))) (position bank date transferred detailed) (reference bank (cut (now (s .entry)) a b)) count) ++ drop 6144 (now (area .entry)) ⌝ }
 {
-    let x = numbers_of(area);
-    let n = x.references as u32;
+    let h = header_of(area);
+    let n = h.references;
     let i = reference_place(area, n, bank, s, a, b);
-    let k = book_position(
-        area,
-        x.positions as u32,
-        bank,
-        date as u64,
-        transferred,
-        detailed,
-    );
+    let k = book_position(area, h.positions, bank, date as u64, transferred, detailed);
     file_reference(area, n, i, bank, s, a, b);
-    put_numbers(area, x.day, count as u64, k as u64, x.references + 1);
+    put_numbers(area, h.day, count, k, n + 1);
 }

@@ -24,7 +24,7 @@ fn put_lengths(area: &mut [u8], at: usize, n: u64) -> usize
 }
 
 // The parts of an opened engine's area.
-fn put_opened(area: &mut [u8], text: &[u8], day: u64) -> usize
+fn put_opened(area: &mut [u8], text: &[u8], day: u32) -> usize
     requires { ⌜ length (now text) ≤ 3824 ⌝ }
     ensures { λ r. ⌜ Wrote (openedParts (now (text .entry)) day) 0 (now (area .entry)) r (now (area .exit)) ⌝ }
 {
@@ -41,5 +41,5 @@ pub fn open_area(area: &mut [u8], text: &[u8], day: u32)
     requires { ⌜ isSome (register (now text)) ≡ true ⌝ }
     ensures { λ _. ⌜ now (area .exit) ≡ encode (opened (now (text .entry)) day) ++ drop 6144 (now (area .entry)) ⌝ }
 {
-    put_opened(area, text, day as u64);
+    put_opened(area, text, day);
 }

@@ -1,50 +1,20 @@
 // Parts of an area that more than one step reads or writes.
-use text::number_at;
-ghost use mathlib.Core.Path.{_≡_};
-ghost use mathlib.Core.Bool.{true};
 ghost use Prim.Native.Nat.{_-_, _≤_};
 ghost use lib.ListN.{length};
-ghost use Rattle.rules.specs.Text.{isSome};
-ghost use Rattle.rules.specs.Area.{padded, holds};
+ghost use Rattle.rules.specs.Area.{padded};
 ghost use Rattle.laws.specs.Parts.{cut};
 ghost use Rattle.laws.specs.Writing.{Wrote};
 ghost use Rattle.steps.specs.Header.{numbers};
-ghost use Rattle.steps.specs.Numbers.{NumbersOf};
-
-// The header's numbers: day, outgoing count, how many positions, how many references.
-pub struct Numbers {
-    pub day: u64,
-    pub count: u64,
-    pub positions: u64,
-    pub references: u64,
-}
-
-// These numbers, read from an area that holds an engine.
-pub fn numbers_of(area: &[u8]) -> Numbers
-    requires { ⌜ isSome (holds (now area)) ≡ true ⌝ }
-    ensures { λ r. ⌜ NumbersOf (now (area .entry)) r ⌝ }
-{
-    let day = number_at(area, 2, 3);
-    let count = number_at(area, 5, 2);
-    let positions = number_at(area, 7, 1);
-    let references = number_at(area, 8, 1);
-    Numbers {
-        day: day,
-        count: count,
-        positions: positions,
-        references: references,
-    }
-}
 
 // The header's numbers written, behind the mark.
-pub fn put_numbers(area: &mut [u8], day: u64, count: u64, positions: u64, references: u64) -> usize
+pub fn put_numbers(area: &mut [u8], day: u32, count: u32, positions: u32, references: u32) -> usize
     ensures { λ r. ⌜ Wrote (numbers day count positions references) 0 (now (area .entry)) r (now (area .exit)) ⌝ }
 {
     let a = put::put_bytes(area, 0, b"RC");
-    let b = put::put_be(area, a, 3, day);
-    let c = put::put_be(area, b, 2, count);
-    let d = put::put_be(area, c, 1, positions);
-    put::put_be(area, d, 1, references)
+    let b = put::put_be(area, a, 3, day as u64);
+    let c = put::put_be(area, b, 2, count as u64);
+    let d = put::put_be(area, c, 1, positions as u64);
+    put::put_be(area, d, 1, references as u64)
 }
 
 // A part of a text in room for n bytes, with zeros behind it.

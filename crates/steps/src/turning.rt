@@ -1,6 +1,6 @@
 // A turn made in an area: positions with details are removed, references and outgoing number start anew.
-use crate::parts::numbers_of;
 use crate::parts::put_numbers;
+use engine::header_of;
 use text::number_at;
 ghost use mathlib.Core.Path.{_≡_};
 ghost use mathlib.Core.Bool.{true};
@@ -50,8 +50,8 @@ pub fn turn_area(area: &mut [u8], day: u32, count: u32)
     requires { ⌜ isSome (holds (now area)) ≡ true ⌝ }
     ensures { λ _. ⌜ now (area .exit) ≡ encode (turned (decode (now (area .entry))) day count) ++ drop 6144 (now (area .entry)) ⌝ }
 {
-    let x = numbers_of(area);
-    let kept = remove_detailed(area, x.positions as u32);
+    let h = header_of(area);
+    let kept = remove_detailed(area, h.positions);
     put::put_zeros(area, 16, 1536);
-    put_numbers(area, day as u64, count as u64, kept as u64, 0);
+    put_numbers(area, day, count, kept, 0);
 }

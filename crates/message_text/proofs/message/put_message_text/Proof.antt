@@ -1,6 +1,6 @@
 -- The posting lines, and as many parts of an MT199 as messages are written. Assumes nothing.
-use Rattle.message_text.specs.Message.{message-wrote, judged-here, messages}
 use native.Mathlib.Omega.{arith}
+use Rattle.message_text.specs.Message.{message-wrote, judged-here, messages}
 use borrow.Author.Needs.{needs}
 use Rattle.message_text.proofs.message.put_message_text.Statement.{statement}
 use Rattle.message_text.proofs.message.put_message_text.Tie as tie
@@ -8,17 +8,11 @@ use Rattle.message_text.proofs.message.put_message_text.Tie as tie
 header-of-requires : tie.Need-header-of-requires
 header-of-requires c κs = search (messages, needs)
 
-sub-put-postings : tie.Need-sub-put-postings
-sub-put-postings c = search (messages, needs)
-
-part-put-postings-start : tie.Need-part-put-postings-start
-part-put-postings-start c = search (messages, needs)
-
-part-put-postings-end : tie.Need-part-put-postings-end
-part-put-postings-end c = search (messages, needs)
+register-text-requires : tie.Need-register-text-requires
+register-text-requires c κs = search (messages, needs)
 
 put-postings-requires : tie.Need-put-postings-requires
-put-postings-requires c κs = let h = (c .before .before .header-of .ensures) in let p = (c .before .before .before .before .before .before .pre) in (h .passes, (h .enough, (p .1 .0, judged-here _ _ _ h (p .1 .1 .0))))
+put-postings-requires c κs = let t = (c .register-text .ensures) in let p = (c .before .before .before .before .before .before .pre) in (t .passes, (t .enough, (p .1 .0, judged-here _ _ _ t (p .1 .1 .0))))
 
 cast-put-parts : tie.Need-cast-put-parts
 cast-put-parts c = search (messages, needs)
@@ -30,16 +24,14 @@ same-length : tie.Need-same-length
 same-length c = search (messages, needs)
 
 returns : tie.Need-returns
-returns c = let p = (c .before .before .before .before .before .before .before .before .before .before .before .before .before .before .pre) in message-wrote _ _ _ (c .before .before .before .before .before .before .before .before .before .before .header-of .ensures) (p .1 .1 .0) _ (p .1 .0) _ (p .1 .1 .1 .0) _ (p .1 .1 .1 .1) (c .before .before .before .before .before .before .before .put-postings .ensures) (c .before .before .put-parts .ensures)
+returns c = let p = (c .before .before .before .before .before .before .before .before .before .before .before .before .before .before .pre) in message-wrote _ _ _ (c .before .before .before .before .before .before .before .before .register-text .ensures) (p .1 .1 .0) _ (c .before .before .before .before .before .before .before .before .before .before .header-of .ensures) _ (p .1 .0) _ (p .1 .1 .1 .0) _ (p .1 .1 .1 .1) (c .before .before .before .before .before .before .before .put-postings .ensures) (c .before .before .put-parts .ensures)
 
 pub put-message-text-spec : {M : Type 1} → statement M
 put-message-text-spec =
     tie.close
     (tie.spec
     header-of-requires
-    sub-put-postings
-    part-put-postings-start
-    part-put-postings-end
+    register-text-requires
     put-postings-requires
     cast-put-parts
     put-parts-requires

@@ -4,9 +4,6 @@ use borrow.Author.Needs.{needs}
 use Rattle.state.proofs.stops.is_misdated.Statement.{statement}
 use Rattle.state.proofs.stops.is_misdated.Tie as tie
 
-cast-date : tie.Need-cast-date
-cast-date c = search (stops, needs)
-
 returns : tie.Need-returns
 returns c = search (stops, needs)
 
@@ -17,4 +14,4 @@ returns-3 : tie.Need-returns-3
 returns-3 c = search (stops, needs)
 
 pub is-misdated-spec : {M : Type 1} → statement M
-is-misdated-spec = tie.close (tie.spec cast-date returns returns-2 returns-3)
+is-misdated-spec = tie.close (tie.spec returns returns-2 returns-3)

@@ -4,8 +4,8 @@ use borrow.Author.Needs.{needs}
 use Rattle.state.proofs.stops.state_number.Statement.{statement}
 use Rattle.state.proofs.stops.state_number.Tie as tie
 
-numbers-of-requires : tie.Need-numbers-of-requires
-numbers-of-requires c κs = search (stops, needs)
+header-of-requires : tie.Need-header-of-requires
+header-of-requires c κs = search (stops, needs)
 
 is-misdated-requires : tie.Need-is-misdated-requires
 is-misdated-requires c κs = search (stops, needs)
@@ -32,7 +32,7 @@ pub state-number-spec : {M : Type 1} → statement M
 state-number-spec =
     tie.close
     (tie.spec
-    numbers-of-requires
+    header-of-requires
     is-misdated-requires
     returns
     already-accepted-requires

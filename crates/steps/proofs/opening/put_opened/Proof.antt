@@ -1,4 +1,4 @@
--- An opened engine's parts, one behind the other. Assumes nothing.
+-- The parts of an opened engine's area one behind the other. Assumes nothing.
 use Rattle.steps.specs.Sets.{opening}
 use borrow.Author.Needs.{needs}
 use Rattle.steps.proofs.opening.put_opened.Statement.{statement}

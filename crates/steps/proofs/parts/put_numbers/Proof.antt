@@ -1,4 +1,4 @@
--- Mark and numbers of the header, one behind the other. Assumes nothing.
+-- The header's numbers one behind the other. Assumes nothing.
 use Rattle.steps.specs.Sets.{opening}
 use borrow.Author.Needs.{needs}
 use Rattle.steps.proofs.parts.put_numbers.Statement.{statement}
