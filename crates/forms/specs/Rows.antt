@@ -1,4 +1,4 @@
--- Lines held against rows one by one: a law for each way of the loop. The lines held so far stand before what the rows that are left make of the rest.
+-- Lines held against rows one by one: a law for each way that a row takes a line, and for the loop over the rows. The lines held so far stand before what the rows that are left make of the rest.
 use mathlib.Core.Path.{_≡_, refl, sym, ap, _∙_}
 use mathlib.Core.Bool.{Bool, true, false, cond}
 use mathlib.Core.List.{List, [], _∷_, _++_, append-assoc, append-nil}

@@ -28,6 +28,10 @@ use Rattle.lines.proofs.reader.Reader.Laws as T′
 abbrev pub textTy : Ty
 textTy = sliceTy (tyRef (named 0) imm (tyInt w8))
 
+-- a lifetime has no name there
+abbrev pub unnamed : Lft → NamedLft
+unnamed κ = record { mir = erased; lft = κ }
+
 module _ (κ : Lft) (s : RefT (List ℕ)) where
   -- the text's machine value, and what it owns
   abbrev pub textVal : Val
@@ -36,10 +40,7 @@ module _ (κ : Lft) (s : RefT (List ℕ)) where
   abbrev pub Text : Fml
   Text = ShrSlice (named 0) κ u8 .own s (textVal ∷ [])
 
-  -- the same of a reader over it, whose lifetime has no name in a local
-  abbrev pub unnamed : NamedLft
-  unnamed = record { mir = erased; lft = κ }
-
+  -- the same of a reader over it
   abbrev pub readerVal : ℕ → Val
   readerVal n = T′.lowered (over s n)
 

@@ -189,6 +189,18 @@ unfolding closing equal closes lines
 closes-behind l [] h = not-held _ (λ e. let z : _≡_ {A = ℕ} 1 0 = (rw (equal-true l (ascii "-") e) at (ap (λ (b : Bool). cond {A = ℕ} b 1 0) h)) in omega arith)
 closes-behind l (c ∷ cs) h = rw (lines-line c cs) (two-close l (line (c ∷ cs)))
 
+-- nothing stands behind the closing line
+closing-last : (cs : List ℕ) (t : Taken) → line cs ≡ some t → closing cs ≡ true → t .others ≡ []
+unfolding closing line lead
+closing-last cs t e h =
+    let f : line (ascii "-\r\n") ≡ some t = ap (λ (x : List ℕ). line x) (sym (equal-true cs (ascii "-\r\n") h)) ∙ e in
+    let u : record { line = 45 ∷ []; others = [] } ≡ t = cc in
+    rw (← u)
+
+-- so a line with others behind it is not the closing line
+pub closing-later : (s : List ℕ) (at e : ℕ) → LineEnd s at e → e + 2 < length s → closing (from s at) ≡ false
+closing-later s at e l h = sym (not-held _ (λ c. let z : length (from s (e + 2)) ≡ 0 = ap (λ (x : List ℕ). length x) (closing-last (from s at) _ (l .same) c) in omega (arith, from-length s (e + 2))))
+
 -- a text with a first line, and one without
 lines-taken : (cs : List ℕ) (t : Taken) → line cs ≡ some t → lines cs ≡ Option·map (before (t .line)) (lines (t .others))
 unfolding line

@@ -48,17 +48,17 @@ fn line_seen(s: &[u8], line: Next, at: usize) -> Seen
 {
     match line {
         Next::Line(e) => {
-            if closes_at(s, at) {
+            let next = e + 2;
+            if next < s.len() {
                 return Seen {
-                    more: false,
-                    closed: true,
-                    at,
+                    more: true,
+                    closed: false,
+                    at: next,
                 };
             }
-            let next = e + 2;
             Seen {
-                more: next < s.len(),
-                closed: false,
+                more: false,
+                closed: closes_at(s, at),
                 at: next,
             }
         }

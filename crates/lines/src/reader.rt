@@ -27,7 +27,7 @@ pub fn take_line<'a>(r: Reader<'a>) -> Next
     line_end(r.text, r.at)
 }
 
-// The line that begins at `at`: all lines of a message are read by this function.
+// The line that begins at `at`, where one line is read by itself.
 pub fn next_line(s: &[u8], at: usize) -> Next
     requires { ⌜ at ≤ length (now s) ⌝ }
     ensures { λ r. ⌜ LineAt (now (s .entry)) at r ⌝ }

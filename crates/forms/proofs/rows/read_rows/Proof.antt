@@ -310,8 +310,8 @@ module _ {M : Type 1} (𝓤 : URA M) (H : Heap 𝓤) (A : Atoms 𝓤) (W : Given
           calls {𝓤 = 𝓤} {H = H} {A = A} {C = 𝓣 .C} ! (fmOf 𝓤 H (W .laws) 𝓣) made.ended (made.clauses 𝓤 H A mem run) known-made to-made (id⊢ 𝓤 _) (and-then ! (load ! (from ! (stop !)) (look ! 41 refl)) (and-then ! (load ! (from ! (stop !)) (look ! 39 refl)) (no-more !)))
           (λ r _. r ≡ over s at) (λ r ws. id⊢ 𝓤 _) (λ z r ws e is.
           -- [the token; what the reader owns; true; what the text owns; what the numbers own; _20; …]: local i stands at 2 · (20 − i) + 5
-          land ! (from ! (stop !)) (init ! 33 refl (LL.lawful (T.the-type (unnamed κ s)) (T′.the-laws (unnamed κ s)) 𝓤 H A W .typed r _ is .0)) $
-          rewrite ! 33 (λ (y : Val). ‵ (fat fullShare (T′.mir erased) l₆ 0 y)) (ap only (LL.tells (T.the-type (unnamed κ s)) (T′.the-laws (unnamed κ s)) r _ is) ∙ ap (λ (y : Reader). T′.lowered y) e) refl $
+          land ! (from ! (stop !)) (init ! 33 refl (LL.lawful (T.the-type (unnamed κ)) (T′.the-laws (unnamed κ)) 𝓤 H A W .typed r _ is .0)) $
+          rewrite ! 33 (λ (y : Val). ‵ (fat fullShare (T′.mir erased) l₆ 0 y)) (ap only (LL.tells (T.the-type (unnamed κ)) (T′.the-laws (unnamed κ)) r _ is) ∙ ap (λ (y : Reader). T′.lowered y) e) refl $
           assigns ! (of-opd ! (lit ! tt)) (from ! (stop !)) (init ! 31 refl (tt, record { fits = omega arith })) $ forget ! 25 refl $
           move ! (1 ∷ 2 ∷ 4 ∷ []) $ drop ! $ drop ! $ drop ! $
           turns l₀ l₁ l₂ l₃ l₄ l₅ l₆ l₇ l₈ l₉ l₁₀ l₁₁ l₁₂ l₁₃ l₁₄ l₁₅ l₁₆ l₁₇ l₁₈ l₁₉ l₂₀
