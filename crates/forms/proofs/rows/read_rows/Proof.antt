@@ -1,7 +1,7 @@
 -- `forms::rows::read_rows` meets its contract, by a walk of its code with a loop in it. Before each turn the reader stands where the next row's line begins; a turn hands a copy of it to `take_line`, the line to `hold_line`, and either ends the walk
 -- or keeps the line's part and moves the reader. What the text owns is kept, and lent to each call. Assumes nothing.
 use mathlib.Core.Path.{_≡_, refl, ap, _∙_}
-use mathlib.Core.Bool.{Bool, true, false, not}
+use mathlib.Core.Bool.{Bool, true, false}
 use mathlib.Core.WellFounded.{WellFounded, InvImage·wf}
 use Prim.Native.Nat.{ℕ, _+_, _-_, _*_, _≤_, _<_, _^_}
 use native.Mathlib.Omega.{arith}
@@ -43,7 +43,7 @@ use denote.Triple.Spec.{Meets, tripleOf}
 use denote.Triple.Statement.{Triple}
 use denote.Triple.Table.{entered, cited}
 use Rattle.laws.specs.Elements.{Each, each-length, each-set, each-alike, elem}
-use Rattle.laws.specs.Walks.{Promise, Left, needs-all, cell, room, calls, ends, gone, by-walk}
+use Rattle.laws.specs.Walks.{Promise, Left, needs-all, cell, room, told-true, told-false, calls, ends, gone, by-walk}
 use Rattle.lines.specs.Answers.{LineAt, over}
 use Rattle.lines.specs.declared.line.Next.{Next}
 use Rattle.lines.specs.declared.reader.Reader.{Reader}
@@ -98,14 +98,6 @@ Parts l us = Each (F .row .Denot) (F .row .own) (F .into) l us
 -- the machine value of an answer
 abbrev rowsVal : Bool → ℕ → List Val → Val
 rowsVal b n us = vstruct (ofList (vbool b ∷ vint w64 n ∷ arrayVal us ∷ []))
-
-is-true : (b : Bool) → Holds b → b ≡ true
-is-true true h = refl
-is-true false h = absurd h
-
-is-false : (b : Bool) → Holds (not b) → b ≡ false
-is-false true h = absurd h
-is-false false h = refl
 
 module _ (l : List Span) (us : List Val) (size : length l ≡ 23) (are : Parts l us) where
   spans-are : Is (Array (F .row) 23) (map (F .into) l) (arrayVal us ∷ [])
@@ -265,7 +257,7 @@ module _ {M : Type 1} (𝓤 : URA M) (H : Heap 𝓤) (A : Atoms 𝓤) (W : Given
             assigns-last ! (bin ! (load ! (from ! (stop !)) (look ! 31 refl)) (lit ! tt) (record { fits = one-more })) (from ! (stop !)) (store ! 31 refl (tt, record { fits = one-more })) $
             forget ! 11 refl $ forget ! 13 refl $ forget ! 15 refl $ forget ! 17 refl $ forget ! 19 refl $ forget ! 21 refl $ forget ! 23 refl $ forget ! 27 refl $ forget ! 29 refl $
             move ! (1 ∷ 2 ∷ 4 ∷ []) $ drop ! $ drop ! $ drop ! $
-            again ! Closer At x (next x d (owes .1 .1 .0) (rows-on _ _ _ _ _ _ _ (x .rowing) rows less d held (is-true _ ok) few)) (omega arith))
+            again ! Closer At x (next x d (owes .1 .1 .0) (rows-on _ _ _ _ _ _ _ (x .rowing) rows less d held (told-true _ ok) few)) (omega arith))
             -- the row makes nothing of the text
             (λ no.
             assigns ! (of-opd ! (load ! (from ! (stop !)) (look ! 35 refl))) (from ! (stop !)) (init ! 9 refl (spans-typed (x .spans) (x .vals) (x .rowing .size) (x .are))) $
@@ -274,7 +266,7 @@ module _ {M : Type 1} (𝓤 : URA M) (H : Heap 𝓤) (A : Atoms 𝓤) (W : Given
             returns-within ! Post refl (look ! 45 refl) $
             gone ! 45 refl refl $ gone ! 43 refl refl $ gone ! 41 refl refl $ gone ! 39 refl refl $ gone ! 37 refl refl $ gone ! 35 refl refl $ gone ! 33 refl refl $ gone ! 31 refl refl $ gone ! 29 refl refl $ gone ! 27 refl refl $ move ! (25 ∷ 26 ∷ []) $ free1 ! $ gone ! 23 refl refl $ gone ! 21 refl refl $ gone ! 19 refl refl $ gone ! 17 refl refl $ move ! (15 ∷ 16 ∷ []) $ free1 ! $ move ! (13 ∷ 14 ∷ []) $ free1 ! $ move ! (11 ∷ 12 ∷ []) $ free1 ! $ gone ! 9 refl refl $ move ! (7 ∷ 8 ∷ []) $ free1 ! $ move ! (5 ∷ 6 ∷ []) $ free1 ! $ free0 ! $
             owned ! R.the-row (Is R.the-row) (LL.makes R.the-type R′.the-plain 𝓤 H A) (answer x false at) _ (answer-is x false at at-fits) $ keep ! (1 ∷ 0 ∷ []) $
-            by ! (ends 𝓤 H A W f.ended (f.clauses 𝓤 H A mem run) passed (rowsVal false at (x .vals)) (answer x false at) (tt, (tt, (tt, (tt, tt)))) (factI 𝓤 _ (emp 𝓤) (rows-stop _ _ _ _ _ _ _ (x .rowing) rows less d held (is-false _ no) at-room)) (id⊢ 𝓤 _)))))
+            by ! (ends 𝓤 H A W f.ended (f.clauses 𝓤 H A mem run) passed (rowsVal false at (x .vals)) (answer x false at) (tt, (tt, (tt, (tt, tt)))) (factI 𝓤 _ (emp 𝓤) (rows-stop _ _ _ _ _ _ _ (x .rowing) rows less d held (told-false _ no) at-room)) (id⊢ 𝓤 _)))))
         turn x false e =
             let in-text : x .place ≤ length (now s) = x .rowing .place in
             let fits : x .place < 2 ^ 64 = omega arith in
