@@ -16,13 +16,13 @@ use sound.WpLaws.{FmC}
 use ghost.Atoms.{Atoms, sem}
 use contract.Lifetimes.{Lfts, Shares, AllOutlive}
 use contract.Monad.{Fun, Mono, fact, fact-use}
-use types.Kit.{Given, Item, Goal, Post, runs, lands, frees, Seq, Step, step, ‵, raw, _⊛_, some, later, nth, del, pull, push, ⋆, mean, _$_, _∵_, !, qed, use0, use1, use2, use3, move, split, pick, suffices, frame, await, done}
+use types.Kit.{Given, Item, Goal, Post, Soaks, runs, lands, settles, frees, Seq, Step, step, ‵, raw, _⊛_, some, later, nth, del, pull, push, ⋆, mean, _$_, _∵_, !, qed, use0, use1, use2, use3, move, split, pick, suffices, frame, await, done}
 use types.Run.{Opds, free1}
 use denote.RattleType.{RattleType, Denots, owns, Valss, flat}
 use denote.Laws.{Is, Ises, Are, Spells, valss, Tellss, shows}
 use denote.Signature.{Slot, typeAt, typesAt}
 use denote.Steps.{peeks, heard}
-use denote.Triple.Call.{calls-at}
+use denote.Triple.Call.{calls-at, calls-at-last}
 use denote.Triple.Clauses.{Clauses, Ended, Lasts, atExit, lasts, closing}
 use denote.Triple.End.{Kepts, Fins}
 use denote.Triple.Entry.{Args, alive, onEntry}
@@ -58,6 +58,10 @@ module _ {M : Type 1} (𝓤 : URA M) (H : Heap 𝓤) (A : Atoms 𝓤) (T : Ended
 
     abbrev pub Said : Result .Denot → LastOnes → SProp 𝓤
     Said r ws = c (y .0 .0) (y .0 .3) .ensures (y .1) r (atExit T (y .0 .0) (y .0 .3) ws)
+
+    -- what stands in front once the call has returned v
+    abbrev pub Back : Val → Result .Denot → LastOnes → List (Item 𝓤) → List (Item 𝓤)
+    Back v r ws Γ = raw Tokens ∷ ‵ (Result .own r (v ∷ [])) ∷ ‵ (lasts T (y .0 .0) (y .0 .3) ws) ∷ Γ
 
 -- ---- at the start: the facts that are asked, one behind the other, and locals with a value and without one, before others
 
@@ -97,20 +101,35 @@ told-false false h = refl
 -- ---- at a call, and at the end of the locals
 
 module _ {M : Type 1} {𝓤 : URA M} {H : Heap 𝓤} {A : Atoms 𝓤} {K : Type 0} {W : Given 𝓤 H A} {Γ : List (Item 𝓤)} where
-  -- a function is called with the tokens, what its arguments own and what it asks; it gives the tokens back, with its result, what it says and what is said of last values
+  -- what a function gives back: the tokens, its result, what is said of last values, and what its contract says
+  module _ (T : Ended) (c : Clauses 𝓤 T) (y : Promise 𝓤 H A T c .Ghost) (φ : Result 𝓤 H A T c y .Denot → LastOnes 𝓤 H A T c y → Type 0) (says : (r : Result 𝓤 H A T c y .Denot) (ws : LastOnes 𝓤 H A T c y) → ent 𝓤 (Said 𝓤 H A T c y r ws) (fact 𝓤 (φ r ws))) where
+    given-back : {G : Goal 𝓤 H} → K → Soaks G → (v : Val) → ((r : Result 𝓤 H A T c y .Denot) (ws : LastOnes 𝓤 H A T c y) → φ r ws → Is (Result 𝓤 H A T c y) r (v ∷ []) → Seq K W (Back 𝓤 H A T c y v r ws Γ) G)
+        → Seq K W (raw (Promise 𝓤 H A T c .post y v) ∷ Γ) G
+    given-back t soaks v k =
+        let R : RattleType = Result 𝓤 H A T c y in
+        use1 W (later (some (λ (r : R .Denot). (raw (Tokens 𝓤 H A T c y) ⊛ ‵ (R .own r (v ∷ []))) ⊛ some (λ (ws : LastOnes 𝓤 H A T c y). ‵ (lasts T (y .0 .0) (y .0 .3) ws) ⊛ raw (Said 𝓤 H A T c y r ws))))) (id⊢ 𝓤 _) $
+        await t soaks $ pick t (λ r. split t $ move t (1 ∷ []) $ pick t (λ ws. split t $ move t (1 ∷ []) $ use1 W (raw (fact 𝓤 (φ r ws))) (says r ws) $ heard t (φ r ws) (λ e.
+        move t (1 ∷ []) $ split t $ move t (1 ∷ []) $ peeks t R (Is R) (shows 𝓤 H A R) r (v ∷ []) (λ is. move t (1 ∷ 0 ∷ []) $ k r ws e is))))
+
+  -- a function is called with the tokens, what its arguments own and what it asks
   pub calls : {E : Env 𝓤 H} {C : Calls 𝓤 H} {Λ : Loops 𝓤 H} {q : Post 𝓤 H} {d : Place} {f : Name} {xs : List Operand} {rest : Body} → K → FmC 𝓤 H (W .laws) C
       → (T : Ended) (c : Clauses 𝓤 T) → Triple 𝓤 (C f) (Promise 𝓤 H A T c) → (y : Promise 𝓤 H A T c .Ghost) → ent 𝓤 (emp 𝓤) (Asked 𝓤 H A T c y) → Opds K W (raw (Promise 𝓤 H A T c .pre y) ∷ Γ) E xs (Promise 𝓤 H A T c .args y)
-      → (φ : Result 𝓤 H A T c y .Denot → LastOnes 𝓤 H A T c y → Type 0) → ((r : Result 𝓤 H A T c y .Denot) (ws : LastOnes 𝓤 H A T c y) → ent 𝓤 (Said 𝓤 H A T c y r ws) (fact 𝓤 (φ r ws)))
-      → ((v : Val) (r : Result 𝓤 H A T c y .Denot) (ws : LastOnes 𝓤 H A T c y) → φ r ws → Is (Result 𝓤 H A T c y) r (v ∷ [])
-      → Seq K W (raw (Tokens 𝓤 H A T c y) ∷ ‵ (Result 𝓤 H A T c y .own r (v ∷ [])) ∷ ‵ (lasts T (y .0 .0) (y .0 .3) ws) ∷ Γ) (lands C Λ E d v rest q))
+      → (φ : Result 𝓤 H A T c y .Denot → LastOnes 𝓤 H A T c y → Type 0) → (says : (r : Result 𝓤 H A T c y .Denot) (ws : LastOnes 𝓤 H A T c y) → ent 𝓤 (Said 𝓤 H A T c y r ws) (fact 𝓤 (φ r ws)))
+      → ((v : Val) (r : Result 𝓤 H A T c y .Denot) (ws : LastOnes 𝓤 H A T c y) → φ r ws → Is (Result 𝓤 H A T c y) r (v ∷ []) → Seq K W (Back 𝓤 H A T c y v r ws Γ) (lands C Λ E d v rest q))
       → Seq K W (raw (Tokens 𝓤 H A T c y) ∷ ‵ (Brought 𝓤 H A T c y) ∷ Γ) (runs C Λ E (seq (call f xs d) rest) q)
   calls t fm T c met y asks os φ says k =
-      let R : RattleType = Result 𝓤 H A T c y in
       use2 W (raw (onEntry 𝓤 H A (T .signature) (y .0 .0) (y .0 .1) (y .0 .3) (y .0 .4))) (id⊢ 𝓤 _) $ use0 W (raw (Asked 𝓤 H A T c y)) asks $ move t (1 ∷ 0 ∷ []) $
-      use2 W (raw (Promise 𝓤 H A T c .pre y)) (id⊢ 𝓤 _) $ calls-at t fm (Promise 𝓤 H A T c) met y os (λ v.
-      use1 W (later (some (λ (r : R .Denot). (raw (Tokens 𝓤 H A T c y) ⊛ ‵ (R .own r (v ∷ []))) ⊛ some (λ (ws : LastOnes 𝓤 H A T c y). ‵ (lasts T (y .0 .0) (y .0 .3) ws) ⊛ raw (Said 𝓤 H A T c y r ws))))) (id⊢ 𝓤 _) $
-      await t tt $ pick t (λ r. split t $ move t (1 ∷ []) $ pick t (λ ws. split t $ move t (1 ∷ []) $ use1 W (raw (fact 𝓤 (φ r ws))) (says r ws) $ heard t (φ r ws) (λ e.
-      move t (1 ∷ []) $ split t $ move t (1 ∷ []) $ peeks t R (Is R) (shows 𝓤 H A R) r (v ∷ []) (λ is. move t (1 ∷ 0 ∷ []) $ k v r ws e is)))))
+      use2 W (raw (Promise 𝓤 H A T c .pre y)) (id⊢ 𝓤 _) $ calls-at t fm (Promise 𝓤 H A T c) met y os (λ v. given-back T c y φ says t tt v (k v))
+
+  -- the same where the call is the last statement of its part, as of a turn of a loop
+  pub calls-last : {E : Env 𝓤 H} {C : Calls 𝓤 H} {Λ : Loops 𝓤 H} {q : Post 𝓤 H} {d : Place} {f : Name} {xs : List Operand} → K → FmC 𝓤 H (W .laws) C
+      → (T : Ended) (c : Clauses 𝓤 T) → Triple 𝓤 (C f) (Promise 𝓤 H A T c) → (y : Promise 𝓤 H A T c .Ghost) → ent 𝓤 (emp 𝓤) (Asked 𝓤 H A T c y) → Opds K W (raw (Promise 𝓤 H A T c .pre y) ∷ Γ) E xs (Promise 𝓤 H A T c .args y)
+      → (φ : Result 𝓤 H A T c y .Denot → LastOnes 𝓤 H A T c y → Type 0) → (says : (r : Result 𝓤 H A T c y .Denot) (ws : LastOnes 𝓤 H A T c y) → ent 𝓤 (Said 𝓤 H A T c y r ws) (fact 𝓤 (φ r ws)))
+      → ((v : Val) (r : Result 𝓤 H A T c y .Denot) (ws : LastOnes 𝓤 H A T c y) → φ r ws → Is (Result 𝓤 H A T c y) r (v ∷ []) → Seq K W (Back 𝓤 H A T c y v r ws Γ) (settles E d v q))
+      → Seq K W (raw (Tokens 𝓤 H A T c y) ∷ ‵ (Brought 𝓤 H A T c y) ∷ Γ) (runs C Λ E (call f xs d) q)
+  calls-last t fm T c met y asks os φ says k =
+      use2 W (raw (onEntry 𝓤 H A (T .signature) (y .0 .0) (y .0 .1) (y .0 .3) (y .0 .4))) (id⊢ 𝓤 _) $ use0 W (raw (Asked 𝓤 H A T c y)) asks $ move t (1 ∷ 0 ∷ []) $
+      use2 W (raw (Promise 𝓤 H A T c .pre y)) (id⊢ 𝓤 _) $ calls-at-last t fm (Promise 𝓤 H A T c) met y os (λ v. given-back T c y φ says t tt v (k v))
 
   -- a local is given up: its cell is entry n, and the leave to free it stands behind
   pub gone : K → (n : ℕ) {τ : Ty} {b : ℕ} {v : Val} {E : Env 𝓤 H} {g : Goal 𝓤 H} → nth 𝓤 H A n Γ ≡ ‵ (fat fullShare τ b zero v) → nth 𝓤 H A n (del 𝓤 H A n Γ) ≡ ‵ (fdies τ b)

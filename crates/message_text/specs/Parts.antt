@@ -13,12 +13,13 @@ use Rattle.rules.specs.Engine.{Position}
 use Rattle.rules.specs.Written.{opened, field, reference, linked, position79, closed79, mt199, mt199s, partsOf}
 use Rattle.laws.specs.Writing.{Wrote, Left, left-turn, left-none, left-length, furthest}
 use Rattle.laws.specs.Pieces.{wrote-4, left-all}
+use Rattle.details.specs.Kept.{LinesIn}
 use Rattle.detail_lines.specs.Returned.{returnedAt, Passed, RowsPut}
 use Rattle.detail_lines.specs.declared.returned.Place.{Place}
 use Rattle.outgoing_number.specs.declared.Numbered.{Numbered}
 use Rattle.outgoing_number.specs.declared.Outgoing.{Outgoing}
 use Rattle.outgoing_number.specs.declared.Reference.{Reference}
-use Rattle.outgoing_number.specs.Issue.{Steps, Next, next-steps}
+use Rattle.outgoing_number.specs.Issue.{Steps}
 use Rattle.message_text.specs.declared.verdicts.Parting.{Parting}
 
 -- ---- how many
@@ -43,7 +44,8 @@ abbrev pub partAt : ℕ → Parting → ℕ
 partAt parts t = parts - t .left + 1
 
 -- a part is due by the reference r: its number is that of part 1 with the parts since, and from part 2 on that of part 1 is kept
-pub record PartDue (r : Reference) (parts n : ℕ) (t : Parting) : Type 0 where
+pub record PartDue (r : Reference) (parts : ℕ) (s places : List ℕ) (n : ℕ) (t : Parting) : Type 0 where
+  pub lines : LinesIn s places n
   pub some : 0 < t .left
   pub few : t .left ≤ parts
   pub small : parts ≤ 4096
@@ -62,7 +64,7 @@ first-own part number kept h = record { own = λ _. refl; other = λ l. absurd (
 pub first-other : (part number kept : ℕ) → 2 ≤ part → FirstOf part number kept kept
 first-other part number kept h = record { own = λ l. absurd (omega arith); other = λ _. refl }
 
-module _ {r : Reference} {parts n : ℕ} {t : Parting} (d : PartDue r parts n t) {first : ℕ} (f : FirstOf (partAt parts t) (r .number) (t .first) first) where
+module _ {r : Reference} {parts : ℕ} {s places : List ℕ} {n : ℕ} {t : Parting} (d : PartDue r parts s places n t) {first : ℕ} (f : FirstOf (partAt parts t) (r .number) (t .first) first) where
   pub first-is : first + partAt parts t ≡ r .number + 1
   first-is = go (leb 2 (partAt parts t)) refl
     where
@@ -80,7 +82,7 @@ pub record PartPut (r : Reference) (p : Position) (parts : ℕ) (s verdicts : Li
   pub fewer : t' .left ≡ t .left - 1
   pub first : t' .first + partAt parts t ≡ r .number + 1
 
-module _ (r : Reference) (p : Position) (parts : ℕ) (s verdicts : List ℕ) (n : ℕ) (t : Parting) {first a b e : ℕ} {c : Place} {out out₁ out₂ out₃ out₄ : List ℕ} (d : PartDue r parts n t) (f : FirstOf (partAt parts t) (r .number) (t .first) first) where
+module _ (r : Reference) (p : Position) (parts : ℕ) (s verdicts : List ℕ) (n : ℕ) (t : Parting) {first a b e : ℕ} {c : Place} {places out out₁ out₂ out₃ out₄ : List ℕ} (d : PartDue r parts s places n t) (f : FirstOf (partAt parts t) (r .number) (t .first) first) where
   pub part-wrote : Wrote (opened (ascii "199") (p .bank) ++ field (ascii ":20:") (reference (r .day) (r .number)) ++ linked (r .day) (first - 1) (partAt parts t)) (t .out) out a out₁ → Wrote (position79 (p .date) (p .transferred) (p .detailed)) a out₁ b out₂
       → RowsPut s verdicts (t .detail) n 14 b out₂ c out₃ → Wrote (closed79 (partAt parts t) parts) (c .out) out₃ e out₄ → PartPut r p parts s verdicts n t out (record { out = e; detail = c .at; left = t .left - 1; first = first }) out₄
   unfolding mt199
@@ -99,7 +101,13 @@ parts-step s verdicts day m p left part parts q k h = go left h
     go zero h = absurd (omega arith)
     go (suc j) h = let e : suc j - 1 ≡ j = omega arith in rw e
 
--- all parts, the outgoing number having been at a count before them
+-- so many parts are due, the outgoing number being at a count before them
+pub record PartsDue (count parts : ℕ) (s places : List ℕ) (n : ℕ) : Type 0 where
+  pub lines : LinesIn s places n
+  pub low : count ≤ 65535
+  pub small : parts ≤ 4096
+
+-- the text of all of them
 abbrev pub allParts : ℕ → ℕ → Position → ℕ → List ℕ → List ℕ → ℕ → List ℕ
 allParts day count p parts s verdicts n = mt199s parts day count p 1 parts (returnedAt s verdicts 0 n)
 
@@ -109,25 +117,24 @@ pub record PartsPut (day count : ℕ) (p : Position) (parts : ℕ) (s verdicts :
   pub kept : r .count ≡ count + parts
 
 -- by the outgoing number as it is kept, the parts from t on are left to write
-pub record PartsLeft (day count : ℕ) (p : Position) (parts : ℕ) (s verdicts : List ℕ) (n at : ℕ) (start : List ℕ) (o : Outgoing) (t : Parting) (out : List ℕ) : Type 0 where
+pub record PartsLeft (day count : ℕ) (p : Position) (parts : ℕ) (s places verdicts : List ℕ) (n at : ℕ) (start : List ℕ) (o : Outgoing) (t : Parting) (out : List ℕ) : Type 0 where
+  pub due : PartsDue count parts s places n
   pub on-day : o .day ≡ day
   pub kept : o .count + t .left ≡ count + parts
   pub few : t .left ≤ parts
-  pub small : parts ≤ 4096
-  pub low : count ≤ 65535
   pub within : t .detail ≤ n
   pub first : t .left < parts → t .first ≡ count + 1
   pub text : Left (mt199s (t .left) day count p (partAt parts t) parts (returnedAt s verdicts (t .detail) (n - t .detail))) (t .out) out (allParts day count p parts s verdicts n) at start
 
-pub parts-start : (day count : ℕ) (p : Position) (parts : ℕ) (s verdicts : List ℕ) (n at : ℕ) (start : List ℕ) → parts ≤ 4096 → count ≤ 65535 → length start ≤ furthest
-    → PartsLeft day count p parts s verdicts n at start (record { day = day; count = count }) (record { out = at; detail = 0; left = parts; first = 0 }) start
-parts-start day count p parts s verdicts n at start l m h =
+pub parts-start : (day count : ℕ) (p : Position) (parts : ℕ) (s places verdicts : List ℕ) (n at : ℕ) (start : List ℕ) → PartsDue count parts s places n → length start ≤ furthest
+    → PartsLeft day count p parts s places verdicts n at start (record { day = day; count = count }) (record { out = at; detail = 0; left = parts; first = 0 }) start
+parts-start day count p parts s places verdicts n at start d h =
     let e : parts - parts + 1 ≡ 1 = omega arith in
-    record { on-day = refl; kept = refl; few = omega arith; small = l; low = m; within = omega arith; first = λ k. absurd (omega arith); text = rw (e, sub-zero n) (left-all _ h) }
+    record { due = d; on-day = refl; kept = refl; few = omega arith; within = omega arith; first = λ k. absurd (omega arith); text = rw (e, sub-zero n) (left-all _ h) }
 
-module _ {day count : ℕ} {p : Position} {parts : ℕ} {s verdicts : List ℕ} {n at : ℕ} {start : List ℕ} {o : Outgoing} {t : Parting} {out : List ℕ} (l : PartsLeft day count p parts s verdicts n at start o t out) where
+module _ {day count : ℕ} {p : Position} {parts : ℕ} {s places verdicts : List ℕ} {n at : ℕ} {start : List ℕ} {o : Outgoing} {t : Parting} {out : List ℕ} (l : PartsLeft day count p parts s places verdicts n at start o t out) where
   pub parts-room : o .count + 1 < 4294967296
-  parts-room = omega (arith, l .kept, l .small, l .low)
+  parts-room = omega (arith, l .kept, l .due .small, l .due .low)
 
   pub parts-long : length out ≡ length start
   parts-long = left-length (l .text)
@@ -136,41 +143,34 @@ module _ {day count : ℕ} {p : Position} {parts : ℕ} {s verdicts : List ℕ} 
     number-is : r .number ≡ o .count + 1
     number-is = ap (λ (z : Reference). z .number) (i .reference)
 
-    pub part-due : PartDue r parts n t
+    pub part-due : PartDue r parts s places n t
     part-due = record {
+      lines = l .due .lines;
       some = h;
       few = l .few;
-      small = l .small;
+      small = l .due .small;
       within = l .within;
       numbered = omega (arith, number-is, l .kept, l .few);
       kept = λ k. let f : t .first ≡ count + 1 = l .first (omega arith) in omega (arith, number-is, l .kept, l .few);
     }
 
-    pub parts-turn : {t' : Parting} {out' : List ℕ} → PartPut r p parts s verdicts n t out t' out' → PartsLeft day count p parts s verdicts n at start o' t' out'
+    pub parts-turn : {t' : Parting} {out' : List ℕ} → PartPut r p parts s verdicts n t out t' out' → PartsLeft day count p parts s places verdicts n at start o' t' out'
     parts-turn {t'} {out'} w =
         let e : r .number - partAt parts t ≡ count = omega (arith, number-is, l .kept, l .few) in
         let f : r .day ≡ day = ap (λ (z : Reference). z .day) (i .reference) ∙ l .on-day in
         let g : partAt parts t' ≡ partAt parts t + 1 = omega (arith, w .fewer, l .few) in
         rw (i .kept) record {
+          due = l .due;
           on-day = l .on-day;
           kept = omega (arith, l .kept, w .fewer);
           few = omega (arith, l .few, w .fewer);
-          small = l .small;
-          low = l .low;
           within = w .passed .within;
           first = λ k. omega (arith, w .first, number-is, l .kept, l .few);
           text = rw (g, w .fewer) (left-turn (rw (w .passed .same) (rw (parts-step s verdicts day count p (t .left) (partAt parts t) parts (t .detail) (n - t .detail) h) at (l .text))) (rw (e, f) at (w .wrote)));
         }
 
-  pub part-due-next : 0 < t .left → {r : Reference} {is : ℕ} → Next (o .day) (o .count) r is → PartDue r parts n t
-  part-due-next h i = part-due h (next-steps i)
-
-  pub parts-next : 0 < t .left → {r : Reference} {is : ℕ} → Next (o .day) (o .count) r is → {t' : Parting} {out' : List ℕ} → PartPut r p parts s verdicts n t out t' out'
-      → PartsLeft day count p parts s verdicts n at start (record { day = o .day; count = is }) t' out'
-  parts-next h i w = parts-turn h (next-steps i) w
-
   pub parts-end : t .left ≤ 0 → PartsPut day count p parts s verdicts n at start (record { at = t .out; count = o .count }) out
   unfolding mt199s
   parts-end h = let e : t .left ≡ 0 = omega arith in record { wrote = left-none (rw e at (l .text)); kept = omega (arith, l .kept) }
 
-pub ruleset parting = (left-length, parts-one, parts-more, first-own, first-other, first-some, part-wrote, parts-start, parts-room, parts-long, part-due-next, parts-next, parts-end)
+pub ruleset parting = (left-length, parts-one, parts-more, first-own, first-other, first-some, part-wrote)

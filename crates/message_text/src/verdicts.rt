@@ -3,15 +3,14 @@ use detail_lines::put_returned;
 use outgoing_number::Numbered;
 use outgoing_number::Outgoing;
 use outgoing_number::Reference;
-use outgoing_number::issue_at;
+use outgoing_number::issue;
 use written::Position;
 use written::put_closed79;
 use written::put_opened199;
 use written::put_position79;
 ghost use Prim.Native.Nat.{_≤_};
-ghost use Rattle.details.specs.Kept.{LinesIn};
 ghost use Rattle.written.specs.Values.{positionOf};
-ghost use Rattle.message_text.specs.Parts.{PartsOf, FirstOf, PartDue, PartPut, PartsPut};
+ghost use Rattle.message_text.specs.Parts.{PartsOf, FirstOf, PartDue, PartPut, PartsDue, PartsPut};
 
 // How many parts there are: 14 returned details to each, and one part where there are none.
 pub fn parts_of(returned: u32) -> u32
@@ -55,8 +54,7 @@ fn put_part(
     verdicts: &[u8; 16],
     n: u32,
 ) -> Parting
-    requires { ⌜ PartDue r parts n t ⌝ }
-    requires { ⌜ LinesIn (now s) (now places) n ⌝ }
+    requires { ⌜ PartDue r parts (now s) (now places) n t ⌝ }
     ensures { λ x. ⌜ PartPut r (positionOf p) parts (now (s .entry)) (now (verdicts .entry)) n t (now (out .entry)) x (now (out .exit)) ⌝ }
 {
     let part = parts - t.left + 1;
@@ -87,9 +85,7 @@ pub fn put_parts(
     verdicts: &[u8; 16],
     n: u32,
 ) -> Numbered
-    requires { ⌜ LinesIn (now s) (now places) n ⌝ }
-    requires { ⌜ count ≤ 65535 ⌝ }
-    requires { ⌜ parts ≤ 4096 ⌝ }
+    requires { ⌜ PartsDue count parts (now s) (now places) n ⌝ }
     ensures { λ r. ⌜ PartsPut day count (positionOf p) parts (now (s .entry)) (now (verdicts .entry)) n at (now (out .entry)) r (now (out .exit)) ⌝ }
 {
     let mut o = Outgoing { day, count };
@@ -100,7 +96,7 @@ pub fn put_parts(
         first: 0,
     };
     while t.left > 0 {
-        let r = issue_at(o.day, &mut o.count);
+        let r = issue(&mut o);
         t = put_part(out, t, r, p, parts, s, amounts, places, verdicts, n);
     }
     Numbered {

@@ -17,7 +17,7 @@ use Rattle.written.specs.declared.Position as W
 use Rattle.outgoing_number.specs.declared.Numbered.{Numbered}
 use Rattle.outgoing_number.specs.declared.Outgoing.{Outgoing}
 use Rattle.outgoing_number.specs.declared.Reference.{Reference}
-use Rattle.outgoing_number.specs.Issue.{Steps, Next, next-steps}
+use Rattle.outgoing_number.specs.Issue.{Steps}
 use Rattle.outgoing.specs.declared.turn.Correcting.{Correcting}
 use Rattle.engine.specs.Positions.{positionAt, positionsAt, values-next, values-none, PositionAt}
 
@@ -64,6 +64,11 @@ pub record Stands (area : List ℕ) (t : Correcting) : Type 0 where
   pub few : t .left ≤ 32
   pub place : t .at + 24 * t .left ≤ 2320
   pub due : 0 < t .left → corrected (positionAt area (t .at)) ≡ true
+
+-- a message is due at t
+pub record Due (area : List ℕ) (t : Correcting) : Type 0 where
+  pub stands : Stands area t
+  pub some : 0 < t .left
 
 -- t is where some positions from a place on have their first to correct
 pub record Found (area : List ℕ) (out from left : ℕ) (t : Correcting) : Type 0 where
@@ -130,12 +135,12 @@ pub record CorrectionPut (area : List ℕ) (t : Correcting) (r : Reference) (out
   pub fewer : t' .left < t .left
   pub alike : Alike (positionsAt area (t .at + 24) (t .left - 1)) (positionsAt area (t' .at) (t' .left))
 
-pub correction-put : (area : List ℕ) (t : Correcting) (r : Reference) → 0 < t .left → (q : W.Position) → PositionAt area (t .at) q → {o : ℕ} {out out' : List ℕ} → Wrote (correction (r .day) (temporaryAt area) (r .number) (positionOf q)) (t .out) out o out'
+pub correction-put : (area : List ℕ) (t : Correcting) (r : Reference) → Due area t → (q : W.Position) → PositionAt area (t .at) q → {o : ℕ} {out out' : List ℕ} → Wrote (correction (r .day) (temporaryAt area) (r .number) (positionOf q)) (t .out) out o out'
     → {t' : Correcting} → Found area o (t .at + 24) (t .left - 1) t' → CorrectionPut area t r out t' out'
-correction-put area t r h q a w f = record {
+correction-put area t r d q a w f = record {
   wrote = rw (f .behind, ← a .value) w;
   stands = f .stands;
-  fewer = omega (arith, f .fewer);
+  fewer = omega (arith, f .fewer, d .some);
   alike = f .alike;
 }
 
@@ -158,6 +163,9 @@ corrections-start day area first start s h = record { on-day = refl; stands = s;
 module _ {day : ℕ} {area : List ℕ} {first : Correcting} {start : List ℕ} {o : Outgoing} {t : Correcting} {out : List ℕ} (l : CorrectionsLeft day area first start o t out) where
   pub corrections-room : 0 < t .left → o .count + 1 < 4294967296
   corrections-room h = omega (arith, l .room)
+
+  pub correction-due : 0 < t .left → Due area t
+  correction-due h = record { stands = l .stands; some = h }
 
   pub corrections-long : length out ≡ length start
   corrections-long = left-length (l .text)
@@ -184,13 +192,10 @@ module _ {day : ℕ} {area : List ℕ} {first : Correcting} {start : List ℕ} {
       text = left-turn (rw text-next at (l .text)) (rw (s .reference, l .on-day) at (w .wrote));
     }
 
-  pub corrections-next : 0 < t .left → {r : Reference} {is : ℕ} → Next (o .day) (o .count) r is → {t' : Correcting} {out' : List ℕ} → CorrectionPut area t r out t' out' → CorrectionsLeft day area first start (record { day = o .day; count = is }) t' out'
-  corrections-next h n w = corrections-turn h (next-steps n) w
-
   pub corrections-end : t .left ≤ 0 → CorrectionsPut day area first start (record { at = t .out; count = o .count }) out
   unfolding corrections correctedCount
   corrections-end h =
       let e : positionsAt area (t .at) (t .left) ≡ [] = values-none positionIn area (t .at) (t .left) h in
       record { wrote = left-none (rw e at (l .text)); count = omega (arith, l .count, ap correctedCount e) }
 
-pub ruleset turning = (left-length, corrected-none, corrected-told, postings-more, postings-skip, postings-end, seek-all, seek-found, seek-next, seek-none, correction-put, corrections-start, corrections-room, corrections-long, corrections-next, corrections-end)
+pub ruleset turning = (left-length, corrected-none, corrected-told, postings-more, postings-skip, postings-end, seek-all, seek-found, seek-next, seek-none, correction-put)

@@ -5,19 +5,19 @@ use engine::position_at;
 use outgoing_number::Numbered;
 use outgoing_number::Outgoing;
 use outgoing_number::Reference;
-use outgoing_number::issue_at;
+use outgoing_number::issue;
 use written::put_correction;
 use written::put_correction_posting;
 ghost use mathlib.Core.Path.{_≡_};
 ghost use mathlib.Core.Bool.{true};
-ghost use Prim.Native.Nat.{_+_, _*_, _≤_, _<_};
+ghost use Prim.Native.Nat.{_+_, _*_, _≤_};
 ghost use lib.ListN.{length};
 ghost use Rattle.rules.specs.Text.{isSome};
 ghost use Rattle.rules.specs.Written.{correctionPostings};
 ghost use Rattle.rules.specs.Area.{holds};
 ghost use Rattle.laws.specs.Writing.{Wrote};
 ghost use Rattle.engine.specs.Positions.{positionsAt};
-ghost use Rattle.outgoing.specs.Turn.{Stands, Found, CorrectionPut, CorrectionsPut};
+ghost use Rattle.outgoing.specs.Turn.{Stands, Due, Found, CorrectionPut, CorrectionsPut};
 ghost use Rattle.outgoing.specs.Area.{TurnPut};
 
 // The posting lines of the n positions, in their order.
@@ -87,8 +87,7 @@ fn next_corrected(area: &[u8], out: usize, from: u32, left: u32) -> Correcting
 
 // The message of the next position to correct, by the reference that was issued for it.
 fn put_next(out: &mut [u8], t: Correcting, r: Reference, area: &[u8]) -> Correcting
-    requires { ⌜ Stands (now area) t ⌝ }
-    requires { ⌜ 0 < t .left ⌝ }
+    requires { ⌜ Due (now area) t ⌝ }
     ensures { λ x. ⌜ CorrectionPut (now (area .entry)) t r (now (out .entry)) x (now (out .exit)) ⌝ }
 {
     let q = position_at(area, t.at as usize);
@@ -104,7 +103,7 @@ fn put_corrections(out: &mut [u8], first: Correcting, day: u32, area: &[u8]) -> 
     let mut o = Outgoing { day, count: 0 };
     let mut t = first;
     while t.left > 0 {
-        let r = issue_at(o.day, &mut o.count);
+        let r = issue(&mut o);
         t = put_next(out, t, r, area);
     }
     Numbered {

@@ -22,15 +22,6 @@ pub record Steps (was : Outgoing) (r : Reference) (is : Outgoing) : Type 0 where
   pub reference : r ≡ issued was
   pub kept : is ≡ stepped was
 
--- the same in numbers, where the count alone is lent
-pub record Next (day was : ℕ) (r : Reference) (is : ℕ) : Type 0 where
-  pub on-day : r .day ≡ day
-  pub number : r .number ≡ was + 1
-  pub kept : is ≡ was + 1
-
-pub next-steps : {o : Outgoing} {r : Reference} {is : ℕ} → Next (o .day) (o .count) r is → Steps o r (record { day = o .day; count = is })
-next-steps {o} n = record { reference = λ i. record { day = n .on-day i; number = n .number i }; kept = λ i. record { day = o .day; count = n .kept i } }
-
 -- it is the reference that the paper writes
 pub issued-text : (o : Outgoing) → referenceText (issued o) ≡ reference (o .day) (o .count + 1)
 issued-text o = refl

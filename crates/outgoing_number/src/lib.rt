@@ -1,7 +1,6 @@
 // "The outgoing number is one small record of day and count, stepped forward where it is kept; a message's reference is the day, `GA`, six digits from 000001."
-ghost use mathlib.Core.Path.{_≡_};
 ghost use Prim.Native.Nat.{_+_, _<_, _^_};
-ghost use Rattle.outgoing_number.specs.Issue.{Steps, Next};
+ghost use Rattle.outgoing_number.specs.Issue.{Steps};
 
 // The outgoing number: the day, and how many messages were numbered on it.
 pub struct Outgoing {
@@ -30,17 +29,5 @@ pub fn issue(o: &mut Outgoing) -> Reference
     Reference {
         day: o.day,
         number: o.count,
-    }
-}
-
-// The next reference of a day, whose count alone is lent.
-pub fn issue_at(day: u32, count: &mut u32) -> Reference
-    requires { ⌜ now count + 1 < 4294967296 ⌝ }
-    ensures { λ r. ⌜ Next day (now (count .entry)) r (now (count .exit)) ⌝ }
-{
-    *count = *count + 1;
-    Reference {
-        day,
-        number: *count,
     }
 }

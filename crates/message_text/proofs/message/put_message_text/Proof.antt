@@ -18,7 +18,7 @@ cast-put-parts : tie.Need-cast-put-parts
 cast-put-parts c = search (messages, needs)
 
 put-parts-requires : tie.Need-put-parts-requires
-put-parts-requires c κs = let p = (c .before .before .before .before .before .before .before .before .before .before .before .pre) in (p .1 .1 .0 .lines-kept, (omega (arith, (c .before .before .before .before .before .before .before .header-of .ensures .small)), p .1 .1 .1 .1 .few))
+put-parts-requires c κs = let p = (c .before .before .before .before .before .before .before .before .before .before .before .pre) in record { lines = p .1 .1 .0 .lines-kept; low = omega (arith, (c .before .before .before .before .before .before .before .header-of .ensures .small)); small = p .1 .1 .1 .1 .few }
 
 same-length : tie.Need-same-length
 same-length c = search (messages, needs)

@@ -27,13 +27,13 @@ put-closed79-requires : tie.Need-put-closed79-requires
 put-closed79-requires c κs = search (parting, needs)
 
 sub-t17 : tie.Need-sub-t17
-sub-t17 c = omega (arith, (c .before .before .before .before .before .before .before .before .before .before .before .before .before .before .before .before .before .before .before .before .before .pre .0 .some))
+sub-t17 c = omega (arith, (c .before .before .before .before .before .before .before .before .before .before .before .before .before .before .before .before .before .before .before .before .before .pre .some))
 
 same-length : tie.Need-same-length
 same-length c = search (parting, needs)
 
 returns : tie.Need-returns
-returns c = part-wrote _ _ _ _ _ _ _ ((c .before .before .before .before .before .before .before .before .before .before .before .before .before .before .before .before .before .before .before .before .before .pre .0)) ((c .before .before .before .before .before .before .before .before .before .before .before .before .before .before .before .before .before .first-number .ensures)) ((c .before .before .before .before .before .before .before .before .before .before .before .before .before .before .before .put-opened199 .ensures)) ((c .before .before .before .before .before .before .before .before .before .before .before .put-position79 .ensures)) ((c .before .before .before .before .before .before .before .put-returned .ensures)) ((c .before .before .before .put-closed79 .ensures))
+returns c = part-wrote _ _ _ _ _ _ _ ((c .before .before .before .before .before .before .before .before .before .before .before .before .before .before .before .before .before .before .before .before .before .pre)) ((c .before .before .before .before .before .before .before .before .before .before .before .before .before .before .before .before .before .first-number .ensures)) ((c .before .before .before .before .before .before .before .before .before .before .before .before .before .before .before .put-opened199 .ensures)) ((c .before .before .before .before .before .before .before .before .before .before .before .put-position79 .ensures)) ((c .before .before .before .before .before .before .before .put-returned .ensures)) ((c .before .before .before .put-closed79 .ensures))
 
 pub put-part-spec : {M : Type 1} → statement M
 put-part-spec =
