@@ -15,7 +15,7 @@ use Rattle.rules.specs.Dates.{exists}
 use Rattle.rules.specs.Messages.{Message, read}
 use Rattle.rules.specs.Engine.{Engine, within}
 use Rattle.rules.specs.Calls.{Answer, firstOf, refused, openStops, opened, openCall, inputStops, messageStops, messageText, after, afterMessage, acceptedMessage, bothOf, messageCall, turnText, turnStops, refunded, collected, afterTurn, acceptedTurn, turnCall}
-use Rattle.rules.specs.Area.{encode, holds, Result, stored, onAreas, cardOpen, cardMessage, cardTurn}
+use Rattle.rules.specs.Area.{encode, holds, Result, stored, onAreas, cardOpen, cardMessage, cardTurn, areaSize}
 use Rattle.area.specs.Facts.{There, there, Passed, passed}
 use Rattle.area.specs.Held.{encode-length, holds-encode, held}
 use Rattle.area.specs.Keeps.{opened-within, Clear, clear, message-within, turn-within}
@@ -27,7 +27,7 @@ pub record Done (r : Result) (old out text : List ℕ) (d : ℤ) (next : Engine)
   pub good : within next ≡ true
   pub written : r .written ≡ length text
   pub difference : r .difference ≡ d
-  pub area : r .area ≡ encode next ++ drop 6144 old
+  pub area : r .area ≡ encode next ++ drop areaSize old
   pub output : r .output ≡ over text out
 
 -- refused: "difference, bytes and all else 0", and "a refusal changes no byte of output or area"
@@ -39,13 +39,13 @@ pub record Stays (r : Result) (old out : List ℕ) : Type 0 where
 
 -- the next engine is what the area then holds
 pub done-holds : {r : Result} {area out text : List ℕ} {d : ℤ} {next : Engine} → Done r area out text d next → holds (r .area) ≡ some next
-done-holds {area = area} {next = next} w = rw (w .area) (holds-encode next (w .good) (drop 6144 area))
+done-holds {area = area} {next = next} w = rw (w .area) (holds-encode next (w .good) (drop areaSize area))
 
 -- "those behind are not touched", and the area is as long as it was
-pub done-behind : {r : Result} {area out text : List ℕ} {d : ℤ} {next : Engine} → Done r area out text d next → drop 6144 (r .area) ≡ drop 6144 area
-done-behind {area = area} {next = next} w = rw (w .area) (drop-at (encode next) (drop 6144 area) 6144 (encode-length next (w .good)))
+pub done-behind : {r : Result} {area out text : List ℕ} {d : ℤ} {next : Engine} → Done r area out text d next → drop areaSize (r .area) ≡ drop areaSize area
+done-behind {area = area} {next = next} w = rw (w .area) (drop-at (encode next) (drop areaSize area) areaSize (encode-length next (w .good)))
 
-pub done-length : {r : Result} {area out text : List ℕ} {d : ℤ} {next : Engine} → Done r area out text d next → 6144 ≤ length area → length (r .area) ≡ length area
+pub done-length : {r : Result} {area out text : List ℕ} {d : ℤ} {next : Engine} → Done r area out text d next → areaSize ≤ length area → length (r .area) ≡ length area
 done-length {area = area} {next = next} w h = rw (w .area, length-append, encode-length next (w .good), length-drop) (omega arith)
 
 -- the bytes written are the text
@@ -89,7 +89,7 @@ zero-of k a b e h = go (eqb k 0) refl
 module _ (text : List ℕ) (day : ℕ) (area : List ℕ) where
   pub record Opens : Type 0 where
     pub none : firstOf (openStops (length area) text day) ≡ 0
-    pub long : 6144 ≤ length area
+    pub long : areaSize ≤ length area
     pub done : Done (cardOpen text day area) area [] [] (pos 0) (opened text day)
 
   pub open-accepted : cardOpen text day area .number ≡ 0 → Opens
@@ -98,7 +98,7 @@ module _ (text : List ℕ) (day : ℕ) (area : List ℕ) where
       let a : openCall (length area) (holds area) text day .number ≡ 0 = on-zero _ area [] h in
       let k : firstOf (openStops (length area) text day) ≡ 0 = zero-of _ _ (refused (firstOf (openStops (length area) text day)) (holds area)) refl a in record {
         none = k;
-        long = leb-true 6144 (length area) (not-false _ (passed 9 _ _ k .first));
+        long = leb-true areaSize (length area) (not-false _ (passed 9 _ _ k .first));
         done = rw k (on-done [] (pos 0) (opened text day) area [] (opened-within (length area) text day k));
       }
 

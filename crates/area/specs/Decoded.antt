@@ -8,7 +8,7 @@ use lib.Dec.{leb}
 use lib.ListN.{length, take, drop}
 use borrow.Author.Tests.{leb-true}
 use Rattle.rules.specs.Text.{isSome}
-use Rattle.rules.specs.Area.{numberAt, positionIn, referenceIn, decode, holds}
+use Rattle.rules.specs.Area.{numberAt, positionIn, referenceIn, decode, holds, areaSize, positionsPlace, textsPlace}
 use Rattle.laws.specs.Parts.{cut}
 use Rattle.area.specs.Facts.{There, there}
 use Rattle.area.specs.Limits.{Limits, limits}
@@ -26,13 +26,13 @@ module _ (a : List ℕ) (h : isSome (holds a) ≡ true) where
   pub decoded-limits : Limits (decode a)
   decoded-limits = limits (decode a) (decoded .good)
 
-  pub decoded-room : (k : ℕ) → leb k 6144 ≡ true → k ≤ length a
-  decoded-room k l = let m : k ≤ 6144 = leb-true k 6144 l in omega (arith, decoded .long)
+  pub decoded-room : (k : ℕ) → leb k areaSize ≡ true → k ≤ length a
+  decoded-room k l = let m : k ≤ areaSize = leb-true k areaSize l in omega (arith, decoded .long)
 
   -- how many positions and references there are
   pub decoded-positions : numberAt a 7 1 ≡ length (decode a .positions)
   unfolding decode
-  decoded-positions = sym (records-length positionIn (numberAt a 7 1) (drop 1552 a))
+  decoded-positions = sym (records-length positionIn (numberAt a 7 1) (drop positionsPlace a))
 
   pub decoded-references : numberAt a 8 1 ≡ length (decode a .references)
   unfolding decode
@@ -42,9 +42,9 @@ module _ (a : List ℕ) (h : isSome (holds a) ≡ true) where
   pub decoded-text : numberAt a 10 2 ≡ length (decode a .register)
   decoded-text = text-number a (decode a) decoded
 
-  pub decoded-register : cut a 2320 (2320 + length (decode a .register)) ≡ decode a .register
+  pub decoded-register : cut a textsPlace (textsPlace + length (decode a .register)) ≡ decode a .register
   unfolding decode
-  decoded-register = cut-is a 2320 (length (decode a .register)) ∙ ap (λ (n : ℕ). take n (drop 2320 a)) (sym decoded-text)
+  decoded-register = cut-is a textsPlace (length (decode a .register)) ∙ ap (λ (n : ℕ). take n (drop textsPlace a)) (sym decoded-text)
 
   pub decoded-short : length (decode a .register) ≤ 1544
   decoded-short = register-length (decode a .register) (decoded-limits .register)

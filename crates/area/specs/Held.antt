@@ -11,7 +11,7 @@ use lib.Seq.{take-at, drop-at}
 use borrow.Author.Tests.{leb-true, le-leb}
 use Rattle.rules.specs.Text.{bytes}
 use Rattle.rules.specs.Engine.{Position, Reference, Engine, goodPosition, goodPositions, goodReference, goodReferences, within}
-use Rattle.rules.specs.Area.{zeros, padded, joined, referenceRecord, positionRecord, mark, header, encode, numberAt, referenceIn, positionIn, records, decode, holds}
+use Rattle.rules.specs.Area.{zeros, padded, joined, referenceRecord, positionRecord, mark, header, encode, numberAt, referenceIn, positionIn, records, decode, holds, areaSize, positionsPlace, positionsRoom, referencesRoom, textsPlace, textsRoom}
 use Rattle.laws.specs.Digits.{places-length}
 use Rattle.laws.specs.Sections.{zeros-length, padded-length}
 use Rattle.laws.specs.Tests.{and-left, and-right, cond-right}
@@ -43,9 +43,9 @@ drop-of a p q i h e = rw (e, drop-at p q i h)
 image : List ℕ → Engine → List ℕ
 image m e =
     (m ++ bytes 3 (e .day) ++ bytes 2 (e .count) ++ bytes 1 (length (e .positions)) ++ bytes 1 (length (e .references)) ++ (bytes 1 0 ++ bytes 2 (length (e .register)) ++ bytes 4 0))
-    ++ padded 1536 (joined (map referenceRecord (e .references)))
-    ++ padded 768 (joined (map positionRecord (e .positions)))
-    ++ padded 3824 (e .register)
+    ++ padded referencesRoom (joined (map referenceRecord (e .references)))
+    ++ padded positionsRoom (joined (map positionRecord (e .positions)))
+    ++ padded textsRoom (e .register)
 
 module _ (e : Engine) (l : Limits e) (m : List ℕ) (two : length m ≡ 2) where
   R : List ℕ
@@ -54,20 +54,20 @@ module _ (e : Engine) (l : Limits e) (m : List ℕ) (two : length m ≡ 2) where
   P : List ℕ
   P = joined (map positionRecord (e .positions))
 
-  length-R : length R ≤ 1536
+  length-R : length R ≤ referencesRoom
   unfolding R
   length-R = omega (arith, joined-length referenceRecord referenceIn (references-kept (e .references) (l .forms)), l .today)
 
-  length-P : length P ≤ 768
+  length-P : length P ≤ positionsRoom
   unfolding P
   length-P = omega (arith, joined-length positionRecord positionIn (positions-kept (e .day) (e .positions) (l .good)), l .few)
 
-  length-G : length (e .register) ≤ 3824
+  length-G : length (e .register) ≤ textsRoom
   length-G = omega (arith, register-length (e .register) (l .register))
 
-  image-length : length (image m e) ≡ 6144
+  image-length : length (image m e) ≡ areaSize
   unfolding image R P
-  image-length = simp (length-append, places-length, two, padded-length 1536 R length-R, padded-length 768 P length-P, padded-length 3824 (e .register) length-G)
+  image-length = simp (length-append, places-length, two, padded-length referencesRoom R length-R, padded-length positionsRoom P length-P, padded-length textsRoom (e .register) length-G)
 
   -- it is read back, whatever stands behind it
   decode-image : (rest : List ℕ) → decode (image m e ++ rest) ≡ e
@@ -82,16 +82,16 @@ module _ (e : Engine) (l : Limits e) (m : List ℕ) (two : length m ≡ 2) where
       let L : List ℕ = bytes 2 (length (e .register)) in
       let Q : List ℕ = bytes 4 0 in
       let G : List ℕ = e .register in
-      let u : List ℕ = zeros (1536 - length R) in
-      let v : List ℕ = zeros (768 - length P) in
-      let w : List ℕ = zeros (3824 - length G) ++ rest in
+      let u : List ℕ = zeros (referencesRoom - length R) in
+      let v : List ℕ = zeros (positionsRoom - length P) in
+      let w : List ℕ = zeros (textsRoom - length G) ++ rest in
       let texts : List ℕ = R ++ (u ++ (P ++ (v ++ (G ++ w)))) in
       let few : length (e .references) ≤ 64 = l .today in
       let many : length (e .positions) ≤ 32 = l .few in
       let small : e .count ≤ 32 + 18 * length (e .references) = l .numbered in
       let short : length G ≤ 1544 = register-length G (l .register) in
       let day : e .day < 1000000 = date-small (e .day) (l .day) in
-      let sizes : (length R ≤ 1536) × (length P ≤ 768) = (length-R, length-P) in
+      let sizes : (length R ≤ referencesRoom) × (length P ≤ positionsRoom) = (length-R, length-P) in
       let count-at : numberAt a 5 2 ≡ e .count =
       number-at a (m ++ D) (N ++ (M ++ (O ++ (L ++ (Q ++ texts))))) 5 2 (e .count) (simp (length-append, places-length, two)) (omega arith) (simp append-assoc) in
       let positions-at : numberAt a 7 1 ≡ length (e .positions) =
@@ -102,21 +102,21 @@ module _ (e : Engine) (l : Limits e) (m : List ℕ) (two : length m ≡ 2) where
       number-at a (m ++ D ++ C ++ N ++ M ++ O) (Q ++ texts) 10 2 (length G) (simp (length-append, places-length, two)) (omega arith) (simp append-assoc) in
       let H : List ℕ = m ++ D ++ C ++ N ++ M ++ O ++ L ++ Q in
       let from-R : drop 16 a ≡ R ++ (u ++ (P ++ (v ++ (G ++ w)))) = drop-of a H texts 16 (simp (length-append, places-length, two)) (simp append-assoc) in
-      let from-P : drop 1552 a ≡ P ++ (v ++ (G ++ w)) =
-      drop-of a (H ++ R ++ u) (P ++ (v ++ (G ++ w))) 1552 (simp (length-append, places-length, two, zeros-length) (omega arith)) (simp append-assoc) in
-      let from-G : drop 2320 a ≡ G ++ w =
-      drop-of a (H ++ R ++ u ++ P ++ v) (G ++ w) 2320 (simp (length-append, places-length, two, zeros-length) (omega arith)) (simp append-assoc) in
-      let text : take (numberAt a 10 2) (drop 2320 a) ≡ G = rw (length-at, from-G) (take-at G w (length G) refl) in
+      let from-P : drop positionsPlace a ≡ P ++ (v ++ (G ++ w)) =
+      drop-of a (H ++ R ++ u) (P ++ (v ++ (G ++ w))) positionsPlace (simp (length-append, places-length, two, zeros-length) (omega arith)) (simp append-assoc) in
+      let from-G : drop textsPlace a ≡ G ++ w =
+      drop-of a (H ++ R ++ u ++ P ++ v) (G ++ w) textsPlace (simp (length-append, places-length, two, zeros-length) (omega arith)) (simp append-assoc) in
+      let text : take (numberAt a 10 2) (drop textsPlace a) ≡ G = rw (length-at, from-G) (take-at G w (length G) refl) in
       let rs : map referenceIn (records (numberAt a 8 1) (drop 16 a)) ≡ e .references =
       rw (references-at, from-R) (records-back referenceRecord referenceIn (u ++ (P ++ (v ++ (G ++ w)))) (references-kept (e .references) (l .forms))) in
-      let ps : map positionIn (records (numberAt a 7 1) (drop 1552 a)) ≡ e .positions =
+      let ps : map positionIn (records (numberAt a 7 1) (drop positionsPlace a)) ≡ e .positions =
       rw (positions-at, from-P) (records-back positionRecord positionIn (v ++ (G ++ w)) (positions-kept (e .day) (e .positions) (l .good))) in
       let at-day : numberAt a 2 3 ≡ e .day =
       number-at a m (C ++ (N ++ (M ++ (O ++ (L ++ (Q ++ texts)))))) 2 3 (e .day) two (omega arith) (simp append-assoc) in
       λ i. record { register = text i; day = at-day i; positions = ps i; references = rs i; count = count-at i }
 
 module _ (e : Engine) (h : within e ≡ true) where
-  pub encode-length : length (encode e) ≡ 6144
+  pub encode-length : length (encode e) ≡ areaSize
   unfolding encode header image
   encode-length = image-length e (limits e h) mark refl
 
@@ -128,28 +128,28 @@ module _ (e : Engine) (h : within e ≡ true) where
   pub holds-encode : (rest : List ℕ) → holds (encode e ++ rest) ≡ some e
   unfolding holds
   holds-encode rest =
-      let long : leb 6144 (length (encode e ++ rest)) ≡ true = le-leb 6144 (length (encode e ++ rest)) (rw (length-append, encode-length) (omega arith)) in
-      let front : take 6144 (encode e ++ rest) ≡ encode e = take-at (encode e) rest 6144 encode-length in
+      let long : leb areaSize (length (encode e ++ rest)) ≡ true = le-leb areaSize (length (encode e ++ rest)) (rw (length-append, encode-length) (omega arith)) in
+      let front : take areaSize (encode e ++ rest) ≡ encode e = take-at (encode e) rest areaSize encode-length in
       rw (decode-encode rest, long, h, front, equal-same (encode e))
 
 -- an area that holds an engine: it is long enough, the engine is within its limits, and the first 6,144 bytes are the engine's, so that there is but one
 pub record Held (area : List ℕ) (e : Engine) : Type 0 where
-  pub long : 6144 ≤ length area
+  pub long : areaSize ≤ length area
   pub good : within e ≡ true
-  pub front : take 6144 area ≡ encode e
+  pub front : take areaSize area ≡ encode e
   pub read : decode area ≡ e
 
 pub held : (area : List ℕ) (e : Engine) → holds area ≡ some e → Held area e
 unfolding holds
 held area e h =
     let g : Gave _ (decode area) e = gave _ _ h in
-    let t : (leb 6144 (length area) && within (decode area)) ≡ true = and-left _ _ (g .test) in record {
-      long = leb-true 6144 (length area) (and-left _ _ t);
-      good = rw (g .is) at (and-right (leb 6144 (length area)) _ t);
-      front = sym (rw (g .is) at (equal-true (encode (decode area)) (take 6144 area) (and-right (leb 6144 (length area) && within (decode area)) _ (g .test))));
+    let t : (leb areaSize (length area) && within (decode area)) ≡ true = and-left _ _ (g .test) in record {
+      long = leb-true areaSize (length area) (and-left _ _ t);
+      good = rw (g .is) at (and-right (leb areaSize (length area)) _ t);
+      front = sym (rw (g .is) at (equal-true (encode (decode area)) (take areaSize area) (and-right (leb areaSize (length area) && within (decode area)) _ (g .test))));
       read = g .is;
     }
 
 -- such an area is the engine's bytes and what stands behind them
-pub held-parts : (area : List ℕ) (e : Engine) → Held area e → area ≡ encode e ++ drop 6144 area
-held-parts area e a = sym (take-append-drop 6144 area) ∙ ap (λ (l : List ℕ). l ++ drop 6144 area) (a .front)
+pub held-parts : (area : List ℕ) (e : Engine) → Held area e → area ≡ encode e ++ drop areaSize area
+held-parts area e a = sym (take-append-drop areaSize area) ∙ ap (λ (l : List ℕ). l ++ drop areaSize area) (a .front)

@@ -13,7 +13,7 @@ use Rattle.rules.specs.Text.{every, equal, number, bytes, isSome, given}
 use Rattle.rules.specs.Dates.{exists}
 use Rattle.rules.specs.Register.{register}
 use Rattle.rules.specs.Engine.{Engine, within}
-use Rattle.rules.specs.Area.{zeros, padded, joined, mark, header, encode, numberAt, referenceIn, positionIn, referenceRecord, positionRecord, records, decode, holds}
+use Rattle.rules.specs.Area.{zeros, padded, joined, mark, header, encode, numberAt, referenceIn, positionIn, referenceRecord, positionRecord, records, decode, holds, areaSize, positionsPlace, positionsRoom, referencesRoom, textsPlace, textsRoom}
 use Rattle.laws.specs.Digits.{places-length}
 use Rattle.laws.specs.Numbers.{Within, bytes-within, number-bytes}
 use Rattle.laws.specs.Parts.{cut}
@@ -135,7 +135,7 @@ module _ {A : Type 0} (f : List ℕ → Bool) (write : A → List ℕ) (reads : 
 pub text-number : (a : List ℕ) (e : Engine) → Held a e → numberAt a 10 2 ≡ length (e .register)
 unfolding header whole
 text-number a e h =
-    let rest : List ℕ = referencePart (e .references) ++ (positionPart (e .positions) ++ (textPart (e .register) ++ drop 6144 a)) in
+    let rest : List ℕ = referencePart (e .references) ++ (positionPart (e .positions) ++ (textPart (e .register) ++ drop areaSize a)) in
     let short : length (e .register) ≤ 1544 = register-length (e .register) (limits e (h .good) .register) in
     ap number
     (ap (λ (x : List ℕ). take 2 (drop 10 x)) (held-sections a e h .whole)
@@ -146,7 +146,7 @@ module _ (a : List ℕ) (b : Bytes a) (e : Engine) (h : Held a e) where
   l : Limits e
   l = limits e (h .good)
 
-  s : Of e (drop 6144 a) a
+  s : Of e (drop areaSize a) a
   s = held-sections a e h
 
   day-at : numberAt a 2 3 ≡ e .day
@@ -157,7 +157,7 @@ module _ (a : List ℕ) (b : Bytes a) (e : Engine) (h : Held a e) where
   unfolding decode
   count-at = ap (λ (x : Engine). x .count) (h .read)
 
-  positions-at : map positionIn (records (numberAt a 7 1) (drop 1552 a)) ≡ e .positions
+  positions-at : map positionIn (records (numberAt a 7 1) (drop positionsPlace a)) ≡ e .positions
   unfolding decode
   positions-at = ap (λ (x : Engine). x .positions) (h .read)
 
@@ -165,12 +165,12 @@ module _ (a : List ℕ) (b : Bytes a) (e : Engine) (h : Held a e) where
   unfolding decode
   references-at = ap (λ (x : Engine). x .references) (h .read)
 
-  text-at : take (numberAt a 10 2) (drop 2320 a) ≡ e .register
+  text-at : take (numberAt a 10 2) (drop textsPlace a) ≡ e .register
   unfolding decode
   text-at = ap (λ (x : Engine). x .register) (h .read)
 
   many-positions : numberAt a 7 1 ≡ length (e .positions)
-  many-positions = sym (records-length positionIn (numberAt a 7 1) (drop 1552 a)) ∙ ap length positions-at
+  many-positions = sym (records-length positionIn (numberAt a 7 1) (drop positionsPlace a)) ∙ ap length positions-at
 
   many-references : numberAt a 8 1 ≡ length (e .references)
   many-references = sym (records-length referenceIn (numberAt a 8 1) (drop 16 a)) ∙ ap length references-at
@@ -178,7 +178,7 @@ module _ (a : List ℕ) (b : Bytes a) (e : Engine) (h : Held a e) where
   header-passes : headerTest a ≡ true
   unfolding header whole
   header-passes =
-      let rest : List ℕ = referencePart (e .references) ++ (positionPart (e .positions) ++ (textPart (e .register) ++ drop 6144 a)) in
+      let rest : List ℕ = referencePart (e .references) ++ (positionPart (e .positions) ++ (textPart (e .register) ++ drop areaSize a)) in
       let m : take 2 a ≡ mark = ap (take 2) (s .whole) ∙ mark-part mark refl (e .day) (e .count) (length (e .positions)) (length (e .references)) 0 (length (e .register)) 0 rest in
       let o : take 1 (drop 9 a) ≡ bytes 1 0 =
       ap (λ (x : List ℕ). take 1 (drop 9 x)) (s .whole) ∙ currency-part mark refl (e .day) (e .count) (length (e .positions)) (length (e .references)) 0 (length (e .register)) 0 rest in
@@ -190,9 +190,9 @@ module _ (a : List ℕ) (b : Bytes a) (e : Engine) (h : Held a e) where
   unfolding referencesTest referencePart
   references-pass =
       let n : number (cut a 8 9) ≡ numberAt a 8 1 = ap number (cut-is a 8 1) in
-      let few : 24 * length (e .references) ≤ 1536 = omega (arith, l .today) in
-      let c : Passing referenceFits referenceRecord (numberAt a 8 1) 16 1536 a (e .references) =
-      section-passes referenceFits referenceRecord referenceIn Form reference-checks 1536 (e .references) (numberAt a 8 1) b (references-stand s) (references-kept (e .references) (l .forms)) many-references few (omega (arith, h .long)) (all-forms (e .references) (l .forms)) in
+      let few : 24 * length (e .references) ≤ referencesRoom = omega (arith, l .today) in
+      let c : Passing referenceFits referenceRecord (numberAt a 8 1) 16 referencesRoom a (e .references) =
+      section-passes referenceFits referenceRecord referenceIn Form reference-checks referencesRoom (e .references) (numberAt a 8 1) b (references-stand s) (references-kept (e .references) (l .forms)) many-references few (omega (arith, h .long)) (all-forms (e .references) (l .forms)) in
       let r : All Rec (records (numberAt a 8 1) (drop 16 a)) = records-bytes a b (numberAt a 8 1) 16 (omega (arith, many-references, h .long)) in
       let w : All Filed (records (numberAt a 8 1) (drop 16 a)) = filed-all r (whole-all r (rw references-at (sym (c .stand)))) in
       rw (n, references-walk, c .pass, filed-walk a (numberAt a 8 1) 16 w, references-at, l .filed) (c .zero)
@@ -202,11 +202,11 @@ module _ (a : List ℕ) (b : Bytes a) (e : Engine) (h : Held a e) where
   positions-pass =
       let n : number (cut a 7 8) ≡ numberAt a 7 1 = ap number (cut-is a 7 1) in
       let d : number (cut a 2 5) ≡ e .day = ap number (cut-is a 2 3) ∙ day-at in
-      let few : 24 * length (e .positions) ≤ 768 = omega (arith, l .few) in
-      let c : Passing (positionFits (e .day)) positionRecord (numberAt a 7 1) 1552 768 a (e .positions) =
-      section-passes (positionFits (e .day)) positionRecord positionIn (Good (e .day)) (position-checks (e .day)) 768 (e .positions) (numberAt a 7 1) b (positions-stand s) (positions-kept (e .day) (e .positions) (l .good)) many-positions few (omega (arith, h .long)) (all-good (e .day) (e .positions) (l .good)) in
-      let r : All Rec (records (numberAt a 7 1) (drop 1552 a)) = records-bytes a b (numberAt a 7 1) 1552 (omega (arith, many-positions, l .few, h .long)) in
-      rw (n, d, positions-walk, c .pass, order-walk a (numberAt a 7 1) 1552 r, positions-at, l .order) (c .zero)
+      let few : 24 * length (e .positions) ≤ positionsRoom = omega (arith, l .few) in
+      let c : Passing (positionFits (e .day)) positionRecord (numberAt a 7 1) positionsPlace positionsRoom a (e .positions) =
+      section-passes (positionFits (e .day)) positionRecord positionIn (Good (e .day)) (position-checks (e .day)) positionsRoom (e .positions) (numberAt a 7 1) b (positions-stand s) (positions-kept (e .day) (e .positions) (l .good)) many-positions few (omega (arith, h .long)) (all-good (e .day) (e .positions) (l .good)) in
+      let r : All Rec (records (numberAt a 7 1) (drop positionsPlace a)) = records-bytes a b (numberAt a 7 1) positionsPlace (omega (arith, many-positions, l .few, h .long)) in
+      rw (n, d, positions-walk, c .pass, order-walk a (numberAt a 7 1) positionsPlace r, positions-at, l .order) (c .zero)
 
   text-passes : textTest a (number (cut a 10 12)) ≡ true
   unfolding textTest textPart
@@ -214,12 +214,12 @@ module _ (a : List ℕ) (b : Bytes a) (e : Engine) (h : Held a e) where
       let short : length (e .register) ≤ 1544 = register-length (e .register) (l .register) in
       let m : numberAt a 10 2 ≡ length (e .register) = text-number a e h in
       let n : number (cut a 10 12) ≡ length (e .register) = ap number (cut-is a 10 2) ∙ m in
-      let t : cut a 2320 (2320 + length (e .register)) ≡ e .register = cut-is a 2320 (length (e .register)) ∙ ap (λ (x : ℕ). take x (drop 2320 a)) (sym m) ∙ text-at in
-      rw (n, le-leb _ _ short, t, l .register) (stands-zeros 3824 (e .register) (text-stands s) (omega arith))
+      let t : cut a textsPlace (textsPlace + length (e .register)) ≡ e .register = cut-is a textsPlace (length (e .register)) ∙ ap (λ (x : ℕ). take x (drop textsPlace a)) (sym m) ∙ text-at in
+      rw (n, le-leb _ _ short, t, l .register) (stands-zeros textsRoom (e .register) (text-stands s) (omega arith))
 
   pub held-passes : areaTest a ≡ true
   unfolding areaTest
-  held-passes = rw (le-leb 6144 (length a) (h .long), header-passes, references-pass, positions-pass) text-passes
+  held-passes = rw (le-leb areaSize (length a) (h .long), header-passes, references-pass, positions-pass) text-passes
 
 -- ---- an area that passes holds an engine
 
@@ -232,7 +232,7 @@ module _ {A : Type 0} (f : List ℕ → Bool) (write : A → List ℕ) (reads : 
       let e : map write (map reads (records n (drop base a))) ≡ records n (drop base a) = each-same f write reads P c (records-bytes a b n base (omega arith)) g in
       rw (e, joined-records n (drop base a)) (zeros-stand a base (24 * n) room few long z)
 
-area-form : (a : List ℕ) → areaTest a ≡ (leb 6144 (length a) && (headerTest a && (referencesTest a (numberAt a 8 1) && (positionsTest (numberAt a 2 3) a (numberAt a 7 1) && textTest a (numberAt a 10 2)))))
+area-form : (a : List ℕ) → areaTest a ≡ (leb areaSize (length a) && (headerTest a && (referencesTest a (numberAt a 8 1) && (positionsTest (numberAt a 2 3) a (numberAt a 7 1) && textTest a (numberAt a 10 2)))))
 unfolding areaTest
 area-form a = rw (cut-is a 8 1, cut-is a 2 3, cut-is a 7 1, cut-is a 10 2)
 
@@ -242,7 +242,7 @@ head-parts a = rw (take-part a 12 4, take-part a 10 2, take-part a 9 1, take-par
 
 -- the tests, one by one
 record Passed (a : List ℕ) : Type 0 where
-  long : 6144 ≤ length a
+  long : areaSize ≤ length a
   mark : take 2 a ≡ mark
   day : exists (numberAt a 2 3) ≡ true
   count : numberAt a 5 2 ≤ 32 + 18 * numberAt a 8 1
@@ -252,13 +252,13 @@ record Passed (a : List ℕ) : Type 0 where
   lengths : every isZero (take 4 (drop 12 a)) ≡ true
   references : walk (always (referenceTest a)) (numberAt a 8 1) 16 ≡ true
   filed : walk (always (filedTest a)) (numberAt a 8 1 - 1) 16 ≡ true
-  behind-references : every isZero (cut a (16 + 24 * numberAt a 8 1) 1552) ≡ true
-  positions : walk (always (positionTest (numberAt a 2 3) a)) (numberAt a 7 1) 1552 ≡ true
-  order : walk (always (orderTest a)) (numberAt a 7 1 - 1) 1552 ≡ true
-  behind-positions : every isZero (cut a (1552 + 24 * numberAt a 7 1) 2320) ≡ true
+  behind-references : every isZero (cut a (16 + 24 * numberAt a 8 1) positionsPlace) ≡ true
+  positions : walk (always (positionTest (numberAt a 2 3) a)) (numberAt a 7 1) positionsPlace ≡ true
+  order : walk (always (orderTest a)) (numberAt a 7 1 - 1) positionsPlace ≡ true
+  behind-positions : every isZero (cut a (positionsPlace + 24 * numberAt a 7 1) textsPlace) ≡ true
   short : numberAt a 10 2 ≤ 1544
-  text : isSome (register (cut a 2320 (2320 + numberAt a 10 2))) ≡ true
-  behind-text : every isZero (cut a (2320 + numberAt a 10 2) 6144) ≡ true
+  text : isSome (register (cut a textsPlace (textsPlace + numberAt a 10 2))) ≡ true
+  behind-text : every isZero (cut a (textsPlace + numberAt a 10 2) areaSize) ≡ true
 
 passed : (a : List ℕ) → areaTest a ≡ true → Passed a
 unfolding referencesTest positionsTest textTest
@@ -292,25 +292,25 @@ module _ (a : List ℕ) (b : Bytes a) (t : Passed a) where
   rows : each referenceFits (records (numberAt a 8 1) (drop 16 a)) ≡ true
   rows = sym (references-walk a (numberAt a 8 1) 16) ∙ t .references
 
-  entries : each (positionFits (numberAt a 2 3)) (records (numberAt a 7 1) (drop 1552 a)) ≡ true
-  entries = sym (positions-walk (numberAt a 2 3) a (numberAt a 7 1) 1552) ∙ t .positions
+  entries : each (positionFits (numberAt a 2 3)) (records (numberAt a 7 1) (drop positionsPlace a)) ≡ true
+  entries = sym (positions-walk (numberAt a 2 3) a (numberAt a 7 1) positionsPlace) ∙ t .positions
 
   references-good : All Form (map referenceIn (records (numberAt a 8 1) (drop 16 a)))
-  references-good = section-good referenceFits referenceRecord referenceIn Form reference-checks a b 16 1536 (numberAt a 8 1) (omega (arith, t .today)) (omega (arith, t .long)) rows
+  references-good = section-good referenceFits referenceRecord referenceIn Form reference-checks a b 16 referencesRoom (numberAt a 8 1) (omega (arith, t .today)) (omega (arith, t .long)) rows
 
-  positions-good : All (Good (numberAt a 2 3)) (map positionIn (records (numberAt a 7 1) (drop 1552 a)))
-  positions-good = section-good (positionFits (numberAt a 2 3)) positionRecord positionIn (Good (numberAt a 2 3)) (position-checks (numberAt a 2 3)) a b 1552 768 (numberAt a 7 1) (omega (arith, t .few)) (omega (arith, t .long)) entries
+  positions-good : All (Good (numberAt a 2 3)) (map positionIn (records (numberAt a 7 1) (drop positionsPlace a)))
+  positions-good = section-good (positionFits (numberAt a 2 3)) positionRecord positionIn (Good (numberAt a 2 3)) (position-checks (numberAt a 2 3)) a b positionsPlace positionsRoom (numberAt a 7 1) (omega (arith, t .few)) (omega (arith, t .long)) entries
 
   references-filed : All Filed (records (numberAt a 8 1) (drop 16 a))
   references-filed =
       let r : All Rec (records (numberAt a 8 1) (drop 16 a)) = records-bytes a b (numberAt a 8 1) 16 (omega (arith, t .today, t .long)) in
       filed-all r (whole-all r (each-same referenceFits referenceRecord referenceIn Form reference-checks r rows))
 
-  text-is : take (numberAt a 10 2) (drop 2320 a) ≡ cut a 2320 (2320 + numberAt a 10 2)
-  text-is = sym (cut-is a 2320 (numberAt a 10 2))
+  text-is : take (numberAt a 10 2) (drop textsPlace a) ≡ cut a textsPlace (textsPlace + numberAt a 10 2)
+  text-is = sym (cut-is a textsPlace (numberAt a 10 2))
 
-  text-length : length (take (numberAt a 10 2) (drop 2320 a)) ≡ numberAt a 10 2
-  text-length = length-take-le (numberAt a 10 2) (drop 2320 a) (rw length-drop (omega (arith, t .short, t .long)))
+  text-length : length (take (numberAt a 10 2) (drop textsPlace a)) ≡ numberAt a 10 2
+  text-length = length-take-le (numberAt a 10 2) (drop textsPlace a) (rw length-drop (omega (arith, t .short, t .long)))
 
   decoded-within : within (decode a) ≡ true
   unfolding decode
@@ -319,7 +319,7 @@ module _ (a : List ℕ) (b : Bytes a) (t : Passed a) where
     day = t .day;
     few = rw records-length (t .few);
     good = good-all positions-good;
-    order = sym (order-walk a (numberAt a 7 1) 1552 (records-bytes a b (numberAt a 7 1) 1552 (omega (arith, t .few, t .long)))) ∙ t .order;
+    order = sym (order-walk a (numberAt a 7 1) positionsPlace (records-bytes a b (numberAt a 7 1) positionsPlace (omega (arith, t .few, t .long)))) ∙ t .order;
     today = rw records-length (t .today);
     forms = forms-all references-good;
     filed = sym (filed-walk a (numberAt a 8 1) 16 references-filed) ∙ t .filed;
@@ -340,27 +340,27 @@ module _ (a : List ℕ) (b : Bytes a) (t : Passed a) where
   header-same : header (decode a) ≡ take 16 a
   unfolding header decode
   header-same =
-      let p : length (map positionIn (records (numberAt a 7 1) (drop 1552 a))) ≡ numberAt a 7 1 = records-length positionIn (numberAt a 7 1) (drop 1552 a) in
+      let p : length (map positionIn (records (numberAt a 7 1) (drop positionsPlace a))) ≡ numberAt a 7 1 = records-length positionIn (numberAt a 7 1) (drop positionsPlace a) in
       let r : length (map referenceIn (records (numberAt a 8 1) (drop 16 a))) ≡ numberAt a 8 1 = records-length referenceIn (numberAt a 8 1) (drop 16 a) in
       rw (p, r, text-length) (headed mark (t .mark))
 
-  reference-same : referencePart (decode a .references) ≡ take 1536 (drop 16 a)
+  reference-same : referencePart (decode a .references) ≡ take referencesRoom (drop 16 a)
   unfolding referencePart decode
-  reference-same = section-same referenceFits referenceRecord referenceIn Form reference-checks a b 16 1536 (numberAt a 8 1) (omega (arith, t .today)) (omega (arith, t .long)) rows (t .behind-references)
+  reference-same = section-same referenceFits referenceRecord referenceIn Form reference-checks a b 16 referencesRoom (numberAt a 8 1) (omega (arith, t .today)) (omega (arith, t .long)) rows (t .behind-references)
 
-  position-same : positionPart (decode a .positions) ≡ take 768 (drop 1552 a)
+  position-same : positionPart (decode a .positions) ≡ take positionsRoom (drop positionsPlace a)
   unfolding positionPart decode
-  position-same = section-same (positionFits (numberAt a 2 3)) positionRecord positionIn (Good (numberAt a 2 3)) (position-checks (numberAt a 2 3)) a b 1552 768 (numberAt a 7 1) (omega (arith, t .few)) (omega (arith, t .long)) entries (t .behind-positions)
+  position-same = section-same (positionFits (numberAt a 2 3)) positionRecord positionIn (Good (numberAt a 2 3)) (position-checks (numberAt a 2 3)) a b positionsPlace positionsRoom (numberAt a 7 1) (omega (arith, t .few)) (omega (arith, t .long)) entries (t .behind-positions)
 
-  text-same : textPart (decode a .register) ≡ take 3824 (drop 2320 a)
+  text-same : textPart (decode a .register) ≡ take textsRoom (drop textsPlace a)
   unfolding textPart decode
-  text-same = zeros-stand a 2320 (numberAt a 10 2) 3824 (omega (arith, t .short)) (omega (arith, t .long)) (t .behind-text)
+  text-same = zeros-stand a textsPlace (numberAt a 10 2) textsRoom (omega (arith, t .short)) (omega (arith, t .long)) (t .behind-text)
 
 -- the four sections are the first 6,144 bytes
-area-parts : (a : List ℕ) → take 16 a ++ take 1536 (drop 16 a) ++ take 768 (drop 1552 a) ++ take 3824 (drop 2320 a) ≡ take 6144 a
+area-parts : (a : List ℕ) → take 16 a ++ take referencesRoom (drop 16 a) ++ take positionsRoom (drop positionsPlace a) ++ take textsRoom (drop textsPlace a) ≡ take areaSize a
 area-parts a =
-    ap (λ (x : List ℕ). x ++ take 3824 (drop 2320 a)) (ap (λ (x : List ℕ). x ++ take 768 (drop 1552 a)) (sym (take-part a 16 1536)) ∙ sym (take-part a 1552 768))
-    ∙ sym (take-part a 2320 3824)
+    ap (λ (x : List ℕ). x ++ take textsRoom (drop textsPlace a)) (ap (λ (x : List ℕ). x ++ take positionsRoom (drop positionsPlace a)) (sym (take-part a 16 referencesRoom)) ∙ sym (take-part a positionsPlace positionsRoom))
+    ∙ sym (take-part a textsPlace textsRoom)
 
 encoded : (e : Engine) (h r p t : List ℕ) → header e ≡ h → referencePart (e .references) ≡ r → positionPart (e .positions) ≡ p → textPart (e .register) ≡ t → encode e ≡ h ++ r ++ p ++ t
 unfolding encode referencePart positionPart textPart
@@ -370,9 +370,9 @@ pub passes-holds : (a : List ℕ) → Bytes a → areaTest a ≡ true → holds 
 unfolding holds
 passes-holds a b h =
     let t : Passed a = passed a h in
-    let s : encode (decode a) ≡ take 6144 a = encoded (decode a) _ _ _ _ (header-same a b t) (reference-same a b t) (position-same a b t) (text-same a b t) ∙ area-parts a in
-    let q : equal (encode (decode a)) (take 6144 a) ≡ true = ap (λ (x : List ℕ). equal x (take 6144 a)) s ∙ equal-same (take 6144 a) in
-    let p : (leb 6144 (length a) && within (decode a) && equal (encode (decode a)) (take 6144 a)) ≡ true = and-both _ _ (and-both _ _ (le-leb 6144 (length a) (t .long)) (decoded-within a b t)) q in
+    let s : encode (decode a) ≡ take areaSize a = encoded (decode a) _ _ _ _ (header-same a b t) (reference-same a b t) (position-same a b t) (text-same a b t) ∙ area-parts a in
+    let q : equal (encode (decode a)) (take areaSize a) ≡ true = ap (λ (x : List ℕ). equal x (take areaSize a)) s ∙ equal-same (take areaSize a) in
+    let p : (leb areaSize (length a) && within (decode a) && equal (encode (decode a)) (take areaSize a)) ≡ true = and-both _ _ (and-both _ _ (le-leb areaSize (length a) (t .long)) (decoded-within a b t)) q in
     ap (λ (x : Bool). given x (decode a)) p
 
 -- number 10

@@ -9,7 +9,7 @@ use Rattle.rules.specs.Dates.{exists}
 use Rattle.rules.specs.Accounts.{isBic}
 use Rattle.rules.specs.Register.{register}
 use Rattle.rules.specs.Engine.{Position, limit, slashed}
-use Rattle.rules.specs.Area.{mark, untilZero}
+use Rattle.rules.specs.Area.{mark, untilZero, areaSize, positionsPlace, textsPlace}
 use Rattle.laws.specs.Parts.{cut}
 use Rattle.area.specs.Walk.{walk, always}
 
@@ -49,7 +49,7 @@ unfoldable pub filedTest : List ℕ → ℕ → Bool
 filedTest a p = precedesBy (number (cut a p (p + 8))) (cut a (p + 8) (p + 8 + 16)) (number (cut a (p + 24) (p + 24 + 8))) (cut a (p + 24 + 8) (p + 24 + 8 + 16))
 
 unfoldable pub referencesTest : List ℕ → ℕ → Bool
-referencesTest a n = walk (always (referenceTest a)) n 16 && (walk (always (filedTest a)) (n - 1) 16 && every isZero (cut a (16 + 24 * n) 1552))
+referencesTest a n = walk (always (referenceTest a)) n 16 && (walk (always (filedTest a)) (n - 1) 16 && every isZero (cut a (16 + 24 * n) positionsPlace))
 
 -- ---- positions
 
@@ -85,18 +85,18 @@ unfoldable pub orderTest : List ℕ → ℕ → Bool
 orderTest a p = earlierBy (number (cut a p (p + 8))) (number (cut a (p + 8) (p + 11))) (number (cut a (p + 24) (p + 24 + 8))) (number (cut a (p + 24 + 8) (p + 24 + 11)))
 
 unfoldable pub positionsTest : ℕ → List ℕ → ℕ → Bool
-positionsTest day a n = walk (always (positionTest day a)) n 1552 && (walk (always (orderTest a)) (n - 1) 1552 && every isZero (cut a (1552 + 24 * n) 2320))
+positionsTest day a n = walk (always (positionTest day a)) n positionsPlace && (walk (always (orderTest a)) (n - 1) positionsPlace && every isZero (cut a (positionsPlace + 24 * n) textsPlace))
 
 -- ---- texts
 
 unfoldable pub textTest : List ℕ → ℕ → Bool
-textTest a n = leb n 1544 && (isSome (register (cut a 2320 (2320 + n))) && every isZero (cut a (2320 + n) 6144))
+textTest a n = leb n 1544 && (isSome (register (cut a textsPlace (textsPlace + n))) && every isZero (cut a (textsPlace + n) areaSize))
 
 -- ---- all of them
 
 unfoldable pub areaTest : List ℕ → Bool
 areaTest a =
-    leb 6144 (length a)
+    leb areaSize (length a)
     && (headerTest a
     && (referencesTest a (number (cut a 8 9))
     && (positionsTest (number (cut a 2 5)) a (number (cut a 7 8))

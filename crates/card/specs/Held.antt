@@ -10,11 +10,11 @@ use lib.ListN.{length, take}
 use Rattle.rules.specs.Text.{isSome, equal, given}
 use Rattle.rules.specs.Engine.{Engine, within}
 use Rattle.laws.specs.Writing.{Wrote, ahead, furthest}
-use Rattle.rules.specs.Area.{holds, decode, encode}
+use Rattle.rules.specs.Area.{holds, decode, encode, areaSize}
 
 pub held-decode : (area : List ℕ) → isSome (holds area) ≡ true → holds area ≡ some (decode area)
 unfolding holds
-held-decode area h = go (leb 6144 (length area) && within (decode area) && equal (encode (decode area)) (take 6144 area)) h
+held-decode area h = go (leb areaSize (length area) && within (decode area) && equal (encode (decode area)) (take areaSize area)) h
   where
     go : (t : Bool) → isSome (given t (decode area)) ≡ true → given t (decode area) ≡ some (decode area)
     go true k = refl

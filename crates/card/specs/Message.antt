@@ -15,7 +15,7 @@ use Rattle.rules.specs.Messages.{Message, read}
 use Rattle.rules.specs.Register.{registerOf}
 use Rattle.rules.specs.Engine.{Engine, Position}
 use Rattle.rules.specs.Calls.{stop, firstOf, holdsOf, noRoom, overLimit, added, inputStops, stateStops, messageStops, messageText, writes, after, afterMessage, messageCall, bothOf, acceptedMessage, refused}
-use Rattle.rules.specs.Area.{cardMessage, onAreas, stored, encode, decode, holds}
+use Rattle.rules.specs.Area.{cardMessage, onAreas, stored, encode, decode, holds, areaSize}
 use Rattle.laws.specs.Parts.{cut}
 use Rattle.laws.specs.Tests.{held-told}
 use Rattle.laws.specs.Writing.{wrote-over, furthest}
@@ -97,7 +97,7 @@ module _ (s area out : List ℕ) where
 
       pub message-accepted : {n : ℕ} {d : ℤ} {area' out' : List ℕ} → firstOf (limitStops e m) ≡ 0 → length (messageText e m) ≤ length out
           → n ≡ length (messageText e m) → d ≡ subℕ (after e m .transferred) (after e m .detailed)
-          → area' ≡ encode (afterMessage e m) ++ drop 6144 area → out' ≡ over (messageText e m) out → mag d < 2 ^ 63
+          → area' ≡ encode (afterMessage e m) ++ drop areaSize area → out' ≡ over (messageText e m) out → mag d < 2 ^ 63
           → Answers (cardMessage s area out) 0 n d area' out'
       unfolding onAreas acceptedMessage stored
       message-accepted l w p q a o m₁ = rw (accepted l w) record { number = refl; written = p; difference = q; area = a; output = o; small = m₁ }
@@ -108,13 +108,13 @@ module _ (s area out : List ℕ) where
 pub record Sent (s a out : List ℕ) (n : ℕ) (z : ℤ) (a' out' : List ℕ) : Type 0 where
   pub written : n ≡ length (messageText (decode a) (messageIn s))
   pub difference : z ≡ subℕ (after (decode a) (messageIn s) .transferred) (after (decode a) (messageIn s) .detailed)
-  pub area : a' ≡ encode (afterMessage (decode a) (messageIn s)) ++ drop 6144 a
+  pub area : a' ≡ encode (afterMessage (decode a) (messageIn s)) ++ drop areaSize a
   pub output : out' ≡ over (messageText (decode a) (messageIn s)) out
   pub small : mag z < 2 ^ 63
 
 -- the area holds the engine after the message
 pub record Booked (s a a' : List ℕ) : Type 0 where
-  pub area : a' ≡ encode (afterMessage (decode a) (messageIn s)) ++ drop 6144 a
+  pub area : a' ≡ encode (afterMessage (decode a) (messageIn s)) ++ drop areaSize a
 
 -- p is the message's position as it leaves it
 pub record Leaves (a s : List ℕ) (p : W.Position) : Type 0 where
@@ -177,7 +177,7 @@ module _ (s area : List ℕ) (h : isSome (holds area) ≡ true) where
 
       -- the area with the message
       pub booked-done : {a' : List ℕ} {w : ℕ} → w ≡ decode area .count + writes (decode area) (messageIn s)
-          → a' ≡ encode (bookedWith (decode area) (position (b .bank) (b .date) t d) (reference (b .bank) (cut s (b .reference .start) (b .reference .end))) w) ++ drop 6144 area → Booked s area a'
+          → a' ≡ encode (bookedWith (decode area) (position (b .bank) (b .date) t d) (reference (b .bank) (cut s (b .reference .start) (b .reference .end))) w) ++ drop areaSize area → Booked s area a'
       booked-done f c = record { area = c ∙ rw (position-is, k .bank, k .reference, f, booked-after) refl }
 
 pub sent-done : {s area : List ℕ} {b : Booking} {p : W.Position} {parts : ℕ} {amounts places verdicts : List ℕ} → Ready s area b p parts amounts places verdicts → {out out' a' : List ℕ} {r : Numbered} {z : ℤ} → length (messageText (decode area) (messageIn s)) ≤ length out

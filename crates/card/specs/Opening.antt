@@ -13,7 +13,7 @@ use Rattle.rules.specs.Dates.{exists}
 use Rattle.rules.specs.Register.{register}
 use Rattle.rules.specs.Engine.{Engine}
 use Rattle.rules.specs.Calls.{firstOf, openStops, opened, openCall, refused}
-use Rattle.rules.specs.Area.{cardOpen, onAreas, stored, encode, holds}
+use Rattle.rules.specs.Area.{cardOpen, onAreas, stored, encode, holds, areaSize}
 use Rattle.laws.specs.Tests.{held-told}
 use Rattle.card.specs.Answers.{Answers}
 
@@ -23,11 +23,11 @@ module _ (text : List ℕ) (day : ℕ) (area : List ℕ) where
   unfolding cardOpen openCall onAreas
   refusal k e n = record { number = rw (e, n, n) refl; written = rw (e, n, n) refl; difference = rw (e, n, n) refl; area = rw (e, n, n) refl; output = rw (e, n, n) refl; small = lit< tt }
 
-  pub open-short : length area < 6144 → Answers (cardOpen text day area) 10 0 (pos 0) area []
+  pub open-short : length area < areaSize → Answers (cardOpen text day area) 10 0 (pos 0) area []
   unfolding firstOf openStops
   open-short h = refusal 10 (rw (lt-leb _ _ h) refl) refl
 
-  module _ (l : 6144 ≤ length area) (t : Bool) (u : t ≡ exists day) where
+  module _ (l : areaSize ≤ length area) (t : Bool) (u : t ≡ exists day) where
     pub open-day : t ≡ false → Answers (cardOpen text day area) 3 0 (pos 0) area []
     unfolding firstOf openStops
     open-day d = refusal 3 (rw (le-leb _ _ l, ← u, d) refl) refl
@@ -37,7 +37,7 @@ module _ (text : List ℕ) (day : ℕ) (area : List ℕ) where
       unfolding firstOf openStops
       open-register r = refusal 9 (rw (le-leb _ _ l, ← u, d, ← v, r) refl) refl
 
-      pub open-accepted : {area' : List ℕ} → q ≡ true → area' ≡ encode (opened text day) ++ drop 6144 area → Answers (cardOpen text day area) 0 0 (pos 0) area' []
+      pub open-accepted : {area' : List ℕ} → q ≡ true → area' ≡ encode (opened text day) ++ drop areaSize area → Answers (cardOpen text day area) 0 0 (pos 0) area' []
       unfolding firstOf openStops cardOpen openCall onAreas stored over
       open-accepted {area'} r a = record {
         number = rw (le-leb _ _ l, ← u, d, ← v, r) refl;

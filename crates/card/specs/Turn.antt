@@ -14,7 +14,7 @@ use Rattle.rules.specs.Text.{isSome, over}
 use Rattle.rules.specs.Dates.{exists}
 use Rattle.rules.specs.Engine.{Engine}
 use Rattle.rules.specs.Calls.{firstOf, turnStops, turnText, refunded, collected, afterTurn, turnCall, acceptedTurn, refused}
-use Rattle.rules.specs.Area.{cardTurn, onAreas, stored, encode, decode, holds}
+use Rattle.rules.specs.Area.{cardTurn, onAreas, stored, encode, decode, holds, areaSize}
 use Rattle.laws.specs.Tests.{held-told}
 use Rattle.laws.specs.Writing.{wrote-over, furthest}
 use Rattle.outgoing_number.specs.declared.Numbered.{Numbered}
@@ -60,7 +60,7 @@ module _ (day : ℕ) (area out : List ℕ) where
 
     pub turn-accepted : {n : ℕ} {z : ℤ} {area' out' : List ℕ} → exists day ≡ true → e .day < day → length (turnText e day) ≤ length out
         → n ≡ length (turnText e day) → z ≡ subℕ (refunded (e .positions)) (collected (e .positions))
-        → area' ≡ encode (afterTurn e day) ++ drop 6144 area → out' ≡ over (turnText e day) out → mag z < 2 ^ 63
+        → area' ≡ encode (afterTurn e day) ++ drop areaSize area → out' ≡ over (turnText e day) out → mag z < 2 ^ 63
         → Answers (cardTurn day area out) 0 n z area' out'
     unfolding onAreas acceptedTurn stored
     turn-accepted d l w p q a o m = rw (accepted d l w) record { number = refl; written = p; difference = q; area = a; output = o; small = m }
@@ -71,13 +71,13 @@ module _ (day : ℕ) (area out : List ℕ) where
 pub record Turned (day : ℕ) (a out : List ℕ) (n : ℕ) (z : ℤ) (a' out' : List ℕ) : Type 0 where
   pub written : n ≡ length (turnText (decode a) day)
   pub difference : z ≡ subℕ (refunded (decode a .positions)) (collected (decode a .positions))
-  pub area : a' ≡ encode (afterTurn (decode a) day) ++ drop 6144 a
+  pub area : a' ≡ encode (afterTurn (decode a) day) ++ drop areaSize a
   pub output : out' ≡ over (turnText (decode a) day) out
   pub small : mag z < 2 ^ 63
 
 -- its text written, its sums, and the area turned
 pub turned-done : (day : ℕ) {a out out' a' : List ℕ} {r : Numbered} {z : ℤ} (x : Sums) → length (turnText (decode a) day) ≤ length out → TurnPut a day 0 out r out'
-    → Totals (decode a .positions) x → z ≡ subℕ (x .refunded) (x .collected) → a' ≡ encode (turned (decode a) day (r .count)) ++ drop 6144 a → Turned day a out (r .at) z a' out'
+    → Totals (decode a .positions) x → z ≡ subℕ (x .refunded) (x .collected) → a' ≡ encode (turned (decode a) day (r .count)) ++ drop areaSize a → Turned day a out (r .at) z a' out'
 turned-done day {a} x l w t d c = record {
   written = wrote-exact (w .wrote) l;
   difference = d ∙ rw (t .refunded, t .collected) refl;

@@ -9,7 +9,7 @@ use lib.Signed.{mag}
 use lib.ListN.{length}
 use Rattle.rules.specs.Engine.{Engine}
 use Rattle.rules.specs.Calls.{Answer, openCall, messageCall, turnCall}
-use Rattle.rules.specs.Area.{holds}
+use Rattle.rules.specs.Area.{holds, areaSize}
 use Rattle.rules.specs.Replay as R
 use Rattle.rules.specs.Replay.{Commanded, command, called, printed, run, onward}
 use Rattle.laws.specs.Parts.{cut, from, from-all}
@@ -37,7 +37,7 @@ isEnd End = true
 
 -- the card's answer to a command
 unfoldable pub answerTo : List ℕ → Command → ℕ → Option Engine → Answer
-answerTo s (Opens day a b) room held = openCall 6144 held (cut s a b) day
+answerTo s (Opens day a b) room held = openCall areaSize held (cut s a b) day
 answerTo s (Sends a b) room held = messageCall room held (cut s a b)
 answerTo s (Turns day n) room held = turnCall room held day
 answerTo s End room held = turnCall room held 0
@@ -83,13 +83,13 @@ next-within s x End w = omega arith
 -- at most k commands from at on are left to carry out and to print
 pub record Replaying (s : List ℕ) (at k o room span : ℕ) (area out shown whole start : List ℕ) : Type 0 where
   pub within : at ≤ length s
-  pub long : 6144 ≤ length area
+  pub long : areaSize ≤ length area
   pub lent : length area ≡ span
   pub size : length out ≡ room
   pub shows : length shown ≡ length start
   pub left : Left (run k room (holds area) (from s at)) o shown whole 0 start
 
-pub replay-starts : (s area out start : List ℕ) → 6144 ≤ length area → length start ≤ 2 ^ 63 → Replaying s 0 (length s) 0 (length out) (length area) area out start (run (length s) (length out) (holds area) s) start
+pub replay-starts : (s area out start : List ℕ) → areaSize ≤ length area → length start ≤ 2 ^ 63 → Replaying s 0 (length s) 0 (length out) (length area) area out start (run (length s) (length out) (holds area) s) start
 replay-starts s area out start l f = record { within = omega arith; long = l; lent = refl; size = refl; shows = refl; left = rw from-all record { cursor = refl; output = refl; short = f } }
 
 module _ {s area out shown whole start : List ℕ} {at k o room span : ℕ} (m : Replaying s at k o room span area out shown whole start) where
@@ -117,7 +117,7 @@ module _ {s area out shown whole start : List ℕ} {at k o room span : ℕ} (m :
 -- ---- by the case of a command
 
 module _ (s : List ℕ) (c : Command) {r : Outcome} {area area' out out' : List ℕ} where
-  pub perform-open : (day a b : ℕ) → c ≡ Opens day a b → Told (openCall 6144 (holds area) (cut s a b) day) r area area' out out' → Told (answerTo s c (length out) (holds area)) r area area' out out'
+  pub perform-open : (day a b : ℕ) → c ≡ Opens day a b → Told (openCall areaSize (holds area) (cut s a b) day) r area area' out out' → Told (answerTo s c (length out) (holds area)) r area area' out out'
   unfolding answerTo
   perform-open day a b e t = rw e t
 

@@ -13,7 +13,7 @@ use Rattle.rules.specs.Text.{isSome, over}
 use Rattle.rules.specs.Messages.{Message, read}
 use Rattle.rules.specs.Engine.{Engine, within}
 use Rattle.rules.specs.Calls.{Answer, refused, firstOf, openStops, opened, openCall, inputStops, messageStops, messageCall, bothOf, acceptedMessage, messageText, after, afterMessage, turnStops, turnCall, acceptedTurn, turnText, afterTurn, refunded, collected}
-use Rattle.rules.specs.Area.{encode, holds, Result, stored, onAreas, cardOpen, cardMessage, cardTurn}
+use Rattle.rules.specs.Area.{encode, holds, Result, stored, onAreas, cardOpen, cardMessage, cardTurn, areaSize}
 use Rattle.area.specs.Facts.{There, there, Passed, passed}
 use Rattle.area.specs.Held.{encode-length, Held, held}
 use Rattle.area.specs.Calls.{Done, done-holds, done-text, done-length, Opens, open-accepted, Takes, message-done, Turns, turn-done}
@@ -44,7 +44,7 @@ module _ (k : ℕ) (area out : List ℕ) (n : eqb k 0 ≡ false) where
   same-refused = record { number = rw n; difference = rw n; text = rw n; next = rw n; size = rw n; room = rw n; fits = rw n (omega arith) }
 
 -- accepted
-same-done : {r : Result} {area out text : List ℕ} {d : ℤ} {next : Engine} → r .number ≡ 0 → 6144 ≤ length area → length text ≤ length out → Done r area out text d next
+same-done : {r : Result} {area out text : List ℕ} {d : ℤ} {next : Engine} → r .number ≡ 0 → areaSize ≤ length area → length text ≤ length out → Done r area out text d next
     → Same record { number = 0; text = text; difference = d; next = some next } r area out
 same-done {out = out} {text = text} z l f w = record {
   number = z;
@@ -56,14 +56,14 @@ same-done {out = out} {text = text} z l f w = record {
   fits = rw (w .written) f;
 }
 
-module _ (area : List ℕ) (l : 6144 ≤ length area) where
+module _ (area : List ℕ) (l : areaSize ≤ length area) where
   -- opening: its output is nobody's
   module _ (text : List ℕ) (day : ℕ) where
-    sizes : firstOf (openStops 6144 text day) ≡ firstOf (openStops (length area) text day)
+    sizes : firstOf (openStops areaSize text day) ≡ firstOf (openStops (length area) text day)
     unfolding openStops firstOf
     sizes = rw (le-leb _ _ l)
 
-    open-is : openCall 6144 (holds area) text day ≡ openCall (length area) (holds area) text day
+    open-is : openCall areaSize (holds area) text day ≡ openCall (length area) (holds area) text day
     unfolding openCall
     open-is = rw sizes
 
@@ -83,7 +83,7 @@ module _ (area : List ℕ) (l : 6144 ≤ length area) where
     unfolding openCall cardOpen
     open-stays n = rw n (same-refused _ area [] n)
 
-    pub same-open : Same (openCall 6144 (holds area) text day) (cardOpen text day area) area []
+    pub same-open : Same (openCall areaSize (holds area) text day) (cardOpen text day area) area []
     same-open = rw open-is (pick (eqb (firstOf (openStops (length area) text day)) 0) refl)
       where
         pick : (t : Bool) → eqb (firstOf (openStops (length area) text day)) 0 ≡ t → Same (openCall (length area) (holds area) text day) (cardOpen text day area) area []

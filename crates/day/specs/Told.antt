@@ -12,7 +12,7 @@ use mir.Facts.{toZ-ofZ}
 use Rattle.rules.specs.Text.{ascii, decimal}
 use Rattle.rules.specs.Calls.{Answer, openCall, messageCall, turnCall}
 use Rattle.rules.specs.Replay.{signed, printed}
-use Rattle.rules.specs.Area.{holds, Result, cardOpen, cardMessage, cardTurn}
+use Rattle.rules.specs.Area.{holds, Result, cardOpen, cardMessage, cardTurn, areaSize}
 use Rattle.laws.specs.Parts.{cut, from, from-take}
 use Rattle.laws.specs.Writing.{Wrote, wrote-then}
 use Rattle.card.specs.Answers.{Answers}
@@ -47,7 +47,7 @@ part-is : (s : List ℕ) (a b : ℕ) → a ≤ b → cut s a b ≡ take (b - a) 
 unfolding from
 part-is s a b h = let e : a + (b - a) ≡ b = omega arith in sym (rw e at (from-take s a (b - a)))
 
-module _ (area : List ℕ) (l : 6144 ≤ length area) {k n : ℕ} {d : ℤ} {area' : List ℕ} where
+module _ (area : List ℕ) (l : areaSize ≤ length area) {k n : ℕ} {d : ℤ} {area' : List ℕ} where
   told : (a : Answer) (r : Result) {out out' : List ℕ} → Same a r area out → Answers r k n d area' out' → Told a (record { number = k; written = n; difference = toZ w64 (ofZ w64 d) }) area area' out out'
   told a r {out} s w = record {
     number = w .number ∙ s .number;
@@ -67,9 +67,9 @@ module _ (area : List ℕ) (l : 6144 ≤ length area) {k n : ℕ} {d : ℤ} {are
   told-message input a b out h w = rw (part-is input a b h) (told _ _ (same-message area l out (take (b - a) (drop a input))) w)
 
   -- opening writes nothing
-  opened-told : (text : List ℕ) (day : ℕ) (out : List ℕ) → Answers (cardOpen text day area) k n d area' [] → Told (openCall 6144 (holds area) text day) (record { number = k; written = n; difference = toZ w64 (ofZ w64 d) }) area area' out out
+  opened-told : (text : List ℕ) (day : ℕ) (out : List ℕ) → Answers (cardOpen text day area) k n d area' [] → Told (openCall areaSize (holds area) text day) (record { number = k; written = n; difference = toZ w64 (ofZ w64 d) }) area area' out out
   opened-told text day out w =
-      let s : Same (openCall 6144 (holds area) text day) (cardOpen text day area) area [] = same-open area l text day in
+      let s : Same (openCall areaSize (holds area) text day) (cardOpen text day area) area [] = same-open area l text day in
       let y : cardOpen text day area .written ≡ 0 = omega (arith, s .fits) in
       let z : n ≡ 0 = w .written ∙ y in record {
         number = w .number ∙ s .number;
@@ -84,7 +84,7 @@ module _ (area : List ℕ) (l : 6144 ≤ length area) {k n : ℕ} {d : ℤ} {are
 
   -- the text is a part of the input
   pub told-open : (input : List ℕ) (a b day : ℕ) (out : List ℕ) → a ≤ b → Answers (cardOpen (take (b - a) (drop a input)) day area) k n d area' []
-      → Told (openCall 6144 (holds area) (cut input a b) day) (record { number = k; written = n; difference = toZ w64 (ofZ w64 d) }) area area' out out
+      → Told (openCall areaSize (holds area) (cut input a b) day) (record { number = k; written = n; difference = toZ w64 (ofZ w64 d) }) area area' out out
   told-open input a b day out h w = rw (part-is input a b h) (opened-told (take (b - a) (drop a input)) day out w)
 
 pub ruleset telling = (answer-wrote, told-turn, told-message, told-open)

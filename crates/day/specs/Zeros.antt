@@ -8,13 +8,13 @@ use Rattle.rules.specs.Text.{numberFrom}
 use Rattle.rules.specs.Lines.{lines}
 use Rattle.rules.specs.Register.{register, ofLines}
 use Rattle.rules.specs.Engine.{Engine, within}
-use Rattle.rules.specs.Area.{holds, decode, zeros, records}
+use Rattle.rules.specs.Area.{holds, decode, zeros, records, areaSize}
 use Rattle.rules.specs.Replay.{run, replayIn}
 
-zeros-hold-none : holds (zeros 6144) ≡ none
+zeros-hold-none : holds (zeros areaSize) ≡ none
 unfolding holds zeros decode within register lines ofLines numberFrom records
 zeros-hold-none = refl
 
-pub replays : (input area : List ℕ) (room : ℕ) → area ≡ zeros 6144 → run (length input) room (holds area) input ≡ replayIn room input
+pub replays : (input area : List ℕ) (room : ℕ) → area ≡ zeros areaSize → run (length input) room (holds area) input ≡ replayIn room input
 unfolding replayIn
 replays input area room e = rw (e, zeros-hold-none) refl

@@ -3,7 +3,7 @@ use commands::Command;
 ghost use Prim.Native.Nat.{_≤_};
 ghost use lib.ListN.{length};
 ghost use Rattle.rules.specs.Calls.{openCall, messageCall, turnCall};
-ghost use Rattle.rules.specs.Area.{holds};
+ghost use Rattle.rules.specs.Area.{holds, areaSize};
 ghost use Rattle.laws.specs.Parts.{cut};
 ghost use Rattle.commands.specs.Answers.{Placed};
 ghost use Rattle.day.specs.Told.{Told};
@@ -20,8 +20,8 @@ pub struct Outcome {
 fn call_open(input: &[u8], a: usize, b: usize, day: u32, area: &mut [u8], out: &[u8]) -> Outcome
     requires { ⌜ a ≤ b ⌝ }
     requires { ⌜ b ≤ length (now input) ⌝ }
-    requires { ⌜ 6144 ≤ length (now area) ⌝ }
-    ensures { λ r. ⌜ Told (openCall 6144 (holds (now (area .entry))) (cut (now (input .entry)) a b) day) r (now (area .entry)) (now (area .exit)) (now (out .entry)) (now (out .entry)) ⌝ }
+    requires { ⌜ areaSize ≤ length (now area) ⌝ }
+    ensures { λ r. ⌜ Told (openCall areaSize (holds (now (area .entry))) (cut (now (input .entry)) a b) day) r (now (area .entry)) (now (area .exit)) (now (out .entry)) (now (out .entry)) ⌝ }
 {
     let mut written: usize = 0;
     let mut difference: i64 = 0;
@@ -37,7 +37,7 @@ fn call_open(input: &[u8], a: usize, b: usize, day: u32, area: &mut [u8], out: &
 fn call_message(input: &[u8], a: usize, b: usize, area: &mut [u8], out: &mut [u8]) -> Outcome
     requires { ⌜ a ≤ b ⌝ }
     requires { ⌜ b ≤ length (now input) ⌝ }
-    requires { ⌜ 6144 ≤ length (now area) ⌝ }
+    requires { ⌜ areaSize ≤ length (now area) ⌝ }
     ensures { λ r. ⌜ Told (messageCall (length (now (out .entry))) (holds (now (area .entry))) (cut (now (input .entry)) a b)) r (now (area .entry)) (now (area .exit)) (now (out .entry)) (now (out .exit)) ⌝ }
 {
     let mut written: usize = 0;
@@ -52,7 +52,7 @@ fn call_message(input: &[u8], a: usize, b: usize, area: &mut [u8], out: &mut [u8
 
 // A turn to a day.
 fn call_turn(day: u32, area: &mut [u8], out: &mut [u8]) -> Outcome
-    requires { ⌜ 6144 ≤ length (now area) ⌝ }
+    requires { ⌜ areaSize ≤ length (now area) ⌝ }
     ensures { λ r. ⌜ Told (turnCall (length (now (out .entry))) (holds (now (area .entry))) day) r (now (area .entry)) (now (area .exit)) (now (out .entry)) (now (out .exit)) ⌝ }
 {
     let mut written: usize = 0;
@@ -68,7 +68,7 @@ fn call_turn(day: u32, area: &mut [u8], out: &mut [u8]) -> Outcome
 // A command carried out. (Of the end nothing is asked: it is taken for a turn to no day.)
 pub fn perform(input: &[u8], c: Command, area: &mut [u8], out: &mut [u8]) -> Outcome
     requires { ⌜ Placed (now input) c ⌝ }
-    requires { ⌜ 6144 ≤ length (now area) ⌝ }
+    requires { ⌜ areaSize ≤ length (now area) ⌝ }
     ensures { λ r. ⌜ Told (answerTo (now (input .entry)) c (length (now (out .entry))) (holds (now (area .entry)))) r (now (area .entry)) (now (area .exit)) (now (out .entry)) (now (out .exit)) ⌝ }
 {
     match c {

@@ -7,7 +7,7 @@ ghost use mathlib.Core.Path.{_≡_};
 ghost use Prim.Native.Nat.{_≤_};
 ghost use lib.ListN.{length};
 ghost use Rattle.rules.specs.Replay.{run};
-ghost use Rattle.rules.specs.Area.{holds};
+ghost use Rattle.rules.specs.Area.{holds, areaSize};
 ghost use Rattle.laws.specs.Writing.{Wrote};
 ghost use Rattle.day.specs.Replaying.{isEnd, nextOf};
 
@@ -37,7 +37,7 @@ fn next_of(c: Command) -> usize
 
 // Carries out the commands of the input one after the other and prints their answers, as far as `printed` reaches; answers how many bytes they are.
 pub fn replay_day(input: &[u8], area: &mut [u8], out: &mut [u8], printed: &mut [u8]) -> usize
-    requires { ⌜ 6144 ≤ length (now area) ⌝ }
+    requires { ⌜ areaSize ≤ length (now area) ⌝ }
     ensures { λ r. ⌜ Wrote (run (length (now (input .entry))) (length (now (out .entry))) (holds (now (area .entry))) (now (input .entry))) 0 (now (printed .entry)) r (now (printed .exit)) ⌝ }
 {
     let mut at: usize = 0;

@@ -10,7 +10,7 @@ use lib.Dec.{eqb, lit<, lit≤}
 use lib.ListN.{length}
 use Rattle.rules.specs.Text.{any}
 use Rattle.rules.specs.Engine.{Position, isOpen, positionOf}
-use Rattle.rules.specs.Area.{positionIn}
+use Rattle.rules.specs.Area.{positionIn, positionsPlace, textsPlace}
 use Rattle.text.specs.Numbers.{NumberAt}
 use Rattle.written.specs.declared.Position as W
 use Rattle.engine.specs.declared.find.Totals.{Totals}
@@ -52,12 +52,12 @@ module _ (area : List ℕ) (p bank date d : ℕ) (n : NumberAt area (p + 8) 3 d)
 
 -- the k positions from p on answer for all of them
 pub record Seeking (area : List ℕ) (p k bank date : ℕ) (all : List Position) : Type 0 where
-  pub room : p + 24 * k ≤ 2320
+  pub room : p + 24 * k ≤ textsPlace
   pub opens : isOpen bank date (positionsAt area p k) ≡ isOpen bank date all
   pub position : positionOf bank date (positionsAt area p k) ≡ positionOf bank date all
 
 module _ (area : List ℕ) (bank date : ℕ) where
-  pub seek-start : (n : ℕ) → n ≤ 32 → Seeking area 1552 n bank date (positionsAt area 1552 n)
+  pub seek-start : (n : ℕ) → n ≤ 32 → Seeking area positionsPlace n bank date (positionsAt area positionsPlace n)
   seek-start n h = record { room = omega arith; opens = refl; position = refl }
 
   module _ {p k : ℕ} {all : List Position} (s : Seeking area p k bank date all) where

@@ -1,13 +1,15 @@
 -- The header of an area: its numbers as they stand, which are those of the engine that the area holds. Assumes nothing.
-use mathlib.Core.Path.{_≡_, sym, _∙_}
+use mathlib.Core.Path.{_≡_, sym, ap, _∙_}
 use mathlib.Core.Bool.{true}
 use mathlib.Core.List.{List}
 use Prim.Native.Nat.{ℕ, _≤_}
 use native.Mathlib.Omega.{arith}
 use lib.ListN.{length}
-use Rattle.rules.specs.Text.{isSome}
-use Rattle.rules.specs.Area.{numberAt, decode, holds}
+use Rattle.rules.specs.Text.{number, isSome}
+use Rattle.rules.specs.Area.{numberAt, decode, holds, areaSize}
+use Rattle.laws.specs.Parts.{cut}
 use Rattle.area.specs.Limits.{Limits}
+use Rattle.area.specs.Records.{cut-is}
 use Rattle.area.specs.Decoded.{decoded, decoded-limits, decoded-positions, decoded-references, decoded-text, decoded-short}
 use Rattle.text.specs.Numbers.{NumberAt}
 use Rattle.engine.specs.declared.header.Header.{Header}
@@ -24,9 +26,26 @@ pub header-read : (a : List ℕ) (day count positions references register : ℕ)
     → HeaderAt a record { day = day; count = count; positions = positions; references = references; register = register }
 header-read a day count positions references register d c p r t = record { day = d .value; count = c .value; positions = p .value; references = r .value; register = t .value }
 
+-- what is asked of a number that was read is asked of the bytes where it stands
+module _ (a : List ℕ) (x : Header) (n : HeaderAt a x) where
+  pub day-stands : x .day ≡ number (cut a 2 5)
+  day-stands = n .day ∙ ap number (sym (cut-is a 2 3))
+
+  pub count-stands : x .count ≡ number (cut a 5 7)
+  count-stands = n .count ∙ ap number (sym (cut-is a 5 2))
+
+  pub positions-stand : x .positions ≡ number (cut a 7 8)
+  positions-stand = n .positions ∙ ap number (sym (cut-is a 7 1))
+
+  pub references-stand : x .references ≡ number (cut a 8 9)
+  references-stand = n .references ∙ ap number (sym (cut-is a 8 1))
+
+  pub register-stands : x .register ≡ number (cut a 10 12)
+  register-stands = n .register ∙ ap number (sym (cut-is a 10 2))
+
 -- the numbers of the engine that the area holds
 pub record HeaderOf (a : List ℕ) (h : Header) : Type 0 where
-  pub long : 6144 ≤ length a
+  pub long : areaSize ≤ length a
   pub day : h .day ≡ decode a .day
   pub count : h .count ≡ decode a .count
   pub positions : h .positions ≡ length (decode a .positions)

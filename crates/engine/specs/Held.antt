@@ -5,7 +5,7 @@ use mathlib.Core.List.{List}
 use Prim.Native.Nat.{ℕ}
 use Rattle.rules.specs.Text.{isSome, any}
 use Rattle.rules.specs.Engine.{Reference}
-use Rattle.rules.specs.Area.{numberAt, decode, holds}
+use Rattle.rules.specs.Area.{numberAt, decode, holds, positionsPlace}
 use Rattle.area.specs.Decoded.{decoded-room, decoded-positions, decoded-references}
 use Rattle.engine.specs.declared.find.Totals.{Totals}
 use Rattle.engine.specs.declared.header.Header.{Header}
@@ -21,7 +21,7 @@ module _ (a : List ℕ) (h : isSome (holds a) ≡ true) (x : Header) (n : Header
   many-references : numberAt a 8 1 ≡ x .references
   many-references = decoded-references a h ∙ sym (n .references)
 
-  pub totals-held : (bank date : ℕ) (r : Totals) → TotalsOf (positionsAt a 1552 (x .positions)) bank date r → TotalsOf (decode a .positions) bank date r
+  pub totals-held : (bank date : ℕ) (r : Totals) → TotalsOf (positionsAt a positionsPlace (x .positions)) bank date r → TotalsOf (decode a .positions) bank date r
   unfolding decode
   totals-held bank date r t = rw (many-positions, values-are) t
 

@@ -10,7 +10,7 @@ use lib.Dec.{leb, eqb, lit≤}
 use lib.ListN.{length, getD, take, drop}
 use Rattle.rules.specs.Text.{isText, every, equal, any}
 use Rattle.rules.specs.Engine.{Reference, sameReference}
-use Rattle.rules.specs.Area.{untilZero, referenceIn}
+use Rattle.rules.specs.Area.{untilZero, referenceIn, positionsPlace}
 use Rattle.laws.specs.Parts.{cut, cut-step, cut-done, cut-length, cut-drop, cut-take}
 use Rattle.laws.specs.Tests.{cond-left, cond-right, and-left}
 use Rattle.area.specs.Layout.{text-byte}
@@ -111,7 +111,7 @@ module _ (area : List ℕ) (p bank : ℕ) (cs : List ℕ) where
 -- ---- among those of an area: the k records from p on answer for all
 
 pub record Among (area : List ℕ) (p k : ℕ) (r : Reference) (x : Bool) : Type 0 where
-  pub room : p + 24 * k ≤ 1552
+  pub room : p + 24 * k ≤ positionsPlace
   pub same : any (sameReference r) (referencesAt area p k) ≡ x
 
 module _ (area : List ℕ) (r : Reference) where

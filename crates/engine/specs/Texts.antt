@@ -8,7 +8,7 @@ use lib.ListN.{length, take, drop, length-take}
 use lib.Seq.{take-take}
 use Rattle.rules.specs.Text.{isSome}
 use Rattle.rules.specs.Register.{register, registerOf}
-use Rattle.rules.specs.Area.{numberAt, decode, holds}
+use Rattle.rules.specs.Area.{numberAt, decode, holds, textsPlace}
 use Rattle.laws.specs.Parts.{cut}
 use Rattle.area.specs.Decoded.{decoded, decoded-limits, decoded-text}
 use Rattle.register.specs.Places.{place, count}
@@ -26,11 +26,11 @@ module _ (a : List ℕ) (h : isSome (holds a) ≡ true) where
   pub text-room : 2342 ≤ length a
   text-room = omega (arith, decoded a h .long)
 
-  pub register-told : (x : Header) → HeaderOf a x → {t : List ℕ} → t ≡ take (2320 + x .register - 2320) (drop 2320 a) → RegisterOf a t
+  pub register-told : (x : Header) → HeaderOf a x → {t : List ℕ} → t ≡ take (textsPlace + x .register - textsPlace) (drop textsPlace a) → RegisterOf a t
   unfolding decode
   register-told x n e =
-      let k : 2320 + x .register - 2320 ≡ numberAt a 10 2 = omega (arith, n .register, decoded-text a h) in
-      let f : _ ≡ decode a .register = e ∙ ap (λ (m : ℕ). take m (drop 2320 a)) k in
+      let k : textsPlace + x .register - textsPlace ≡ numberAt a 10 2 = omega (arith, n .register, decoded-text a h) in
+      let f : _ ≡ decode a .register = e ∙ ap (λ (m : ℕ). take m (drop textsPlace a)) k in
       let size : length (decode a .register) ≡ place (count (decode a .register)) = text-size (decode a .register) (decoded-limits a h .register) in
       record { same = f; passes = rw f (decoded-limits a h .register); enough = rw f (omega (arith, size)) }
 
@@ -41,8 +41,8 @@ module _ (a : List ℕ) (h : isSome (holds a) ≡ true) where
       let size : length (take n cs) ≡ place (count (take n cs)) = text-size (take n cs) p in
       temporary-at (take n cs) p ∙ take-take 22 n cs (omega (arith, length-take n cs))
 
-  pub temporary-told : {t : List ℕ} → t ≡ take 22 (drop 2320 a) → t ≡ registerOf (decode a .register) .temporary
+  pub temporary-told : {t : List ℕ} → t ≡ take 22 (drop textsPlace a) → t ≡ registerOf (decode a .register) .temporary
   unfolding decode
-  temporary-told e = e ∙ sym (begins (numberAt a 10 2) (drop 2320 a) (decoded-limits a h .register))
+  temporary-told e = e ∙ sym (begins (numberAt a 10 2) (drop textsPlace a) (decoded-limits a h .register))
 
 pub ruleset lettering = (text-room, register-told, temporary-told)

@@ -4,6 +4,7 @@ use text::number_at;
 ghost use mathlib.Core.Path.{_≡_};
 ghost use Prim.Native.Nat.{_+_, _≤_};
 ghost use lib.ListN.{length};
+ghost use Rattle.rules.specs.Area.{positionsPlace, textsPlace};
 ghost use Rattle.engine.specs.Positions.{positionsAt};
 ghost use Rattle.engine.specs.Find.{isOf, TotalsOf};
 
@@ -28,8 +29,8 @@ fn is_of(area: &[u8], p: usize, bank: u64, date: u32) -> bool
 // The position of a bank and date among the first n.
 pub fn find_position(area: &[u8], n: u32, bank: u64, date: u32) -> Totals
     requires { ⌜ n ≤ 32 ⌝ }
-    requires { ⌜ 2320 ≤ length (now area) ⌝ }
-    ensures { λ r. ⌜ TotalsOf (positionsAt (now (area .entry)) 1552 n) bank date r ⌝ }
+    requires { ⌜ textsPlace ≤ length (now area) ⌝ }
+    ensures { λ r. ⌜ TotalsOf (positionsAt (now (area .entry)) positionsPlace n) bank date r ⌝ }
 {
     let mut p: usize = 1552;
     let mut k = n;

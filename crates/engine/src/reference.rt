@@ -8,7 +8,7 @@ ghost use lib.Dec.{eqb};
 ghost use lib.ListN.{length};
 ghost use Rattle.rules.specs.Text.{isText, every, equal, any};
 ghost use Rattle.rules.specs.Engine.{sameReference};
-ghost use Rattle.rules.specs.Area.{untilZero};
+ghost use Rattle.rules.specs.Area.{untilZero, positionsPlace};
 ghost use Rattle.laws.specs.Parts.{cut};
 ghost use Rattle.engine.specs.References.{ofBank, referenceAt, referencesAt};
 
@@ -76,7 +76,7 @@ fn same_reference(area: &[u8], p: usize, bank: u64, s: &[u8], a: usize, b: usize
 // Is this bank's reference among the first n?
 pub fn reference_used(area: &[u8], n: u32, bank: u64, s: &[u8], a: usize, b: usize) -> bool
     requires { ⌜ n ≤ 64 ⌝ }
-    requires { ⌜ 1552 ≤ length (now area) ⌝ }
+    requires { ⌜ positionsPlace ≤ length (now area) ⌝ }
     requires { ⌜ a ≤ b ⌝ }
     requires { ⌜ b ≤ length (now s) ⌝ }
     requires { ⌜ b - a ≤ 16 ⌝ }

@@ -5,6 +5,7 @@ use crate::positions::before_last;
 ghost use mathlib.Core.Path.{_≡_};
 ghost use Prim.Native.Nat.{_+_, _-_, _≤_};
 ghost use lib.ListN.{length};
+ghost use Rattle.rules.specs.Area.{textsPlace};
 ghost use Rattle.laws.specs.Parts.{cut};
 ghost use Rattle.area.specs.Walk.{walk, always};
 ghost use Rattle.area.specs.Tests.{textFits, referenceTest, filedTest, referencesTest};
@@ -48,7 +49,7 @@ fn reference_fits(area: &[u8], p: usize) -> bool
 // Is each of the n records a bank's reference?
 fn references_fit(area: &[u8], n: u32) -> bool
     requires { ⌜ n ≤ 64 ⌝ }
-    requires { ⌜ 2320 ≤ length (now area) ⌝ }
+    requires { ⌜ textsPlace ≤ length (now area) ⌝ }
     ensures { λ r. ⌜ r ≡ walk (always (referenceTest (now (area .entry)))) n 16 ⌝ }
 {
     let mut k = n;
@@ -84,7 +85,7 @@ fn stands_before(area: &[u8], p: usize) -> bool
 // Do the n references stand in order?
 fn references_ordered(area: &[u8], n: u32) -> bool
     requires { ⌜ n ≤ 64 ⌝ }
-    requires { ⌜ 2320 ≤ length (now area) ⌝ }
+    requires { ⌜ textsPlace ≤ length (now area) ⌝ }
     ensures { λ r. ⌜ r ≡ walk (always (filedTest (now (area .entry)))) (n - 1) 16 ⌝ }
 {
     let mut k = before_last(n);
@@ -103,7 +104,7 @@ fn references_ordered(area: &[u8], n: u32) -> bool
 // Does the section of n references pass?
 pub fn references_hold(area: &[u8], n: u32) -> bool
     requires { ⌜ n ≤ 64 ⌝ }
-    requires { ⌜ 2320 ≤ length (now area) ⌝ }
+    requires { ⌜ textsPlace ≤ length (now area) ⌝ }
     ensures { λ r. ⌜ r ≡ referencesTest (now (area .entry)) n ⌝ }
 {
     if !references_fit(area, n) {

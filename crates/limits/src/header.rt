@@ -1,15 +1,16 @@
 // Numbers and zeros of an area, and its header.
+use engine::Header;
 ghost use mathlib.Core.Path.{_≡_};
 ghost use mathlib.Core.Bool.{_&&_};
 ghost use Prim.Native.Nat.{_+_, _-_, _*_, _≤_};
 ghost use lib.Dec.{eqb};
 ghost use lib.ListN.{length};
 ghost use Rattle.rules.specs.Text.{every, equal, number};
-ghost use Rattle.rules.specs.Dates.{exists};
-ghost use Rattle.rules.specs.Area.{mark};
+ghost use Rattle.rules.specs.Area.{mark, areaSize};
 ghost use Rattle.laws.specs.Parts.{cut};
 ghost use Rattle.laws.specs.Places.{Passed};
 ghost use Rattle.area.specs.Tests.{isZero, countsTest, headerTest};
+ghost use Rattle.engine.specs.Header.{HeaderAt};
 
 // A number of at most 4 bytes.
 pub fn small_at(s: &[u8], a: usize, b: usize) -> u32
@@ -74,7 +75,7 @@ fn eights_at(s: &[u8], a: usize, n: u32) -> u32
 // Is each byte from a up to b zero?
 pub fn zeros_hold(s: &[u8], a: usize, b: usize) -> bool
     requires { ⌜ a ≤ b ⌝ }
-    requires { ⌜ b - a ≤ 6144 ⌝ }
+    requires { ⌜ b - a ≤ areaSize ⌝ }
     requires { ⌜ b ≤ length (now s) ⌝ }
     ensures { λ r. ⌜ r ≡ every isZero (cut (now (s .entry)) a b) ⌝ }
 {
@@ -108,26 +109,6 @@ fn mark_stands(area: &[u8]) -> bool
     text::equal_parts(area, 0, b"RC", 0, 2)
 }
 
-// Is the day of the header an existing date?
-fn day_exists(area: &[u8]) -> bool
-    requires { ⌜ 16 ≤ length (now area) ⌝ }
-    ensures { λ r. ⌜ r ≡ exists (number (cut (now (area .entry)) 2 5)) ⌝ }
-{
-    calendar::exists(small_at(area, 2, 5))
-}
-
-// Are the numbers of the header within their limits?
-fn counts_hold(area: &[u8]) -> bool
-    requires { ⌜ 16 ≤ length (now area) ⌝ }
-    ensures { λ r. ⌜ r ≡ countsTest (number (cut (now (area .entry)) 5 7)) (number (cut (now (area .entry)) 7 8)) (number (cut (now (area .entry)) 8 9)) ⌝ }
-{
-    counts_fit(
-        small_at(area, 5, 7),
-        small_at(area, 7, 8),
-        small_at(area, 8, 9),
-    )
-}
-
 // Are the unused bytes of the header zero?
 fn unused_zero(area: &[u8]) -> bool
     requires { ⌜ 16 ≤ length (now area) ⌝ }
@@ -140,17 +121,18 @@ fn unused_zero(area: &[u8]) -> bool
 }
 
 // Does the header pass?
-pub fn header_holds(area: &[u8]) -> bool
+pub fn header_holds(area: &[u8], h: Header) -> bool
     requires { ⌜ 16 ≤ length (now area) ⌝ }
+    requires { ⌜ HeaderAt (now area) h ⌝ }
     ensures { λ r. ⌜ r ≡ headerTest (now (area .entry)) ⌝ }
 {
     if !mark_stands(area) {
         return false;
     }
-    if !day_exists(area) {
+    if !calendar::exists(h.day) {
         return false;
     }
-    if !counts_hold(area) {
+    if !counts_fit(h.count, h.positions, h.references) {
         return false;
     }
     unused_zero(area)

@@ -4,6 +4,7 @@ use crate::header::zeros_hold;
 ghost use mathlib.Core.Path.{_≡_};
 ghost use Prim.Native.Nat.{_+_, _-_, _*_, _≤_};
 ghost use lib.ListN.{length};
+ghost use Rattle.rules.specs.Area.{positionsPlace, textsPlace};
 ghost use Rattle.rules.specs.Text.{number};
 ghost use Rattle.laws.specs.Parts.{cut};
 ghost use Rattle.area.specs.Walk.{walk, always};
@@ -60,8 +61,8 @@ fn position_fits(area: &[u8], p: usize, day: u32) -> bool
 // Is each of the n positions within the limits?
 fn positions_fit(area: &[u8], n: u32, day: u32) -> bool
     requires { ⌜ n ≤ 32 ⌝ }
-    requires { ⌜ 2320 ≤ length (now area) ⌝ }
-    ensures { λ r. ⌜ r ≡ walk (always (positionTest day (now (area .entry)))) n 1552 ⌝ }
+    requires { ⌜ textsPlace ≤ length (now area) ⌝ }
+    ensures { λ r. ⌜ r ≡ walk (always (positionTest day (now (area .entry)))) n positionsPlace ⌝ }
 {
     let mut k = n;
     let mut p = 1552;
@@ -119,8 +120,8 @@ pub fn before_last(n: u32) -> u32
 // Do the n positions stand in order?
 fn positions_ordered(area: &[u8], n: u32) -> bool
     requires { ⌜ n ≤ 32 ⌝ }
-    requires { ⌜ 2320 ≤ length (now area) ⌝ }
-    ensures { λ r. ⌜ r ≡ walk (always (orderTest (now (area .entry)))) (n - 1) 1552 ⌝ }
+    requires { ⌜ textsPlace ≤ length (now area) ⌝ }
+    ensures { λ r. ⌜ r ≡ walk (always (orderTest (now (area .entry)))) (n - 1) positionsPlace ⌝ }
 {
     let mut k = before_last(n);
     let mut p = 1552;
@@ -138,7 +139,7 @@ fn positions_ordered(area: &[u8], n: u32) -> bool
 // Does the section of n positions pass?
 pub fn positions_hold(area: &[u8], n: u32, day: u32) -> bool
     requires { ⌜ n ≤ 32 ⌝ }
-    requires { ⌜ 2320 ≤ length (now area) ⌝ }
+    requires { ⌜ textsPlace ≤ length (now area) ⌝ }
     ensures { λ r. ⌜ r ≡ positionsTest day (now (area .entry)) n ⌝ }
 {
     if !positions_fit(area, n, day) {

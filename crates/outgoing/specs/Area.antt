@@ -4,47 +4,39 @@ use mathlib.Core.Bool.{true}
 use mathlib.Core.List.{List, _++_}
 use Prim.Native.Nat.{ℕ, zero, suc, _+_, _-_, _≤_, _<_}
 use native.Mathlib.Omega.{arith}
-use lib.ListN.{length, getD, take, drop, length-take}
+use lib.ListN.{length, take, drop, length-take}
 use lib.Seq.{drop-cons, take-take}
-use Rattle.rules.specs.Text.{isSome, numberFrom}
+use Rattle.rules.specs.Text.{isSome}
 use Rattle.rules.specs.Register.{register, registerOf}
 use Rattle.rules.specs.Written.{correctionPostings, corrections, correctedCount}
 use Rattle.rules.specs.Calls.{turnText}
-use Rattle.rules.specs.Area.{numberAt, decode, holds}
+use Rattle.rules.specs.Area.{numberAt, decode, holds, areaSize, positionsPlace, textsPlace}
 use Rattle.laws.specs.Parts.{cut}
 use Rattle.laws.specs.Writing.{Wrote, wrote-then}
-use Rattle.area.specs.Decoded.{decoded, decoded-limits}
+use Rattle.area.specs.Decoded.{decoded, decoded-limits, decoded-positions}
 use Rattle.register.specs.Places.{place, count}
 use Rattle.register.specs.Passed.{temporary-at, text-size}
+use Rattle.engine.specs.Header.{HeaderOf}
+use Rattle.engine.specs.declared.header.Header.{Header}
 use Rattle.engine.specs.Positions.{valuesAt, positionsAt, values-are}
 use Rattle.outgoing_number.specs.declared.Numbered.{Numbered}
 use Rattle.outgoing.specs.declared.turn.Correcting.{Correcting}
 use Rattle.outgoing.specs.Turn.{temporaryAt, Found, CorrectionsPut}
 
--- a byte as a number
-pub byte-at : (area : List ℕ) (i : ℕ) → i < length area → numberAt area i 1 ≡ getD area i 0
-unfolding numberFrom
-byte-at area i h = rw (drop-cons area i 0 h) (omega arith)
-
-positions-length : (area : List ℕ) (p k : ℕ) → length (positionsAt area p k) ≡ k
-unfolding valuesAt
-positions-length area p zero = refl
-positions-length area p (suc k) = ap suc (positions-length area (p + 24) k)
-
 -- n positions stand in the area
 pub record Standing (area : List ℕ) (n : ℕ) : Type 0 where
-  pub long : 6144 ≤ length area
+  pub long : areaSize ≤ length area
   pub few : n ≤ 32
-  pub positions : decode area .positions ≡ positionsAt area 1552 n
-  pub temporary : registerOf (decode area .register) .temporary ≡ take 22 (drop 2320 area)
+  pub positions : decode area .positions ≡ positionsAt area positionsPlace n
+  pub temporary : registerOf (decode area .register) .temporary ≡ take 22 (drop textsPlace area)
 
 module _ (area : List ℕ) (h : isSome (holds area) ≡ true) where
-  pub standing-long : 6144 ≤ length area
+  pub standing-long : areaSize ≤ length area
   standing-long = decoded area h .long
 
-  positions : decode area .positions ≡ positionsAt area 1552 (getD area 7 0)
+  positions : decode area .positions ≡ positionsAt area positionsPlace (numberAt area 7 1)
   unfolding decode
-  positions = rw (byte-at area 7 (omega (arith, standing-long)), values-are)
+  positions = rw values-are
 
   -- the register's text starts with the temporary account
   text-first : (n : ℕ) (cs : List ℕ) → isSome (register (take n cs)) ≡ true → registerOf (take n cs) .temporary ≡ take 22 cs
@@ -53,17 +45,18 @@ module _ (area : List ℕ) (h : isSome (holds area) ≡ true) where
       let size : length (take n cs) ≡ place (count (take n cs)) = text-size (take n cs) p in
       temporary-at (take n cs) p ∙ take-take 22 n cs (omega (arith, length-take n cs))
 
-  temporary : registerOf (decode area .register) .temporary ≡ take 22 (drop 2320 area)
+  temporary : registerOf (decode area .register) .temporary ≡ take 22 (drop textsPlace area)
   unfolding decode
-  temporary = text-first (numberAt area 10 2) (drop 2320 area) (decoded-limits area h .register)
+  temporary = text-first (numberAt area 10 2) (drop textsPlace area) (decoded-limits area h .register)
 
-  pub standing : (n : ℕ) → n ≡ getD area 7 0 → Standing area n
-  standing n e = record {
-    long = standing-long;
-    few = rw e (rw (positions, positions-length area 1552 (getD area 7 0)) at (decoded-limits area h .few));
-    positions = rw e positions;
-    temporary = temporary;
-  }
+  pub standing : (x : Header) → HeaderOf area x → Standing area (x .positions)
+  standing x n =
+      let e : numberAt area 7 1 ≡ x .positions = decoded-positions area h ∙ sym (n .positions) in record {
+        long = standing-long;
+        few = n .few;
+        positions = rw e at positions;
+        temporary = temporary;
+      }
 
 -- the text of a turn was written, and the count is that of its corrections
 pub record TurnPut (area : List ℕ) (day at : ℕ) (out : List ℕ) (r : Numbered) (out' : List ℕ) : Type 0 where
@@ -71,13 +64,13 @@ pub record TurnPut (area : List ℕ) (day at : ℕ) (out : List ℕ) (r : Number
   pub count : r .count ≡ correctedCount (decode area .positions)
 
 module _ (area : List ℕ) (day n : ℕ) (s : Standing area n) where
-  turn-text : correctionPostings day (temporaryAt area) (positionsAt area 1552 n) ++ corrections day (temporaryAt area) 0 (positionsAt area 1552 n) ≡ turnText (decode area) day
+  turn-text : correctionPostings day (temporaryAt area) (positionsAt area positionsPlace n) ++ corrections day (temporaryAt area) 0 (positionsAt area positionsPlace n) ≡ turnText (decode area) day
   unfolding turnText
   turn-text = rw (s .temporary, s .positions)
 
   -- "Posting lines come first, .. then messages."
-  pub turn-wrote : {at m : ℕ} {r : Numbered} {out out₁ out₂ : List ℕ} {first : Correcting} → Wrote (correctionPostings day (temporaryAt area) (positionsAt area 1552 n)) at out m out₁
-      → Found area m 1552 n first → CorrectionsPut day area first out₁ r out₂ → TurnPut area day at out r out₂
+  pub turn-wrote : {at m : ℕ} {r : Numbered} {out out₁ out₂ : List ℕ} {first : Correcting} → Wrote (correctionPostings day (temporaryAt area) (positionsAt area positionsPlace n)) at out m out₁
+      → Found area m positionsPlace n first → CorrectionsPut day area first out₁ r out₂ → TurnPut area day at out r out₂
   turn-wrote v f w = record {
     wrote = rw (← turn-text) (wrote-then v (rw (f .alike .texts day (temporaryAt area) 0, ← f .behind) (w .wrote)));
     count = w .count ∙ sym (f .alike .counts) ∙ rw (s .positions);

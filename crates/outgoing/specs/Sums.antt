@@ -8,7 +8,7 @@ use lib.Dec.{leb}
 use borrow.Author.Tests.{le-leb}
 use Rattle.rules.specs.Engine.{Position, hasDetails}
 use Rattle.rules.specs.Calls.{refunded, collected}
-use Rattle.rules.specs.Area.{positionIn, decode}
+use Rattle.rules.specs.Area.{positionIn, decode, positionsPlace}
 use Rattle.written.specs.Values.{positionOf}
 use Rattle.written.specs.declared.Position as W
 use Rattle.outgoing.specs.declared.sums.Sums.{Sums}
@@ -77,9 +77,9 @@ collection-small p = go (leb 1 (p .detailed))
 
 -- what is left of the n positions, k from the place p on, completes the sums; each may still add 2 ^ 48
 pub record SumsLeft (area : List ℕ) (p k n : ℕ) (s : Sums) : Type 0 where
-  pub place : p + 24 * k ≡ 1552 + 24 * n
-  pub refunded : s .refunded + refunded (positionsAt area p k) ≡ refunded (positionsAt area 1552 n)
-  pub collected : s .collected + collected (positionsAt area p k) ≡ collected (positionsAt area 1552 n)
+  pub place : p + 24 * k ≡ positionsPlace + 24 * n
+  pub refunded : s .refunded + refunded (positionsAt area p k) ≡ refunded (positionsAt area positionsPlace n)
+  pub collected : s .collected + collected (positionsAt area p k) ≡ collected (positionsAt area positionsPlace n)
   pub small : s .refunded + 281474976710656 * k ≤ 281474976710656 * n
   pub little : s .collected + 281474976710656 * k ≤ 281474976710656 * n
 
@@ -100,7 +100,7 @@ module _ (p : Position) (ps : List Position) where
       go true = omega arith
       go false = omega arith
 
-pub sums-all : (area : List ℕ) (n : ℕ) → SumsLeft area 1552 n n (record { refunded = 0; collected = 0 })
+pub sums-all : (area : List ℕ) (n : ℕ) → SumsLeft area positionsPlace n n (record { refunded = 0; collected = 0 })
 sums-all area n = record { place = refl; refunded = omega arith; collected = omega arith; small = omega arith; little = omega arith }
 
 module _ (area : List ℕ) (p k n : ℕ) (s : Sums) (l : SumsLeft area p k n s) where
@@ -117,7 +117,7 @@ module _ (area : List ℕ) (p k n : ℕ) (s : Sums) (l : SumsLeft area p k n s) 
         little = omega (arith, l .little, d .collected, collection-small x, a .detailed);
       }
 
-  pub sums-end : k ≤ 0 → n ≤ 32 → Totals (positionsAt area 1552 n) s
+  pub sums-end : k ≤ 0 → n ≤ 32 → Totals (positionsAt area positionsPlace n) s
   unfolding refunded collected
   sums-end h m =
       let e : positionsAt area p k ≡ [] = values-none positionIn area p k h in
@@ -129,7 +129,7 @@ module _ (area : List ℕ) (p k n : ℕ) (s : Sums) (l : SumsLeft area p k n s) 
       }
 
 -- the positions that stand in the area
-pub sums-stand : (area : List ℕ) (n : ℕ) (s : Sums) → Standing area n → Totals (positionsAt area 1552 n) s → Totals (decode area .positions) s
+pub sums-stand : (area : List ℕ) (n : ℕ) (s : Sums) → Standing area n → Totals (positionsAt area positionsPlace n) s → Totals (decode area .positions) s
 sums-stand area n s a t = subst (λ (ps : List Position). Totals ps s) (sym (a .positions)) t
 
 pub ruleset summing = (adds-nothing, adds-some, sums-all, sums-more, sums-end, sums-stand)

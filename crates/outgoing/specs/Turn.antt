@@ -9,7 +9,7 @@ use lib.ListN.{length, take, drop}
 use borrow.Author.Tests.{le-leb}
 use Rattle.rules.specs.Engine.{Position, hasDetails}
 use Rattle.rules.specs.Written.{corrected, correctionPosting, correction, correctionPostings, corrections, correctedCount}
-use Rattle.rules.specs.Area.{positionIn}
+use Rattle.rules.specs.Area.{positionIn, textsPlace}
 use Rattle.laws.specs.Writing.{Wrote, Left, left-turn, left-none, left-length, furthest}
 use Rattle.laws.specs.Pieces.{left-all}
 use Rattle.written.specs.Values.{positionOf}
@@ -62,7 +62,7 @@ pub record Alike (ps qs : List Position) : Type 0 where
 pub record Stands (area : List ℕ) (t : Correcting) : Type 0 where
   pub long : 2342 ≤ length area
   pub few : t .left ≤ 32
-  pub place : t .at + 24 * t .left ≤ 2320
+  pub place : t .at + 24 * t .left ≤ textsPlace
   pub due : 0 < t .left → corrected (positionAt area (t .at)) ≡ true
 
 -- a message is due at t
@@ -82,10 +82,10 @@ pub record Seeking (area : List ℕ) (from left p k : ℕ) : Type 0 where
   pub long : 2342 ≤ length area
   pub few : k ≤ 32
   pub fewer : k ≤ left
-  pub place : p + 24 * k ≤ 2320
+  pub place : p + 24 * k ≤ textsPlace
   pub alike : Alike (positionsAt area from left) (positionsAt area p k)
 
-pub seek-all : (area : List ℕ) (from left : ℕ) → 2342 ≤ length area → left ≤ 32 → from + 24 * left ≤ 2320 → Seeking area from left from left
+pub seek-all : (area : List ℕ) (from left : ℕ) → 2342 ≤ length area → left ≤ 32 → from + 24 * left ≤ textsPlace → Seeking area from left from left
 seek-all area from left l f p = record { long = l; few = f; fewer = omega arith; place = p; alike = record { texts = λ day t n. refl; counts = refl } }
 
 module _ (area : List ℕ) (from left p k : ℕ) (s : Seeking area from left p k) where
@@ -126,7 +126,7 @@ module _ (area : List ℕ) (from left p k : ℕ) (s : Seeking area from left p k
 
 -- the temporary account, where it stands
 abbrev pub temporaryAt : List ℕ → List ℕ
-temporaryAt area = take 22 (drop 2320 area)
+temporaryAt area = take 22 (drop textsPlace area)
 
 -- the message at t was written by the reference r, and t' is the next
 pub record CorrectionPut (area : List ℕ) (t : Correcting) (r : Reference) (out : List ℕ) (t' : Correcting) (out' : List ℕ) : Type 0 where

@@ -23,5 +23,6 @@ pub fn position_count(area: &[u8]) -> usize
     requires { ⌜ isSome (holds (now area)) ≡ true ⌝ }
     ensures { λ r. ⌜ Standing (now (area .entry)) r ⌝ }
 {
-    text::wide(area[7]) as usize
+    let h = engine::header_of(area);
+    h.positions as usize
 }

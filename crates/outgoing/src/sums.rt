@@ -7,7 +7,7 @@ ghost use mathlib.Core.Bool.{true};
 ghost use Prim.Native.Nat.{_-_, _+_, _*_, _<_, _≤_};
 ghost use lib.ListN.{length};
 ghost use Rattle.rules.specs.Text.{isSome};
-ghost use Rattle.rules.specs.Area.{decode, holds};
+ghost use Rattle.rules.specs.Area.{decode, holds, positionsPlace};
 ghost use Rattle.written.specs.Values.{positionOf};
 ghost use Rattle.engine.specs.Positions.{positionsAt};
 ghost use Rattle.outgoing.specs.Sums.{Adds, Totals};
@@ -46,8 +46,8 @@ fn with_position(s: Sums, p: Position) -> Sums
 // The sums of n positions.
 fn sums_of(area: &[u8], n: usize) -> Sums
     requires { ⌜ n ≤ 32 ⌝ }
-    requires { ⌜ 1552 + 24 * n ≤ length (now area) ⌝ }
-    ensures { λ r. ⌜ Totals (positionsAt (now (area .entry)) 1552 n) r ⌝ }
+    requires { ⌜ positionsPlace + 24 * n ≤ length (now area) ⌝ }
+    ensures { λ r. ⌜ Totals (positionsAt (now (area .entry)) positionsPlace n) r ⌝ }
 {
     let mut s = Sums {
         refunded: 0,

@@ -14,7 +14,7 @@ ghost use Prim.Native.Nat.{_+_, _*_, _≤_};
 ghost use lib.ListN.{length};
 ghost use Rattle.rules.specs.Text.{isSome};
 ghost use Rattle.rules.specs.Written.{correctionPostings};
-ghost use Rattle.rules.specs.Area.{holds};
+ghost use Rattle.rules.specs.Area.{holds, positionsPlace, textsPlace};
 ghost use Rattle.laws.specs.Writing.{Wrote};
 ghost use Rattle.engine.specs.Positions.{positionsAt};
 ghost use Rattle.outgoing.specs.Turn.{Stands, Due, Found, CorrectionPut, CorrectionsPut};
@@ -29,8 +29,8 @@ fn put_correction_postings(
     area: &[u8],
     n: usize,
 ) -> usize
-    requires { ⌜ 1552 + 24 * n ≤ length (now area) ⌝ }
-    ensures { λ r. ⌜ Wrote (correctionPostings day (now (temporary .entry)) (positionsAt (now (area .entry)) 1552 n)) at (now (out .entry)) r (now (out .exit)) ⌝ }
+    requires { ⌜ positionsPlace + 24 * n ≤ length (now area) ⌝ }
+    ensures { λ r. ⌜ Wrote (correctionPostings day (now (temporary .entry)) (positionsAt (now (area .entry)) positionsPlace n)) at (now (out .entry)) r (now (out .exit)) ⌝ }
 {
     let mut o = at;
     let mut p: usize = 1552;
@@ -60,7 +60,7 @@ pub struct Correcting {
 // The first position to correct of some that are left from a place on.
 fn next_corrected(area: &[u8], out: usize, from: u32, left: u32) -> Correcting
     requires { ⌜ left ≤ 32 ⌝ }
-    requires { ⌜ from + 24 * left ≤ 2320 ⌝ }
+    requires { ⌜ from + 24 * left ≤ textsPlace ⌝ }
     requires { ⌜ 2342 ≤ length (now area) ⌝ }
     ensures { λ r. ⌜ Found (now (area .entry)) out from left r ⌝ }
 {

@@ -16,6 +16,32 @@ use Rattle.rules.specs.Calls.{Answer, openCall, messageCall, turnCall}
 --   1,552  32 positions of 24 bytes: bank (8), date (3), transferred (6), detailed (6), block (1)
 --   2,320  texts, 3,824 bytes: the register
 
+-- where the sections begin: references, positions, texts; and where the area ends
+abbrev pub referencesPlace : ℕ
+referencesPlace = 16
+
+abbrev pub positionsPlace : ℕ
+positionsPlace = 1552
+
+abbrev pub textsPlace : ℕ
+textsPlace = 2320
+
+abbrev pub areaSize : ℕ
+areaSize = 6144
+
+-- the room of each, and of a record
+abbrev pub referencesRoom : ℕ
+referencesRoom = 1536
+
+abbrev pub positionsRoom : ℕ
+positionsRoom = 768
+
+abbrev pub textsRoom : ℕ
+textsRoom = 3824
+
+abbrev pub recordSize : ℕ
+recordSize = 24
+
 -- "zeros hold no engine": n of them
 unfoldable pub zeros : ℕ → List ℕ
 zeros n = replicate n 0
@@ -51,9 +77,9 @@ header e =
 unfoldable pub encode : Engine → List ℕ
 encode e =
     header e
-    ++ padded 1536 (joined (map referenceRecord (e .references)))
-    ++ padded 768 (joined (map positionRecord (e .positions)))
-    ++ padded 3824 (e .register)
+    ++ padded referencesRoom (joined (map referenceRecord (e .references)))
+    ++ padded positionsRoom (joined (map positionRecord (e .positions)))
+    ++ padded textsRoom (e .register)
 
 -- ---- reading an area
 
@@ -74,24 +100,24 @@ referenceIn r = record { sender = numberAt r 0 8; text = untilZero (take 16 (dro
 unfoldable pub positionIn : List ℕ → Position
 positionIn r = record { bank = numberAt r 0 8; date = numberAt r 8 3; transferred = numberAt r 11 6; detailed = numberAt r 17 6 }
 
--- n records of 24 bytes
+-- n records
 unfoldable pub records : ℕ → List ℕ → List (List ℕ)
 records zero cs = []
-records (suc n) cs = take 24 cs ∷ records n (drop 24 cs)
+records (suc n) cs = take recordSize cs ∷ records n (drop recordSize cs)
 
 -- the engine that the bytes say, within the limits or not
 unfoldable pub decode : List ℕ → Engine
 decode a = record {
-  register = take (numberAt a 10 2) (drop 2320 a);
+  register = take (numberAt a 10 2) (drop textsPlace a);
   day = numberAt a 2 3;
-  positions = map positionIn (records (numberAt a 7 1) (drop 1552 a));
-  references = map referenceIn (records (numberAt a 8 1) (drop 16 a));
+  positions = map positionIn (records (numberAt a 7 1) (drop positionsPlace a));
+  references = map referenceIn (records (numberAt a 8 1) (drop referencesPlace a));
   count = numberAt a 5 2;
 }
 
 -- the engine that an area holds; none falls under 10: "the engine area is shorter than 6,144 bytes or .. holds no engine within the limits above"
 unfoldable pub holds : List ℕ → Option Engine
-holds a = let e = decode a in given (leb 6144 (length a) && within e && equal (encode e) (take 6144 a)) e
+holds a = let e = decode a in given (leb areaSize (length a) && within e && equal (encode e) (take areaSize a)) e
 
 -- ---- the three calls on areas
 
@@ -106,7 +132,7 @@ pub record Result : Type 0 where
 -- "an acceptance leaves the next engine there"
 unfoldable pub stored : Option Engine → List ℕ → List ℕ
 stored none area = area
-stored (some e) area = encode e ++ drop 6144 area
+stored (some e) area = encode e ++ drop areaSize area
 
 -- "a refusal changes no byte of output or area"
 unfoldable pub onAreas : Answer → List ℕ → List ℕ → Result

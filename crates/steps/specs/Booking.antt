@@ -11,7 +11,7 @@ use Rattle.rules.specs.Text.{isSome, bytes}
 use Rattle.rules.specs.Messages.{Message}
 use Rattle.rules.specs.Engine.{Position, Reference, Engine, limit, positionOf, booked, filed, within}
 use Rattle.rules.specs.Calls.{added, ownReference, after, noRoom, overLimit, writes, afterMessage}
-use Rattle.rules.specs.Area.{numberAt, referenceRecord, positionRecord, header, encode, decode, holds}
+use Rattle.rules.specs.Area.{numberAt, referenceRecord, positionRecord, header, encode, decode, holds, areaSize, positionsPlace, positionsRoom, referencesRoom}
 use Rattle.laws.specs.Digits.{places-length}
 use Rattle.laws.specs.Parts.{cut, cut-length}
 use Rattle.laws.specs.Laid.{laid, laid-length}
@@ -76,7 +76,7 @@ booking-clear e m w t n o =
 -- the area has these positions then, k of them
 pub record Positions (ps : List Position) (a : List ℕ) (k : ℕ) (b : List ℕ) : Type 0 where
   pub count : k ≡ length ps
-  pub bytes : b ≡ laid (positionPart ps) 1552 a
+  pub bytes : b ≡ laid (positionPart ps) positionsPlace a
 
 pub position-wrote : (bank date t d : ℕ) {at m₁ m₂ m₃ m₄ r : ℕ} {out o₁ o₂ o₃ o₄ out' : List ℕ} → Wrote (bytes 8 bank) at out m₁ o₁ → Wrote (bytes 3 date) m₁ o₁ m₂ o₂ → Wrote (bytes 6 t) m₂ o₂ m₃ o₃
     → Wrote (bytes 6 d) m₃ o₃ m₄ o₄ → Wrote (bytes 1 0) m₄ o₄ r out' → Wrote (positionRecord (position bank date t d)) at out r out'
@@ -100,7 +100,7 @@ raised-wrote a at bank date t d u v e f w = rw (e, f) at w
 -- an open position stands at its place
 record Found (a : List ℕ) (n i bank date : ℕ) : Type 0 where
   inside : i < n
-  is : positionOf bank date (decode a .positions) ≡ positionAt a (1552 + 24 * i)
+  is : positionOf bank date (decode a .positions) ≡ positionAt a (positionsPlace + 24 * i)
 
 found : (a : List ℕ) (n i bank date : ℕ) → Many a n → PlaceOf bank date (decode a .positions) i → isFirst bank date (drop i (decode a .positions)) ≡ true → Found a n i bank date
 unfolding isFirst
@@ -112,8 +112,8 @@ found a n i bank date m p k = go (leb n i) refl
         never (sym (rw (drop-of-length-le (decode a .positions) l) at k))
     go false e =
         let l : i < n = leb-false n i e in
-        let f : drop i (decode a .positions) ≡ positionAt a (1552 + 24 * i) ∷ drop (suc i) (decode a .positions) = positions-from a n i m l in
-        record { inside = l; is = p .found ∙ rw (f, found-same (position bank date 0 0) (positionAt a (1552 + 24 * i)) (drop (suc i) (decode a .positions)) (rw f at k)) }
+        let f : drop i (decode a .positions) ≡ positionAt a (positionsPlace + 24 * i) ∷ drop (suc i) (decode a .positions) = positions-from a n i m l in
+        record { inside = l; is = p .found ∙ rw (f, found-same (position bank date 0 0) (positionAt a (positionsPlace + 24 * i)) (drop (suc i) (decode a .positions)) (rw f at k)) }
 
 module _ (a : List ℕ) (n i bank date t d : ℕ) (m : Many a n) (p : PlaceOf bank date (decode a .positions) i) (x : Bool) (f : x ≡ isFirst bank date (drop i (decode a .positions))) where
   -- an open position is raised
@@ -121,25 +121,25 @@ module _ (a : List ℕ) (n i bank date t d : ℕ) (m : Many a n) (p : PlaceOf ba
     here : Found a n i bank date
     here = found a n i bank date m p (sym f ∙ k)
 
-    new-transferred : positionOf bank date (decode a .positions) .transferred ≡ numberAt a (1552 + 24 * i + 11) 6
-    new-transferred = ap (λ (y : Position). y .transferred) (here .is) ∙ transferred-at a (1552 + 24 * i)
+    new-transferred : positionOf bank date (decode a .positions) .transferred ≡ numberAt a (positionsPlace + 24 * i + 11) 6
+    new-transferred = ap (λ (y : Position). y .transferred) (here .is) ∙ transferred-at a (positionsPlace + 24 * i)
 
-    new-detailed : positionOf bank date (decode a .positions) .detailed ≡ numberAt a (1552 + 24 * i + 17) 6
-    new-detailed = ap (λ (y : Position). y .detailed) (here .is) ∙ detailed-at a (1552 + 24 * i)
+    new-detailed : positionOf bank date (decode a .positions) .detailed ≡ numberAt a (positionsPlace + 24 * i + 17) 6
+    new-detailed = ap (λ (y : Position). y .detailed) (here .is) ∙ detailed-at a (positionsPlace + 24 * i)
 
-    pub raise-fits : Booking (decode a) (position bank date t d) → Raises a (1552 + 24 * i) t d
+    pub raise-fits : Booking (decode a) (position bank date t d) → Raises a (positionsPlace + 24 * i) t d
     raise-fits g = record { inside = omega (arith, here .inside, m .few, m .long); transferred = rw new-transferred at (g .transferred); detailed = rw new-detailed at (g .detailed) }
 
-    pub raise-done : {r : ℕ} {b : List ℕ} → isSome (holds a) ≡ true → Wrote (positionRecord (raisedAt a (1552 + 24 * i) bank date t d)) (1552 + 24 * i) a r b
+    pub raise-done : {r : ℕ} {b : List ℕ} → isSome (holds a) ≡ true → Wrote (positionRecord (raisedAt a (positionsPlace + 24 * i) bank date t d)) (positionsPlace + 24 * i) a r b
         → Positions (booked (position bank date t d) (decode a .positions)) a n b
     unfolding positionPart
     raise-done {b = b} h w =
         let ps : List Position = decode a .positions in
-        let y : Position = raisedAt a (1552 + 24 * i) bank date t d in
+        let y : Position = raisedAt a (positionsPlace + 24 * i) bank date t d in
         let l : i < length ps = omega (arith, here .inside, m .same) in
         let e : booked (position bank date t d) ps ≡ replaced i y ps = p .raises t d (sym f ∙ k) ∙ rw (new-transferred, new-detailed) in
-        let c : b ≡ laid (section 768 positionRecord (replaced i y ps)) 1552 a =
-        section-replaced positionRecord 768 ps (each-map positionRecord position-wide ps) (omega (arith, m .same, m .few)) (positions-section (holding h)) i y (position-wide y) l w in
+        let c : b ≡ laid (section positionsRoom positionRecord (replaced i y ps)) positionsPlace a =
+        section-replaced positionRecord positionsRoom ps (each-map positionRecord position-wide ps) (omega (arith, m .same, m .few)) (positions-section (holding h)) i y (position-wide y) l w in
         record { count = m .same ∙ rw e (sym (replaced-length i y ps l)); bytes = rw e c }
 
   -- a missing one is put in its place
@@ -150,19 +150,19 @@ module _ (a : List ℕ) (n i bank date t d : ℕ) (m : Many a n) (p : PlaceOf ba
     grown : length (booked (position bank date t d) (decode a .positions)) ≡ n + 1
     grown = rw after-place (inserted-length i (position bank date t d) (decode a .positions) (p .within) ∙ omega (arith, m .same))
 
-    pub insert-fits : Booking (decode a) (position bank date t d) → Opens 1552 24 n i (length a)
-    insert-fits g = opens 1552 24 n i (length a) (omega (arith, p .within, m .same)) (omega (arith, g .few, grown, m .long))
+    pub insert-fits : Booking (decode a) (position bank date t d) → Opens positionsPlace 24 n i (length a)
+    insert-fits g = opens positionsPlace 24 n i (length a) (omega (arith, p .within, m .same)) (omega (arith, g .few, grown, m .long))
 
     pub insert-done : {r : ℕ} {b c : List ℕ} → isSome (holds a) ≡ true → Booking (decode a) (position bank date t d)
-        → b ≡ moved (1552 + 24 * i) (1552 + 24 * i + 24) (24 * (n - i)) a → Wrote (positionRecord (position bank date t d)) (1552 + 24 * i) b r c
+        → b ≡ moved (positionsPlace + 24 * i) (positionsPlace + 24 * i + 24) (24 * (n - i)) a → Wrote (positionRecord (position bank date t d)) (positionsPlace + 24 * i) b r c
         → Positions (booked (position bank date t d) (decode a .positions)) a (n + 1) c
     unfolding positionPart
     insert-done {b = b} {c = c} h g u w =
         let ps : List Position = decode a .positions in
         let y : Position = position bank date t d in
-        let v : b ≡ moved (1552 + 24 * i) (1552 + 24 * i + 24) (24 * (length ps - i)) a = rw (m .same) at u in
-        let e : c ≡ laid (section 768 positionRecord (inserted i y ps)) 1552 a =
-        section-inserted positionRecord 768 ps (each-map positionRecord position-wide ps) (omega (arith, m .same, m .few)) (positions-section (holding h)) i y (position-wide y) (p .within) (omega (arith, g .few, grown, m .same)) v w in
+        let v : b ≡ moved (positionsPlace + 24 * i) (positionsPlace + 24 * i + 24) (24 * (length ps - i)) a = rw (m .same) at u in
+        let e : c ≡ laid (section positionsRoom positionRecord (inserted i y ps)) positionsPlace a =
+        section-inserted positionRecord positionsRoom ps (each-map positionRecord position-wide ps) (omega (arith, m .same, m .few)) (positions-section (holding h)) i y (position-wide y) (p .within) (omega (arith, g .few, grown, m .same)) v w in
         record { count = sym grown; bytes = rw after-place e }
 
 -- ---- the message
@@ -176,11 +176,11 @@ module _ (a : List ℕ) (x : Header) (q : Position) (bank : ℕ) (text : List �
     -- there is room for the reference
     pub file-fits : Opens 16 24 (x .references) i (length b)
     file-fits =
-        let l : length b ≡ length a = ap length (p .bytes) ∙ laid-length (positionPart (booked q (decode a .positions))) 1552 a in
+        let l : length b ≡ length a = ap length (p .bytes) ∙ laid-length (positionPart (booked q (decode a .positions))) positionsPlace a in
         opens 16 24 (x .references) i (length b) (omega (arith, f .within, n .references)) (omega (arith, g .today, n .references, n .long, l))
 
     pub book-done : {z : ℕ} {c d : List ℕ} → to ≤ length text → to - from ≤ 16 → Files (x .references) i (reference bank (cut text from to)) b c
-        → Wrote (numbers (x .day) count k (x .references + 1)) 0 c z d → d ≡ encode (bookedWith (decode a) q (reference bank (cut text from to)) count) ++ drop 6144 a
+        → Wrote (numbers (x .day) count k (x .references + 1)) 0 c z d → d ≡ encode (bookedWith (decode a) q (reference bank (cut text from to)) count) ++ drop areaSize a
     unfolding bookedWith referencePart
     book-done {z} {c} {d} j m u w =
         let r : Reference = reference bank (cut text from to) in
@@ -188,15 +188,15 @@ module _ (a : List ℕ) (x : Header) (q : Position) (bank : ℕ) (text : List �
         let e : Engine = decode a in
         let rs : List Reference = e .references in
         let H : Held a e = holding h in
-        let S : Of e (drop 6144 a) a = held-sections a e H in
+        let S : Of e (drop areaSize a) a = held-sections a e H in
         let P' : List ℕ = positionPart (booked q (e .positions)) in
-        let Q : List ℕ = textPart (e .register) ++ drop 6144 a in
-        let lP : length P' ≡ 768 = positions-length (booked q (e .positions)) (g .few) in
-        let y : Stands (header e ++ referencePart rs) P' Q 1552 b = rw (← p .bytes) at (stands-other P' (lP ∙ sym (S .positions)) (positions-stand S)) in
-        let o : Stands (header e) (section 1536 referenceRecord rs) (P' ++ Q) 16 b = stands-back (header e) (referencePart rs) P' Q (S .head) y in
+        let Q : List ℕ = textPart (e .register) ++ drop areaSize a in
+        let lP : length P' ≡ positionsRoom = positions-length (booked q (e .positions)) (g .few) in
+        let y : Stands (header e ++ referencePart rs) P' Q positionsPlace b = rw (← p .bytes) at (stands-other P' (lP ∙ sym (S .positions)) (positions-stand S)) in
+        let o : Stands (header e) (section referencesRoom referenceRecord rs) (P' ++ Q) 16 b = stands-back (header e) (referencePart rs) P' Q (S .head) y in
         let up : u .between ≡ moved (16 + 24 * i) (16 + 24 * i + 24) (24 * (length rs - i)) b = rw (n .references) at (u .up) in
-        let v : c ≡ laid (section 1536 referenceRecord (inserted i r rs)) 16 b =
-        section-inserted referenceRecord 1536 rs (references-each H) (omega (arith, g .today)) o i r (reference-wide r s) (f .within) (omega (arith, g .today)) up (u .wrote) in
+        let v : c ≡ laid (section referencesRoom referenceRecord (inserted i r rs)) 16 b =
+        section-inserted referenceRecord referencesRoom rs (references-each H) (omega (arith, g .today)) o i r (reference-wide r s) (f .within) (omega (arith, g .today)) up (u .wrote) in
         let l : length (filed r rs) ≡ length rs + 1 = filed-length r rs in
         let wide : Each 24 (map referenceRecord (filed r rs)) = rw (f .place, map-inserted) (each-inserted i (referenceRecord r) (references-each H) (reference-wide r s)) in
         let fits : Fits (bookedWith e q r count) = record { few = g .few; today = omega (arith, g .today, l); wide = wide } in

@@ -12,7 +12,7 @@ use lib.Seq.{take-suc, drop-cons, drop-drop}
 use borrow.Author.Tests.{le-leb, lt-leb, eq-eqb, ne-eqb}
 use Rattle.rules.specs.Text.{isText, every, textBefore}
 use Rattle.rules.specs.Engine.{Reference, precedes, filed}
-use Rattle.rules.specs.Area.{numberAt, untilZero, referenceIn, referenceRecord, records, decode}
+use Rattle.rules.specs.Area.{numberAt, untilZero, referenceIn, referenceRecord, records, decode, areaSize}
 use Rattle.laws.specs.Parts.{cut}
 use Rattle.laws.specs.Sections.{inserted}
 use Rattle.laws.specs.Standing.{moved}
@@ -107,7 +107,7 @@ module _ {r : Reference} {rs : List Reference} {i : ℕ} (g : Filing r rs i) whe
 pub record Today (a : List ℕ) (n : ℕ) : Type 0 where
   pub same : n ≡ length (decode a .references)
   pub few : n ≤ 64
-  pub long : 6144 ≤ length a
+  pub long : areaSize ≤ length a
 
 pub today : (a : List ℕ) (x : Header) → HeaderOf a x → Today a (x .references)
 today a x n = record { same = n .references; few = n .today; long = n .long }

@@ -8,7 +8,7 @@ use native.Mathlib.Omega.{arith}
 use lib.ListN.{length, drop, length-append}
 use Rattle.rules.specs.Text.{isSome}
 use Rattle.rules.specs.Engine.{Position, Reference, Engine}
-use Rattle.rules.specs.Area.{referenceRecord, positionRecord, referenceIn, header, encode, decode, holds}
+use Rattle.rules.specs.Area.{referenceRecord, positionRecord, referenceIn, header, encode, decode, holds, areaSize, positionsPlace, positionsRoom, referencesRoom}
 use Rattle.laws.specs.Digits.{places-length}
 use Rattle.laws.specs.Laid.{laid}
 use Rattle.laws.specs.Writing.{Wrote}
@@ -45,11 +45,11 @@ module _ {area : List ℕ} {e : Engine} (h : Held area e) where
   pub references-each : Each 24 (map referenceRecord (e .references))
   references-each = kept-each referenceRecord referenceIn (references-kept (e .references) (limits e (h .good) .forms))
 
-  pub references-section : Stands (header e) (section 1536 referenceRecord (e .references)) (positionPart (e .positions) ++ (textPart (e .register) ++ drop 6144 area)) 16 area
+  pub references-section : Stands (header e) (section referencesRoom referenceRecord (e .references)) (positionPart (e .positions) ++ (textPart (e .register) ++ drop areaSize area)) 16 area
   unfolding referencePart
   references-section = references-stand (held-sections area e h)
 
-  pub positions-section : Stands (header e ++ referencePart (e .references)) (section 768 positionRecord (e .positions)) (textPart (e .register) ++ drop 6144 area) 1552 area
+  pub positions-section : Stands (header e ++ referencePart (e .references)) (section positionsRoom positionRecord (e .positions)) (textPart (e .register) ++ drop areaSize area) positionsPlace area
   unfolding positionPart
   positions-section = positions-stand (held-sections area e h)
 
@@ -61,30 +61,30 @@ pub record Fits (next : Engine) : Type 0 where
   pub today : length (next .references) ≤ 64
   pub wide : Each 24 (map referenceRecord (next .references))
 
-references-length : (rs : List Reference) → Each 24 (map referenceRecord rs) → length rs ≤ 64 → length (referencePart rs) ≡ 1536
+references-length : (rs : List Reference) → Each 24 (map referenceRecord rs) → length rs ≤ 64 → length (referencePart rs) ≡ referencesRoom
 unfolding referencePart
-references-length rs s l = section-length referenceRecord 1536 rs s (omega arith)
+references-length rs s l = section-length referenceRecord referencesRoom rs s (omega arith)
 
-pub positions-length : (ps : List Position) → length ps ≤ 32 → length (positionPart ps) ≡ 768
+pub positions-length : (ps : List Position) → length ps ≤ 32 → length (positionPart ps) ≡ positionsRoom
 unfolding positionPart
-positions-length ps l = section-length positionRecord 768 ps (each-map positionRecord position-wide ps) (omega arith)
+positions-length ps l = section-length positionRecord positionsRoom ps (each-map positionRecord position-wide ps) (omega arith)
 
-pub assembled : {area b c d : List ℕ} {e : Engine} {r : ℕ} (next : Engine) → Held area e → next .register ≡ e .register → Fits next → b ≡ laid (positionPart (next .positions)) 1552 area
-    → c ≡ laid (referencePart (next .references)) 16 b → Wrote (numbers (next .day) (next .count) (length (next .positions)) (length (next .references))) 0 c r d → d ≡ encode next ++ drop 6144 area
+pub assembled : {area b c d : List ℕ} {e : Engine} {r : ℕ} (next : Engine) → Held area e → next .register ≡ e .register → Fits next → b ≡ laid (positionPart (next .positions)) positionsPlace area
+    → c ≡ laid (referencePart (next .references)) 16 b → Wrote (numbers (next .day) (next .count) (length (next .positions)) (length (next .references))) 0 c r d → d ≡ encode next ++ drop areaSize area
 assembled {area} {b} {c} {d} {e} next h g f u v w =
-    let s : Of e (drop 6144 area) area = held-sections area e h in
+    let s : Of e (drop areaSize area) area = held-sections area e h in
     let N : List ℕ = numbers (e .day) (e .count) (length (e .positions)) (length (e .references)) in
     let N' : List ℕ = numbers (next .day) (next .count) (length (next .positions)) (length (next .references)) in
     let L : List ℕ = lengths (length (e .register)) in
     let R : List ℕ = referencePart (e .references) in
     let R' : List ℕ = referencePart (next .references) in
     let P' : List ℕ = positionPart (next .positions) in
-    let Q : List ℕ = textPart (e .register) ++ drop 6144 area in
-    let lR : length R' ≡ 1536 = references-length (next .references) (f .wide) (f .today) in
-    let lP : length P' ≡ 768 = positions-length (next .positions) (f .few) in
-    let t : Stands (header e ++ R) P' Q 1552 b = rw (← u) at (stands-other P' (lP ∙ sym (s .positions)) (positions-stand s)) in
+    let Q : List ℕ = textPart (e .register) ++ drop areaSize area in
+    let lR : length R' ≡ referencesRoom = references-length (next .references) (f .wide) (f .today) in
+    let lP : length P' ≡ positionsRoom = positions-length (next .positions) (f .few) in
+    let t : Stands (header e ++ R) P' Q positionsPlace b = rw (← u) at (stands-other P' (lP ∙ sym (s .positions)) (positions-stand s)) in
     let t₂ : Stands (header e) R' (P' ++ Q) 16 c = rw (← v) at (stands-other R' (lR ∙ sym (s .references)) (stands-back (header e) R P' Q (s .head) t)) in
     let t₃ : Stands [] N (L ++ (R' ++ (P' ++ Q))) 0 c = record { before = refl; whole = t₂ .whole ∙ rw (header-halves e) (append-assoc N L (R' ++ (P' ++ Q))) } in
     let t₄ : Stands [] N' (L ++ (R' ++ (P' ++ Q))) 0 d = rw (← w .output) at (stands-other N' (numbers-length _ _ _ _ ∙ sym (numbers-length _ _ _ _)) t₃) in
-    let x : d ≡ header next ++ (R' ++ (P' ++ (textPart (next .register) ++ drop 6144 area))) = t₄ .whole ∙ rw (header-halves next, g, append-assoc) in
-    sections-encode next (drop 6144 area) d record { whole = x; head = header-length next; references = lR; positions = lP; text = rw g (s .text) }
+    let x : d ≡ header next ++ (R' ++ (P' ++ (textPart (next .register) ++ drop areaSize area))) = t₄ .whole ∙ rw (header-halves next, g, append-assoc) in
+    sections-encode next (drop areaSize area) d record { whole = x; head = header-length next; references = lR; positions = lP; text = rw g (s .text) }

@@ -8,7 +8,7 @@ use lib.ListN.{length, drop, length-append}
 use Rattle.rules.specs.Text.{over, isSome}
 use Rattle.rules.specs.Register.{register}
 use Rattle.rules.specs.Calls.{opened}
-use Rattle.rules.specs.Area.{zeros, padded, joined, header, encode}
+use Rattle.rules.specs.Area.{zeros, padded, joined, header, encode, areaSize, positionsRoom, referencesRoom, textsRoom}
 use Rattle.laws.specs.Digits.{places-length}
 use Rattle.laws.specs.Parts.{cut}
 use Rattle.laws.specs.Pieces.{wrote-5}
@@ -19,29 +19,29 @@ use Rattle.steps.specs.Texts.{padded-all}
 use Rattle.steps.specs.Header.{numbers, lengths}
 
 -- a register has room
-pub register-room : (text : List ℕ) → isSome (register text) ≡ true → length text ≤ 3824
+pub register-room : (text : List ℕ) → isSome (register text) ≡ true → length text ≤ textsRoom
 register-room text h = omega (arith, register-length text h)
 
 -- the parts of an opened engine's area, one behind the other
 unfoldable pub openedParts : List ℕ → ℕ → List ℕ
-openedParts text day = numbers day 0 0 0 ++ lengths (length text) ++ zeros 1536 ++ zeros 768 ++ padded 3824 text
+openedParts text day = numbers day 0 0 0 ++ lengths (length text) ++ zeros referencesRoom ++ zeros positionsRoom ++ padded textsRoom text
 
-pub opened-wrote : (text : List ℕ) (day : ℕ) {m₁ m₂ m₃ m₄ r : ℕ} {out o₁ o₂ o₃ o₄ out' : List ℕ} → Wrote (numbers day 0 0 0) 0 out m₁ o₁ → Wrote (lengths (length text)) m₁ o₁ m₂ o₂ → Wrote (zeros 1536) m₂ o₂ m₃ o₃
-    → Wrote (zeros 768) m₃ o₃ m₄ o₄ → Wrote (padded 3824 (cut text 0 (length text))) m₄ o₄ r out' → Wrote (openedParts text day) 0 out r out'
+pub opened-wrote : (text : List ℕ) (day : ℕ) {m₁ m₂ m₃ m₄ r : ℕ} {out o₁ o₂ o₃ o₄ out' : List ℕ} → Wrote (numbers day 0 0 0) 0 out m₁ o₁ → Wrote (lengths (length text)) m₁ o₁ m₂ o₂ → Wrote (zeros referencesRoom) m₂ o₂ m₃ o₃
+    → Wrote (zeros positionsRoom) m₃ o₃ m₄ o₄ → Wrote (padded textsRoom (cut text 0 (length text))) m₄ o₄ r out' → Wrote (openedParts text day) 0 out r out'
 unfolding openedParts
-opened-wrote text day u v w x y = wrote-5 u v w x (padded-all 3824 text y)
+opened-wrote text day u v w x y = wrote-5 u v w x (padded-all textsRoom text y)
 
 opened-parts : (text : List ℕ) (day : ℕ) → encode (opened text day) ≡ openedParts text day
 unfolding encode header opened padded joined openedParts numbers lengths
 opened-parts text day = refl
 
-opened-length : (text : List ℕ) (day : ℕ) → length text ≤ 3824 → length (openedParts text day) ≡ 6144
+opened-length : (text : List ℕ) (day : ℕ) → length text ≤ textsRoom → length (openedParts text day) ≡ areaSize
 unfolding openedParts numbers lengths
-opened-length text day h = simp (length-append, places-length, zeros-length, padded-length 3824 text h)
+opened-length text day h = simp (length-append, places-length, zeros-length, padded-length textsRoom text h)
 
-pub opened-whole : (text : List ℕ) (day : ℕ) {area area' : List ℕ} {r : ℕ} → 6144 ≤ length area → isSome (register text) ≡ true
-    → Wrote (openedParts text day) 0 area r area' → area' ≡ encode (opened text day) ++ drop 6144 area
+pub opened-whole : (text : List ℕ) (day : ℕ) {area area' : List ℕ} {r : ℕ} → areaSize ≤ length area → isSome (register text) ≡ true
+    → Wrote (openedParts text day) 0 area r area' → area' ≡ encode (opened text day) ++ drop areaSize area
 unfolding over
 opened-whole text day {area} l h w =
-    let e : length (openedParts text day) ≡ 6144 = opened-length text day (register-room text h) in
+    let e : length (openedParts text day) ≡ areaSize = opened-length text day (register-room text h) in
     wrote-over w (omega arith) ∙ rw (e, opened-parts text day)

@@ -10,7 +10,7 @@ use lib.ListN.{length, getD, take, drop, drop-of-length-le}
 use lib.Seq.{drop-drop, drop-cons}
 use borrow.Author.Tests.{eq-eqb, ne-eqb}
 use Rattle.rules.specs.Engine.{Position, earlier, alike}
-use Rattle.rules.specs.Area.{numberAt, positionIn, records, decode}
+use Rattle.rules.specs.Area.{numberAt, positionIn, records, decode, areaSize, positionsPlace}
 use Rattle.area.specs.Checked.{records-length}
 use Rattle.engine.specs.Header.{HeaderOf}
 use Rattle.engine.specs.declared.header.Header.{Header}
@@ -61,7 +61,7 @@ module _ (a : List ℕ) (at bank date b : ℕ) (e : b ≡ numberAt a at 8) where
 pub record Many (a : List ℕ) (n : ℕ) : Type 0 where
   pub same : n ≡ length (decode a .positions)
   pub few : n ≤ 32
-  pub long : 6144 ≤ length a
+  pub long : areaSize ≤ length a
 
 pub many : (a : List ℕ) (x : Header) → HeaderOf a x → Many a (x .positions)
 many a x n = record { same = n .positions; few = n .few; long = n .long }
@@ -74,14 +74,14 @@ read-at f (suc n) (suc i) bs none h =
     let e : 24 * suc i ≡ 24 + 24 * i = omega arith in
     read-at f n i (drop 24 bs) none (omega arith) ∙ rw (e, drop-drop (24 * i) 24 bs)
 
-position-read : (a : List ℕ) (i : ℕ) → i < length (decode a .positions) → getD (decode a .positions) i (position 0 0 0 0) ≡ positionAt a (1552 + 24 * i)
+position-read : (a : List ℕ) (i : ℕ) → i < length (decode a .positions) → getD (decode a .positions) i (position 0 0 0 0) ≡ positionAt a (positionsPlace + 24 * i)
 unfolding decode positionAt
 position-read a i h =
-    let n : length (map positionIn (records (numberAt a 7 1) (drop 1552 a))) ≡ numberAt a 7 1 = records-length positionIn (numberAt a 7 1) (drop 1552 a) in
-    read-at positionIn (numberAt a 7 1) i (drop 1552 a) (position 0 0 0 0) (rw n at h) ∙ rw (drop-drop (24 * i) 1552 a)
+    let n : length (map positionIn (records (numberAt a 7 1) (drop positionsPlace a))) ≡ numberAt a 7 1 = records-length positionIn (numberAt a 7 1) (drop positionsPlace a) in
+    read-at positionIn (numberAt a 7 1) i (drop positionsPlace a) (position 0 0 0 0) (rw n at h) ∙ rw (drop-drop (24 * i) positionsPlace a)
 
 module _ (a : List ℕ) (n i : ℕ) (m : Many a n) where
-  pub positions-from : i < n → drop i (decode a .positions) ≡ positionAt a (1552 + 24 * i) ∷ drop (suc i) (decode a .positions)
+  pub positions-from : i < n → drop i (decode a .positions) ≡ positionAt a (positionsPlace + 24 * i) ∷ drop (suc i) (decode a .positions)
   positions-from h =
       let l : i < length (decode a .positions) = omega (arith, m .same) in
       drop-cons (decode a .positions) i (position 0 0 0 0) l ∙ rw (position-read a i l)
@@ -92,7 +92,7 @@ module _ (a : List ℕ) (n i : ℕ) (m : Many a n) where
       pub walk-end : n ≤ i → PlaceOf bank date (decode a .positions) i
       walk-end h = place-end g (omega (arith, m .same))
 
-      module _ (t : Bool) (h : i < n) (e : t ≡ earlier (positionAt a (1552 + 24 * i)) (position bank date 0 0)) where
+      module _ (t : Bool) (h : i < n) (e : t ≡ earlier (positionAt a (positionsPlace + 24 * i)) (position bank date 0 0)) where
         pub walk-on : t ≡ true → Passed bank date (decode a .positions) (i + 1)
         walk-on k = let l : i < length (decode a .positions) = omega (arith, m .same) in passed-more g l (rw (position-read a i l) (sym e ∙ k))
 
@@ -104,11 +104,11 @@ module _ (a : List ℕ) (n i : ℕ) (m : Many a n) where
     unfolding isFirst
     first-none h = let l : length (decode a .positions) ≤ i = omega (arith, m .same) in rw (drop-of-length-le (decode a .positions) l)
 
-    module _ (b : ℕ) (h : i < n) (e : b ≡ numberAt a (1552 + 24 * i) 8) where
+    module _ (b : ℕ) (h : i < n) (e : b ≡ numberAt a (positionsPlace + 24 * i) 8) where
       pub first-other : (b ≡ bank → ⊥) → false ≡ isFirst bank date (drop i (decode a .positions))
       unfolding isFirst alike
-      first-other k = rw (positions-from h, bank-at a (1552 + 24 * i), ← e, ne-eqb b bank k)
+      first-other k = rw (positions-from h, bank-at a (positionsPlace + 24 * i), ← e, ne-eqb b bank k)
 
-      pub first-same : (d : ℕ) → b ≡ bank → d ≡ numberAt a (1552 + 24 * i + 8) 3 → eqb d date ≡ isFirst bank date (drop i (decode a .positions))
+      pub first-same : (d : ℕ) → b ≡ bank → d ≡ numberAt a (positionsPlace + 24 * i + 8) 3 → eqb d date ≡ isFirst bank date (drop i (decode a .positions))
       unfolding isFirst alike
-      first-same d k f = rw (positions-from h, bank-at a (1552 + 24 * i), ← e, eq-eqb b bank k, date-at a (1552 + 24 * i), ← f)
+      first-same d k f = rw (positions-from h, bank-at a (positionsPlace + 24 * i), ← e, eq-eqb b bank k, date-at a (positionsPlace + 24 * i), ← f)

@@ -10,7 +10,7 @@ use Rattle.rules.specs.Text.{isSome}
 use Rattle.rules.specs.Engine.{Position, Engine, hasDetails, kept}
 use Rattle.rules.specs.Written.{correctedCount}
 use Rattle.rules.specs.Calls.{afterTurn}
-use Rattle.rules.specs.Area.{zeros, padded, joined, numberAt, positionRecord, positionIn, encode, decode, holds}
+use Rattle.rules.specs.Area.{zeros, padded, joined, numberAt, positionRecord, positionIn, encode, decode, holds, areaSize, positionsPlace, positionsRoom, referencesRoom}
 use Rattle.laws.specs.Laid.{laid}
 use Rattle.laws.specs.Writing.{Wrote}
 use Rattle.laws.specs.Sections.{Each, Each.no-record, passing, Agree, Agree.on-none, Agree.on-more, each-map}
@@ -70,19 +70,19 @@ stays-agrees (more k s) = on-more (ap undetailed (k .back)) (stays-agrees s)
 
 -- ---- the turn
 
-pub turn-done : {a b c d : List ℕ} {x : Header} {j m r : ℕ} (day count : ℕ) → isSome (holds a) ≡ true → HeaderOf a x → Sifted stays 24 (x .positions) 1552 a j b → Wrote (zeros 1536) 16 b m c
-    → Wrote (numbers day count j 0) 0 c r d → d ≡ encode (turned (decode a) day count) ++ drop 6144 a
+pub turn-done : {a b c d : List ℕ} {x : Header} {j m r : ℕ} (day count : ℕ) → isSome (holds a) ≡ true → HeaderOf a x → Sifted stays 24 (x .positions) positionsPlace a j b → Wrote (zeros referencesRoom) 16 b m c
+    → Wrote (numbers day count j 0) 0 c r d → d ≡ encode (turned (decode a) day count) ++ drop areaSize a
 unfolding turned padded joined referencePart positionPart
 turn-done {a} {b} {c} {d} {x} {j} {m} {r} day count h n s z w =
     let g : Held a (decode a) = holding h in
     let l : Limits (decode a) = limits (decode a) (g .good) in
     let ps : List Position = decode a .positions in
-    let t : Sifted stays 24 (length ps) 1552 a j b = rw (n .positions) at s in
+    let t : Sifted stays 24 (length ps) positionsPlace a j b = rw (n .positions) at s in
     let agree : Agree positionRecord stays undetailed ps = stays-agrees (positions-kept (decode a .day) ps (l .good)) in
     let wide : Each 24 (map positionRecord ps) = each-map positionRecord position-wide ps in
-    let few : 24 * length ps ≤ 768 = omega (arith, l .few) in
-    let now : b ≡ laid (positionPart (kept ps)) 1552 a =
-    rw (passing-kept ps) at (section-passing positionRecord 768 ps wide few (positions-section g) agree t) in
-    let counted : j ≡ length (kept ps) = section-counted positionRecord 768 ps wide few (positions-section g) agree t ∙ ap length (passing-kept ps) in
+    let few : 24 * length ps ≤ positionsRoom = omega (arith, l .few) in
+    let now : b ≡ laid (positionPart (kept ps)) positionsPlace a =
+    rw (passing-kept ps) at (section-passing positionRecord positionsRoom ps wide few (positions-section g) agree t) in
+    let counted : j ≡ length (kept ps) = section-counted positionRecord positionsRoom ps wide few (positions-section g) agree t ∙ ap length (passing-kept ps) in
     let fits : Fits (turned (decode a) day count) = record { few = omega (arith, kept-length ps, l .few); today = omega arith; wide = no-record } in
     assembled (turned (decode a) day count) g refl fits now (z .output) (rw counted at w)

@@ -13,7 +13,7 @@ ghost use Prim.Native.Nat.{_-_, _≤_};
 ghost use lib.ListN.{length, drop};
 ghost use Rattle.rules.specs.Text.{isText, every, isSome};
 ghost use Rattle.rules.specs.Engine.{booked};
-ghost use Rattle.rules.specs.Area.{positionRecord, encode, decode, holds};
+ghost use Rattle.rules.specs.Area.{positionRecord, encode, decode, holds, areaSize};
 ghost use Rattle.laws.specs.Parts.{cut};
 ghost use Rattle.laws.specs.Writing.{Wrote};
 ghost use Rattle.steps.specs.Places.{position};
@@ -92,7 +92,7 @@ pub fn book_area(
     requires { ⌜ b ≤ length (now s) ⌝ }
     requires { ⌜ b - a ≤ 16 ⌝ }
     requires { ⌜ every isText (cut (now s) a b) ≡ true ⌝ }
-    ensures { λ _. ⌜ now (area .exit) ≡ encode (bookedWith (decode (now (area .entry))) (position bank date transferred detailed) (reference bank (cut (now (s .entry)) a b)) count) ++ drop 6144 (now (area .entry)) ⌝ }
+    ensures { λ _. ⌜ now (area .exit) ≡ encode (bookedWith (decode (now (area .entry))) (position bank date transferred detailed) (reference bank (cut (now (s .entry)) a b)) count) ++ drop areaSize (now (area .entry)) ⌝ }
 {
     let h = header_of(area);
     let n = h.references;

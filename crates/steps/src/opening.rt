@@ -9,7 +9,7 @@ ghost use lib.ListN.{length, drop};
 ghost use Rattle.rules.specs.Text.{isSome};
 ghost use Rattle.rules.specs.Register.{register};
 ghost use Rattle.rules.specs.Calls.{opened};
-ghost use Rattle.rules.specs.Area.{encode};
+ghost use Rattle.rules.specs.Area.{encode, areaSize};
 ghost use Rattle.laws.specs.Writing.{Wrote};
 ghost use Rattle.steps.specs.Header.{lengths};
 ghost use Rattle.steps.specs.Opening.{openedParts};
@@ -37,9 +37,9 @@ fn put_opened(area: &mut [u8], text: &[u8], day: u32) -> usize
 
 // "Opening takes the register and a day and gives an engine with no positions, references or output."
 pub fn open_area(area: &mut [u8], text: &[u8], day: u32)
-    requires { ⌜ 6144 ≤ length (now area) ⌝ }
+    requires { ⌜ areaSize ≤ length (now area) ⌝ }
     requires { ⌜ isSome (register (now text)) ≡ true ⌝ }
-    ensures { λ _. ⌜ now (area .exit) ≡ encode (opened (now (text .entry)) day) ++ drop 6144 (now (area .entry)) ⌝ }
+    ensures { λ _. ⌜ now (area .exit) ≡ encode (opened (now (text .entry)) day) ++ drop areaSize (now (area .entry)) ⌝ }
 {
     put_opened(area, text, day);
 }

@@ -8,7 +8,7 @@ ghost use mathlib.Core.List.{_++_};
 ghost use Prim.Native.Nat.{_+_, _*_, _≤_};
 ghost use lib.ListN.{length, take, drop};
 ghost use Rattle.rules.specs.Text.{isSome};
-ghost use Rattle.rules.specs.Area.{encode, decode, holds};
+ghost use Rattle.rules.specs.Area.{encode, decode, holds, areaSize, positionsPlace};
 ghost use Rattle.laws.specs.Moving.{Sifted};
 ghost use Rattle.steps.specs.Turning.{turned, stays};
 
@@ -27,8 +27,8 @@ fn stays_at(area: &[u8], at: usize) -> bool
 // Of n positions those without details are kept, in their order; the room of the others is zero. Answers how many are kept.
 fn remove_detailed(area: &mut [u8], n: u32) -> u32
     requires { ⌜ n ≤ 32 ⌝ }
-    requires { ⌜ 1552 + 24 * n ≤ length (now area) ⌝ }
-    ensures { λ r. ⌜ Sifted stays 24 n 1552 (now (area .entry)) r (now (area .exit)) ⌝ }
+    requires { ⌜ positionsPlace + 24 * n ≤ length (now area) ⌝ }
+    ensures { λ r. ⌜ Sifted stays 24 n positionsPlace (now (area .entry)) r (now (area .exit)) ⌝ }
 {
     let mut i: u32 = 0;
     let mut j: u32 = 0;
@@ -48,7 +48,7 @@ fn remove_detailed(area: &mut [u8], n: u32) -> u32
 // The turn of an engine to a day, with the count of the messages that it writes.
 pub fn turn_area(area: &mut [u8], day: u32, count: u32)
     requires { ⌜ isSome (holds (now area)) ≡ true ⌝ }
-    ensures { λ _. ⌜ now (area .exit) ≡ encode (turned (decode (now (area .entry))) day count) ++ drop 6144 (now (area .entry)) ⌝ }
+    ensures { λ _. ⌜ now (area .exit) ≡ encode (turned (decode (now (area .entry))) day count) ++ drop areaSize (now (area .entry)) ⌝ }
 {
     let h = header_of(area);
     let kept = remove_detailed(area, h.positions);

@@ -1,4 +1,5 @@
 -- The positions from a place on answer for all of them: the first of this bank and date is the one, and none has 0 and 0. Assumes nothing.
+use Rattle.rules.specs.Area.{positionsPlace}
 use Rattle.engine.specs.Find.{Seeking}
 use Rattle.engine.specs.Positions.{positionsAt}
 use borrow.Author.Needs.{needs}
@@ -7,7 +8,7 @@ use Rattle.engine.proofs.find.find_position.Statement.{statement}
 use Rattle.engine.proofs.find.find_position.Tie as tie
 
 abbrev Inv-loop : tie.InvT-loop
-Inv-loop area n bank date p₀ k₀ p k = Seeking area p k bank date (positionsAt area 1552 n)
+Inv-loop area n bank date p₀ k₀ p k = Seeking area p k bank date (positionsAt area positionsPlace n)
 
 abbrev μ-loop : tie.MeasureT-loop
 μ-loop area n bank date p₀ k₀ p k = k

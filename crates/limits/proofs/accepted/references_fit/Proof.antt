@@ -2,6 +2,7 @@
 use mathlib.Core.Path.{_≡_}
 use Prim.Native.Nat.{_≤_, _+_, _*_}
 use borrow.Author.Needs.{needs}
+use Rattle.rules.specs.Area.{positionsPlace}
 use Rattle.area.specs.Walk.{walk, always}
 use Rattle.area.specs.Tests.{referenceTest}
 use Rattle.area.specs.Ways.{limiting}
@@ -9,7 +10,7 @@ use Rattle.limits.proofs.accepted.references_fit.Statement.{statement}
 use Rattle.limits.proofs.accepted.references_fit.Tie as tie
 
 abbrev Inv-loop : tie.InvT-loop
-Inv-loop area n k₀ p₀ k p = (p + 24 * k ≤ 1552) × (walk (always (referenceTest area)) k p ≡ walk (always (referenceTest area)) n 16)
+Inv-loop area n k₀ p₀ k p = (p + 24 * k ≤ positionsPlace) × (walk (always (referenceTest area)) k p ≡ walk (always (referenceTest area)) n 16)
 
 abbrev μ-loop : tie.MeasureT-loop
 μ-loop area n k₀ p₀ k p = k

@@ -2,6 +2,7 @@
 use mathlib.Core.Path.{_≡_}
 use Prim.Native.Nat.{_≤_, _+_, _*_}
 use borrow.Author.Needs.{needs}
+use Rattle.rules.specs.Area.{positionsPlace, textsPlace}
 use Rattle.area.specs.Walk.{walk, always}
 use Rattle.area.specs.Tests.{positionTest}
 use Rattle.area.specs.Ways.{limiting}
@@ -9,7 +10,7 @@ use Rattle.limits.proofs.positions.positions_fit.Statement.{statement}
 use Rattle.limits.proofs.positions.positions_fit.Tie as tie
 
 abbrev Inv-loop : tie.InvT-loop
-Inv-loop area n day k₀ p₀ k p = (p + 24 * k ≤ 2320) × (walk (always (positionTest day area)) k p ≡ walk (always (positionTest day area)) n 1552)
+Inv-loop area n day k₀ p₀ k p = (p + 24 * k ≤ textsPlace) × (walk (always (positionTest day area)) k p ≡ walk (always (positionTest day area)) n positionsPlace)
 
 abbrev μ-loop : tie.MeasureT-loop
 μ-loop area n day k₀ p₀ k p = k

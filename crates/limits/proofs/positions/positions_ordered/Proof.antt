@@ -2,6 +2,7 @@
 use mathlib.Core.Path.{_≡_}
 use Prim.Native.Nat.{_≤_, _+_, _-_, _*_}
 use borrow.Author.Needs.{needs}
+use Rattle.rules.specs.Area.{positionsPlace, textsPlace}
 use Rattle.area.specs.Walk.{walk, always}
 use Rattle.area.specs.Tests.{orderTest}
 use Rattle.area.specs.Ways.{limiting}
@@ -9,7 +10,7 @@ use Rattle.limits.proofs.positions.positions_ordered.Statement.{stateme
 use Rattle.limits.proofs.positions.positions_ordered.Tie as tie
 
 abbrev Inv-loop : tie.InvT-loop
-Inv-loop area n k₀ p₀ k p = (p + 24 * k + 24 ≤ 2320) × (walk (always (orderTest area)) k p ≡ walk (always (orderTest area)) (n - 1) 1552)
+Inv-loop area n k₀ p₀ k p = (p + 24 * k + 24 ≤ textsPlace) × (walk (always (orderTest area)) k p ≡ walk (always (orderTest area)) (n - 1) positionsPlace)
 
 abbrev μ-loop : tie.MeasureT-loop
 μ-loop area n k₀ p₀ k p = k

@@ -3,6 +3,7 @@ use mathlib.Core.Path.{_≡_}
 use Prim.Native.Nat.{_+_, _*_}
 use native.Mathlib.Omega.{arith}
 use borrow.Author.Needs.{needs}
+use Rattle.rules.specs.Area.{positionsPlace}
 use Rattle.rules.specs.Written.{correctionPostings}
 use Rattle.laws.specs.Pieces.{left-all}
 use Rattle.laws.specs.Writing.{Left}
@@ -12,7 +13,7 @@ use Rattle.outgoing.proofs.turn.put_correction_postings.Statement.{stat
 use Rattle.outgoing.proofs.turn.put_correction_postings.Tie as tie
 
 abbrev Inv-loop : tie.InvT-loop
-Inv-loop out₀ at day temporary area n o₀ p₀ k₀ out o p k = (p + 24 * k ≡ 1552 + 24 * n) × Left (correctionPostings day temporary (positionsAt area p k)) o out (correctionPostings day temporary (positionsAt area 1552 n)) at out₀
+Inv-loop out₀ at day temporary area n o₀ p₀ k₀ out o p k = (p + 24 * k ≡ positionsPlace + 24 * n) × Left (correctionPostings day temporary (positionsAt area p k)) o out (correctionPostings day temporary (positionsAt area positionsPlace n)) at out₀
 
 abbrev μ-loop : tie.MeasureT-loop
 μ-loop out₀ at day temporary area n o₀ p₀ k₀ out o p k = k

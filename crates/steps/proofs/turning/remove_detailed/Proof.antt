@@ -1,5 +1,6 @@
 -- Positions without details, moved to the front one by one; then zeros over what they leave. The loop's invariant: of those passed, the ones that stay are at the front. Assumes nothing.
 use Prim.Native.Nat.{_-_}
+use Rattle.rules.specs.Area.{positionsPlace}
 use Rattle.laws.specs.Moving.{Keeping, keeping-keep, keeping-end}
 use Rattle.steps.specs.Turning.{stays}
 use borrow.Author.Needs.{needs}
@@ -8,7 +9,7 @@ use Rattle.steps.proofs.turning.remove_detailed.Statement.{statement}
 use Rattle.steps.proofs.turning.remove_detailed.Tie as tie
 
 abbrev Inv-loop : tie.InvT-loop
-Inv-loop area₀ n i₀ j₀ area i j = Keeping stays 24 n 1552 area₀ i j area
+Inv-loop area₀ n i₀ j₀ area i j = Keeping stays 24 n positionsPlace area₀ i j area
 
 abbrev μ-loop : tie.MeasureT-loop
 μ-loop area₀ n i₀ j₀ area i j = n - i
