@@ -22,7 +22,7 @@ use Rattle.area.specs.Layout.{All, All.none, All.more, text-byte}
 use Rattle.area.specs.Positions.{Good}
 use Rattle.area.specs.References.{Form}
 use Rattle.area.specs.Walk.{walk, always}
-use Rattle.area.specs.Tests.{referenceTest, precedesBy, filedTest, dateTest, totalTest, positionAt, positionTest, earlierBy, orderTest}
+use Rattle.area.specs.Tests.{referenceTest, precedesBy, filedTest, valueAt, positionFits, positionTest, orderTest}
 use Rattle.area.specs.Records.{cut-is, in-record, position-good, position-same, position-test, text-length, reference-good, reference-same, reference-filled, reference-test}
 
 -- ---- a walk is a test of the list of records
@@ -95,11 +95,7 @@ module _ {A : Type 0} (a : List ℕ) (test : ℕ → Bool) (reads : List ℕ →
 
 -- ---- positions
 
-unfoldable pub positionFits : ℕ → List ℕ → Bool
-positionFits day r = positionTest day r 0
-
 pub position-checks : (day : ℕ) → Checks (positionFits day) positionRecord positionIn (Good day)
-unfolding positionFits
 position-checks day = record {
   good = λ r k h. position-good r (k .bytes) (k .wide) day h;
   same = λ r k h. position-same r (k .bytes) (k .wide) day h;
@@ -107,38 +103,20 @@ position-checks day = record {
 }
 
 pub positions-walk : (day : ℕ) (a : List ℕ) (n p : ℕ) → walk (always (positionTest day a)) n p ≡ each (positionFits day) (records n (drop p a))
-unfolding positionFits positionTest dateTest totalTest
-positions-walk day a n p = walk-each a (always (positionTest day a)) (positionFits day) (λ k q. rw (in-record a q 0 8 (lit≤ tt), in-record a q 8 11 (lit≤ tt), in-record a q 11 17 (lit≤ tt), in-record a q 17 23 (lit≤ tt), in-record a q 23 24 (lit≤ tt), add-zero)) n p
+unfolding positionTest valueAt
+positions-walk day a n p = walk-each a (always (positionTest day a)) (positionFits day) (λ k q. rw (cut-is a q 24)) n p
 
--- the position at a place is the record's
+-- a number of a record, as it stands in the area
 number-in : (a : List ℕ) (p i w : ℕ) → i + w ≤ 24 → number (cut a (p + i) (p + (i + w))) ≡ numberAt (take 24 (drop p a)) i w
 number-in a p i w h = ap number (sym (in-record a p i (i + w) h) ∙ cut-is (cut a p (p + 24)) i w ∙ rw (cut-is a p 24))
-
-pub position-at : (a : List ℕ) (p : ℕ) → positionAt a p ≡ positionIn (take 24 (drop p a))
-unfolding positionIn
-position-at a p =
-    let b : number (cut a p (p + 8)) ≡ numberAt (take 24 (drop p a)) 0 8 = rw add-zero at (number-in a p 0 8 (lit≤ tt)) in
-    λ i. record {
-      bank = b i;
-      date = number-in a p 8 3 (lit≤ tt) i;
-      transferred = number-in a p 11 6 (lit≤ tt) i;
-      detailed = number-in a p 17 6 (lit≤ tt) i;
-    }
 
 -- and so is the text of a reference
 pub text-in : (a : List ℕ) (p : ℕ) → cut a (p + 8) (p + 8 + 16) ≡ take 16 (drop 8 (take 24 (drop p a)))
 text-in a p = let e : p + 8 + 16 ≡ p + 24 = omega arith in rw e (sym (in-record a p 8 24 (lit≤ tt)) ∙ cut-is (cut a p (p + 24)) 8 16 ∙ rw (cut-is a p 24))
 
-earlier-by : (p q : Position) → earlier p q ≡ earlierBy (p .bank) (p .date) (q .bank) (q .date)
-unfolding earlier earlierBy
-earlier-by p q = refl
-
-order-is : (a : List ℕ) (p : ℕ) → orderTest a p ≡ earlier (positionIn (take 24 (drop p a))) (positionIn (take 24 (drop (p + 24) a)))
-unfolding orderTest
-order-is a p = sym (earlier-by (positionAt a p) (positionAt a (p + 24))) ∙ rw (position-at a p, position-at a (p + 24))
-
 pub order-walk : (a : List ℕ) (n p : ℕ) → All Rec (records n (drop p a)) → walk (always (orderTest a)) (n - 1) p ≡ ordered earlier (map positionIn (records n (drop p a)))
-order-walk a n p w = next-walk a (orderTest a) positionIn earlier Rec (λ q k l. order-is a q) n p w
+unfolding orderTest valueAt positionIn
+order-walk a n p w = next-walk a (orderTest a) positionIn earlier Rec (λ q k l. refl) n p w
 
 -- ---- references
 

@@ -29,9 +29,9 @@ use Rattle.area.specs.Held.{Held, held, positions-kept, references-kept}
 use Rattle.area.specs.Positions.{Good, all-good, good-all}
 use Rattle.area.specs.Sections.{Of, referencePart, positionPart, textPart, held-sections, references-stand, positions-stand, text-stands}
 use Rattle.area.specs.Walk.{walk, always}
-use Rattle.area.specs.Tests.{isZero, countsTest, headerTest, referenceTest, filedTest, referencesTest, positionTest, orderTest, positionsTest, textTest, areaTest}
+use Rattle.area.specs.Tests.{isZero, countsTest, headerTest, referenceTest, filedTest, referencesTest, positionFits, positionTest, orderTest, positionsTest, textTest, areaTest}
 use Rattle.area.specs.Records.{cut-is, zero-bytes, zeros-zero, bytes-zero, bytes-stand, take-part}
-use Rattle.area.specs.Checked.{each, Rec, Checks, records-bytes, records-length, each-good, each-same, each-test, positionFits, position-checks, positions-walk, order-walk, referenceFits, reference-checks, references-walk, whole-all, Filed, filed-all, filed-walk}
+use Rattle.area.specs.Checked.{each, Rec, Checks, records-bytes, records-length, each-good, each-same, each-test, position-checks, positions-walk, order-walk, referenceFits, reference-checks, references-walk, whole-all, Filed, filed-all, filed-walk}
 use Rattle.area.specs.References.{Form, all-forms, forms-all}
 
 -- ---- the header

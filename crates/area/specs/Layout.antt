@@ -10,7 +10,7 @@ use lib.Seq.{take-at, drop-at}
 use borrow.Author.Tests.{leb-true, ne-eqb}
 use Rattle.rules.specs.Text.{isText, every, run, bytes, number}
 use Rattle.rules.specs.Engine.{Position, Reference, limit, goodPosition, goodReference}
-use Rattle.rules.specs.Area.{zeros, padded, joined, referenceRecord, positionRecord, numberAt, untilZero, referenceIn, positionIn, records}
+use Rattle.rules.specs.Area.{zeros, padded, joined, referenceRecord, keyBytes, positionRecord, numberAt, untilZero, referenceIn, keyIn, positionIn, records, dateOffset, transferredOffset, detailedOffset}
 use Rattle.laws.specs.Digits.{places-length}
 use Rattle.laws.specs.Numbers.{number-bytes}
 use Rattle.laws.specs.Sections.{padded-length}
@@ -54,28 +54,31 @@ module _ {A : Type 0} (write : A → List ℕ) (reads : List ℕ → A) where
 -- ---- a position's record, and a reference's
 
 pub position-kept : (day : ℕ) (p : Position) → goodPosition day p ≡ true → Kept positionRecord positionIn p
-unfolding goodPosition positionRecord positionIn
+unfolding goodPosition positionRecord positionIn keyBytes keyIn
 position-kept day p h =
     let a : List ℕ = positionRecord p in
-    let B : List ℕ = bytes 8 (p .bank) in
-    let D : List ℕ = bytes 3 (p .date) in
+    let B : List ℕ = bytes 8 (p .key .bank) in
+    let D : List ℕ = bytes 3 (p .key .date) in
+    let Z : List ℕ = bytes 1 0 in
     let S : List ℕ = bytes 6 (p .transferred) in
     let T : List ℕ = bytes 6 (p .detailed) in
-    let Z : List ℕ = bytes 1 0 in
-    let b : p .bank ≤ 18446744073709551615 = bank-small _ (search (and-left, and-right)) in
-    let d : p .date < 1000000 = date-small _ (search (and-left, and-right)) in
+    let b : p .key .bank ≤ 18446744073709551615 = bank-small _ (search (and-left, and-right)) in
+    let d : p .key .date < 1000000 = date-small _ (search (and-left, and-right)) in
     let s : p .transferred ≤ limit = leb-true _ _ (search (and-left, and-right)) in
     let t : p .detailed ≤ limit = leb-true _ _ (search (and-left, and-right)) in
     let lB : length B ≡ 8 = places-length 256 0 8 _ in
     let lD : length D ≡ 3 = places-length 256 0 3 _ in
+    let lZ : length Z ≡ 1 = places-length 256 0 1 0 in
     let lS : length S ≡ 6 = places-length 256 0 6 _ in
     record {
       wide = simp (length-append, places-length);
       back = λ i. record {
-        bank = number-at a [] (D ++ (S ++ (T ++ Z))) 0 8 (p .bank) refl (omega arith) (simp append-assoc) i;
-        date = number-at a B (S ++ (T ++ Z)) 8 3 (p .date) lB (omega arith) (simp append-assoc) i;
-        transferred = number-at a (B ++ D) (T ++ Z) 11 6 (p .transferred) (simp (length-append, lB, lD)) (omega arith) (simp append-assoc) i;
-        detailed = number-at a (B ++ D ++ S) Z 17 6 (p .detailed) (simp (length-append, lB, lD, lS)) (omega arith) (simp append-assoc) i;
+        key = record {
+          bank = number-at a [] (D ++ (Z ++ (S ++ T))) 0 8 (p .key .bank) refl (omega arith) (simp append-assoc) i;
+          date = number-at a B (Z ++ (S ++ T)) dateOffset 3 (p .key .date) lB (omega arith) (simp append-assoc) i;
+        };
+        transferred = number-at a (B ++ D ++ Z) T transferredOffset 6 (p .transferred) (simp (length-append, lB, lD, lZ)) (omega arith) (simp append-assoc) i;
+        detailed = number-at a (B ++ D ++ Z ++ S) [] detailedOffset 6 (p .detailed) (simp (length-append, lB, lD, lZ, lS)) (omega arith) (simp (append-assoc, append-nil)) i;
       };
     }
 

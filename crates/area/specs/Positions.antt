@@ -9,83 +9,25 @@ use lib.ListN.{length}
 use borrow.Author.Tests.{leb-true, leb-false, le-leb, lt-leb, eqb-true, eqb-false, eq-eqb, ne-eqb, not-false}
 use Rattle.rules.specs.Text.{any}
 use Rattle.rules.specs.Dates.{exists}
-use Rattle.rules.specs.Engine.{Position, limit, earlier, alike, positionOf, isOpen, booked, hasDetails, kept, isBank, goodPosition, goodPositions}
+use Rattle.rules.specs.Engine.{Position, limit, earlier, alike, raised, positionOf, isOpen, booked, hasDetails, kept, isBank, goodPosition, goodPositions}
 use Rattle.rules.specs.Written.{corrected, correctedCount}
 use Rattle.laws.specs.Tests.{and-left, and-right, cond-right}
+use Rattle.laws.specs.Keys as K
+use Rattle.laws.specs.Keys.{before-trans, test-before, before-test, behind-other, Place, Place.same, Place.ahead, Place.behind, place}
 use Rattle.area.specs.Facts.{never, cond-left, cond-both, or-left, or-right, any-neither}
 use Rattle.area.specs.Layout.{All, All.none, All.more}
 use Rattle.area.specs.Order.{Order, Sorted, Sorted.empty, Sorted.next, all-before}
 
 -- ---- "by BIC in byte order and then date"
 
-pub data Before (p q : Position) : Type 0 where
-  bank : p .bank < q .bank → Before p q
-  date : p .bank ≡ q .bank → p .date < q .date → Before p q
-
-pub before-trans : {p q r : Position} → Before p q → Before q r → Before p r
-before-trans (bank h) (bank k) = bank (omega arith)
-before-trans (bank h) (date k l) = bank (omega arith)
-before-trans (date h l) (bank k) = bank (omega arith)
-before-trans (date h l) (date k m) = date (omega arith) (omega arith)
-
-pub earlier-before : (p q : Position) → earlier p q ≡ true → Before p q
-unfolding earlier
-earlier-before p q h = go (leb (q .bank) (p .bank)) (eqb (p .bank) (q .bank)) (leb (q .date) (p .date)) refl refl refl h
-  where
-    go : (s t u : Bool) → leb (q .bank) (p .bank) ≡ s → eqb (p .bank) (q .bank) ≡ t → leb (q .date) (p .date) ≡ u → (not s || (t && not u)) ≡ true → Before p q
-    go false t u a b c k = bank (leb-false (q .bank) (p .bank) a)
-    go true true false a b c k = date (eqb-true (p .bank) (q .bank) b) (leb-false (q .date) (p .date) c)
-    go true true true a b c k = never (sym k)
-    go true false u a b c k = never (sym k)
-
-pub before-earlier : {p q : Position} → Before p q → earlier p q ≡ true
-unfolding earlier
-before-earlier {p} {q} (bank h) = rw (lt-leb (q .bank) (p .bank) h)
-before-earlier {p} {q} (date h k) = go (leb (q .bank) (p .bank))
-  where
-    go : (s : Bool) → (not s || (eqb (p .bank) (q .bank) && not (leb (q .date) (p .date)))) ≡ true
-    go false = refl
-    go true = rw (eq-eqb (p .bank) (q .bank) h, lt-leb (q .date) (p .date) k)
-
--- where q belongs against p: its own position, before it, or behind it
-pub data Place (q p : Position) : Type 0 where
-  same : p .bank ≡ q .bank → p .date ≡ q .date → alike p q ≡ true → Place q p
-  ahead : Before q p → alike p q ≡ false → earlier q p ≡ true → Place q p
-  behind : Before p q → alike p q ≡ false → earlier q p ≡ false → Place q p
-
-not-ahead : (q p : Position) → earlier q p ≡ false → alike p q ≡ false → Before p q
-unfolding earlier alike
-not-ahead q p h k = pick (eqb (p .bank) (q .bank)) refl k
-  where
-    low : p .bank ≤ q .bank
-    low = leb-true (p .bank) (q .bank) (not-false _ (or-left _ _ h))
-
-    pick : (t : Bool) → eqb (p .bank) (q .bank) ≡ t → (t && eqb (p .date) (q .date)) ≡ false → Before p q
-    pick false e f = let n : p .bank ≡ q .bank → ⊥ = eqb-false _ _ e in bank (omega (arith, low, n))
-    pick true e f =
-        let b : p .bank ≡ q .bank = eqb-true _ _ e in
-        let n : p .date ≡ q .date → ⊥ = eqb-false _ _ f in
-        let t : (eqb (q .bank) (p .bank) && not (leb (p .date) (q .date))) ≡ false = or-right (not (leb (p .bank) (q .bank))) _ h in
-        let l : p .date ≤ q .date = leb-true _ _ (not-false _ (rw (eq-eqb (q .bank) (p .bank) (sym b)) at t)) in
-        date b (omega (arith, l, n))
-
-pub place : (q p : Position) → Place q p
-unfolding alike
-place q p = go (alike p q) (earlier q p) refl refl
-  where
-    go : (s t : Bool) → alike p q ≡ s → earlier q p ≡ t → Place q p
-    go true t h k = same (eqb-true _ _ (and-left _ _ h)) (eqb-true _ _ (and-right (eqb (p .bank) (q .bank)) _ h)) h
-    go false true h k = ahead (earlier-before q p k) h k
-    go false false h k = behind (not-ahead q p k h) h k
+-- positions by their keys
+abbrev pub Before : Position → Position → Type 0
+Before p q = K.Before (p .key) (q .key)
 
 pub position-order : Order earlier Before
-position-order = record { says = earlier-before; tests = before-earlier; chains = before-trans }
+position-order = record { says = λ p q. test-before (p .key) (q .key); tests = before-test; chains = before-trans }
 
 -- ---- booking
-
--- p with both totals of q added
-abbrev pub raised : Position → Position → Position
-raised p q = record { bank = p .bank; date = p .date; transferred = p .transferred + q .transferred; detailed = p .detailed + q .detailed }
 
 module _ (q p : Position) (ps : List Position) where
   pub booked-same : alike p q ≡ true → booked q (p ∷ ps) ≡ raised p q ∷ ps
@@ -100,41 +42,32 @@ module _ (q p : Position) (ps : List Position) where
   unfolding booked
   booked-behind h k = rw (h, k)
 
-  pub open-same : alike p q ≡ true → isOpen (q .bank) (q .date) (p ∷ ps) ≡ true
-  unfolding isOpen any alike
+  pub open-same : alike p q ≡ true → isOpen (q .key) (p ∷ ps) ≡ true
+  unfolding isOpen any
   open-same h = rw h
 
-  pub open-other : alike p q ≡ false → isOpen (q .bank) (q .date) (p ∷ ps) ≡ isOpen (q .bank) (q .date) ps
-  unfolding isOpen any alike
+  pub open-other : alike p q ≡ false → isOpen (q .key) (p ∷ ps) ≡ isOpen (q .key) ps
+  unfolding isOpen any
   open-other h = rw h
 
-  pub found-same : alike p q ≡ true → positionOf (q .bank) (q .date) (p ∷ ps) ≡ p
-  unfolding positionOf alike
+  pub found-same : alike p q ≡ true → positionOf (q .key) (p ∷ ps) ≡ p
+  unfolding positionOf
   found-same h = rw h
 
-  pub found-other : alike p q ≡ false → positionOf (q .bank) (q .date) (p ∷ ps) ≡ positionOf (q .bank) (q .date) ps
-  unfolding positionOf alike
+  pub found-other : alike p q ≡ false → positionOf (q .key) (p ∷ ps) ≡ positionOf (q .key) ps
+  unfolding positionOf
   found-other h = rw h
 
 -- what holds of q and of each position, whatever its totals, holds of each position booked
 all-booked : {P : Position → Type 0} (q : Position) (ps : List Position) → P q → ((p : Position) → P p → P (raised p q)) → All P ps → All P (booked q ps)
 unfolding booked
 all-booked q [] h f none = more h none
-all-booked {P} q (p ∷ ps) h f (more k s) = go (place q p) (all-booked q ps h f s)
+all-booked {P} q (p ∷ ps) h f (more k s) = go (place (q .key) (p .key)) (all-booked q ps h f s)
   where
-    go : Place q p → All P (booked q ps) → All P (booked q (p ∷ ps))
-    go (same a b c) i = rw (booked-same q p ps c) (more (f p k) s)
+    go : Place (q .key) (p .key) → All P (booked q ps) → All P (booked q (p ∷ ps))
+    go (same a c) i = rw (booked-same q p ps c) (more (f p k) s)
     go (ahead a b c) i = rw (booked-ahead q p ps b c) (more h (more k s))
     go (behind a b c) i = rw (booked-behind q p ps b c) (more k i)
-
--- the order sees bank and date alone
-before-raised : {p r : Position} (q : Position) → Before p r → Before p (raised r q)
-before-raised q (bank h) = bank h
-before-raised q (date h k) = date h k
-
-raised-before : {p r : Position} (q : Position) → Before p r → Before (raised p q) r
-raised-before q (bank h) = bank h
-raised-before q (date h k) = date h k
 
 all-map : {P Q : Position → Type 0} {ps : List Position} → ((p : Position) → P p → Q p) → All P ps → All Q ps
 all-map f none = none
@@ -143,39 +76,44 @@ all-map f (more {x = p} k s) = more (f p k) (all-map f s)
 pub booked-sorted : (q : Position) {ps : List Position} → Sorted Before ps → Sorted Before (booked q ps)
 unfolding booked
 booked-sorted q empty = next none empty
-booked-sorted q (next {x = p} {xs = ps} a s) = go (place q p) (booked-sorted q s)
+booked-sorted q (next {x = p} {xs = ps} a s) = go (place (q .key) (p .key)) (booked-sorted q s)
   where
-    go : Place q p → Sorted Before (booked q ps) → Sorted Before (booked q (p ∷ ps))
-    go (same b d c) i = rw (booked-same q p ps c) (next (all-map (λ r. raised-before q) a) s)
-    go (ahead h b c) i = rw (booked-ahead q p ps b c) (next (more h (all-before position-order h a)) (next a s))
-    go (behind h b c) i = rw (booked-behind q p ps b c) (next (all-booked q ps h (λ r. before-raised q) a) i)
+    go : Place (q .key) (p .key) → Sorted Before (booked q ps) → Sorted Before (booked q (p ∷ ps))
+    go (same b c) i = rw (booked-same q p ps c) (next a s)
+    go (ahead h b c) i = rw (booked-ahead q p ps b c) (next (more {x = p} h (all-before position-order {x = q} {y = p} h a)) (next a s))
+    go (behind h b c) i = rw (booked-behind q p ps b c) (next (all-booked q ps h (λ r k. k) a) i)
 
 -- a position behind which all others stand is none of them
-not-open : (q : Position) {ps : List Position} → All (Before q) ps → isOpen (q .bank) (q .date) ps ≡ false
+pub not-open : (q : Position) {ps : List Position} → All (Before q) ps → isOpen (q .key) ps ≡ false
 unfolding isOpen any
 not-open q none = refl
-not-open q (more {x = p} {xs = ps} k s) = any-neither _ _ (other k) (not-open q s)
-  where
-    other : Before q p → (eqb (p .bank) (q .bank) && eqb (p .date) (q .date)) ≡ false
-    other (bank h) = rw (ne-eqb (p .bank) (q .bank) (λ e. omega arith))
-    other (date h l) = rw (ne-eqb (p .date) (q .date) (λ e. omega arith), and-false)
+not-open q (more k s) = any-neither _ _ (behind-other k) (not-open q s)
+
+pub not-found : (q : Position) {ps : List Position} → All (Before q) ps → positionOf (q .key) ps ≡ record { key = q .key; transferred = 0; detailed = 0 }
+unfolding positionOf
+not-found q none = refl
+not-found q (more k s) = rw (behind-other k) (not-found q s)
+
+-- before the first one is before all
+pub first-before : (q : Position) {p : Position} {ps : List Position} → earlier q p ≡ true → Sorted Before (p ∷ ps) → All (Before q) (p ∷ ps)
+first-before q {p} h (next a s) = let b : Before q p = test-before (q .key) (p .key) h in more {x = p} b (all-before position-order {x = q} {y = p} b a)
 
 -- a position more where it was missing
-pub booked-length : (q : Position) {ps : List Position} → Sorted Before ps → length (booked q ps) ≡ cond (isOpen (q .bank) (q .date) ps) (length ps) (suc (length ps))
+pub booked-length : (q : Position) {ps : List Position} → Sorted Before ps → length (booked q ps) ≡ cond (isOpen (q .key) ps) (length ps) (suc (length ps))
 unfolding booked isOpen any
 booked-length q empty = refl
-booked-length q (next {x = p} {xs = ps} a s) = go (place q p) (isOpen (q .bank) (q .date) ps) refl (booked-length q s)
+booked-length q (next {x = p} {xs = ps} a s) = go (place (q .key) (p .key)) (isOpen (q .key) ps) refl (booked-length q s)
   where
-    go : Place q p → (t : Bool) → isOpen (q .bank) (q .date) ps ≡ t → length (booked q ps) ≡ cond t (length ps) (suc (length ps))
-        → length (booked q (p ∷ ps)) ≡ cond (isOpen (q .bank) (q .date) (p ∷ ps)) (suc (length ps)) (suc (suc (length ps)))
-    go (same b d c) t o i = rw (booked-same q p ps c, open-same q p ps c)
-    go (ahead h b c) t o i = rw (booked-ahead q p ps b c, not-open q (more h (all-before position-order h a)))
+    go : Place (q .key) (p .key) → (t : Bool) → isOpen (q .key) ps ≡ t → length (booked q ps) ≡ cond t (length ps) (suc (length ps))
+        → length (booked q (p ∷ ps)) ≡ cond (isOpen (q .key) (p ∷ ps)) (suc (length ps)) (suc (suc (length ps)))
+    go (same b c) t o i = rw (booked-same q p ps c, open-same q p ps c)
+    go (ahead h b c) t o i = rw (booked-ahead q p ps b c, not-open q (more {x = p} h (all-before position-order {x = q} {y = p} h a)))
     go (behind h b c) true o i = rw (booked-behind q p ps b c, open-other q p ps b, o) (ap suc i)
     go (behind h b c) false o i = rw (booked-behind q p ps b c, open-other q p ps b, o) (ap suc i)
 
 -- 14 lets a position open only where there is room
-pub booked-few : (q : Position) {ps : List Position} → Sorted Before ps → length ps ≤ 32 → (leb 32 (length ps) && not (isOpen (q .bank) (q .date) ps)) ≡ false → length (booked q ps) ≤ 32
-booked-few q {ps} s h k = rw (booked-length q s) (go (isOpen (q .bank) (q .date) ps) (leb 32 (length ps)) refl k)
+pub booked-few : (q : Position) {ps : List Position} → Sorted Before ps → length ps ≤ 32 → (leb 32 (length ps) && not (isOpen (q .key) ps)) ≡ false → length (booked q ps) ≤ 32
+booked-few q {ps} s h k = rw (booked-length q s) (go (isOpen (q .key) ps) (leb 32 (length ps)) refl k)
   where
     go : (t u : Bool) → leb 32 (length ps) ≡ u → (u && not t) ≡ false → cond t (length ps) (suc (length ps)) ≤ 32
     go true u e f = h
@@ -185,9 +123,9 @@ booked-few q {ps} s h k = rw (booked-length q s) (go (isOpen (q .bank) (q .date)
 -- ---- within the limits
 
 pub record Good (day : ℕ) (p : Position) : Type 0 where
-  pub bank : isBank (p .bank) ≡ true
-  pub date : exists (p .date) ≡ true
-  pub past : p .date ≤ day
+  pub bank : isBank (p .key .bank) ≡ true
+  pub date : exists (p .key .date) ≡ true
+  pub past : p .key .date ≤ day
   pub transferred : p .transferred ≤ limit
   pub detailed : p .detailed ≤ limit
 
@@ -217,25 +155,25 @@ good-all (more g s) = cond-both _ _ (good-test g) (good-all s)
 
 -- 15 lets both totals pass
 pub record Passes (q : Position) (ps : List Position) : Type 0 where
-  pub transferred : positionOf (q .bank) (q .date) ps .transferred + q .transferred ≤ limit
-  pub detailed : positionOf (q .bank) (q .date) ps .detailed + q .detailed ≤ limit
+  pub transferred : positionOf (q .key) ps .transferred + q .transferred ≤ limit
+  pub detailed : positionOf (q .key) ps .detailed + q .detailed ≤ limit
 
-module _ {day : ℕ} (q : Position) (b : isBank (q .bank) ≡ true) (d : exists (q .date) ≡ true) (l : q .date ≤ day) where
+module _ {day : ℕ} (q : Position) (b : isBank (q .key .bank) ≡ true) (d : exists (q .key .date) ≡ true) (l : q .key .date ≤ day) where
   own : {ps : List Position} → Passes q ps → Good day q
   own t = record { bank = b; date = d; past = l; transferred = omega (arith, t .transferred); detailed = omega (arith, t .detailed) }
 
   pub booked-good : {ps : List Position} → Passes q ps → All (Good day) ps → All (Good day) (booked q ps)
   unfolding booked
   booked-good t none = more (own t) none
-  booked-good t (more {x = p} {xs = ps} g s) = go (place q p) (λ u. booked-good u s)
+  booked-good t (more {x = p} {xs = ps} g s) = go (place (q .key) (p .key)) (λ u. booked-good u s)
     where
-      go : Place q p → (Passes q ps → All (Good day) (booked q ps)) → All (Good day) (booked q (p ∷ ps))
-      go (same e f c) i =
-          let z : positionOf (q .bank) (q .date) (p ∷ ps) ≡ p = found-same q p ps c in
+      go : Place (q .key) (p .key) → (Passes q ps → All (Good day) (booked q ps)) → All (Good day) (booked q (p ∷ ps))
+      go (same f c) i =
+          let z : positionOf (q .key) (p ∷ ps) ≡ p = found-same q p ps c in
           rw (booked-same q p ps c) (more record { bank = g .bank; date = g .date; past = g .past; transferred = rw z at (t .transferred); detailed = rw z at (t .detailed) } s)
       go (ahead h e f) i = rw (booked-ahead q p ps e f) (more (own t) (more g s))
       go (behind h e f) i =
-          let z : positionOf (q .bank) (q .date) (p ∷ ps) ≡ positionOf (q .bank) (q .date) ps = found-other q p ps e in
+          let z : positionOf (q .key) (p ∷ ps) ≡ positionOf (q .key) ps = found-other q p ps e in
           rw (booked-behind q p ps e f) (more g (i record { transferred = rw z at (t .transferred); detailed = rw z at (t .detailed) }))
 
 -- ---- "A position without details stays"

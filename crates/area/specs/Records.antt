@@ -1,29 +1,29 @@
 -- The record tests against the definitions: a record of 24 bytes passes exactly if what it says is within the limits and is written as it stands. Assumes nothing.
 use mathlib.Core.Path.{_≡_, refl, sym, ap, _∙_}
 use mathlib.Core.Bool.{Bool, true, false, _&&_, not, cond}
-use mathlib.Core.List.{List, [], _∷_, _++_, append-nil}
+use mathlib.Core.List.{List, [], _∷_, _++_, append-nil, append-assoc}
 use Prim.Native.Nat.{ℕ, zero, suc, _+_, _-_, _≤_}
 use native.Mathlib.Nat.{zero-div}
 use native.Mathlib.Omega.{arith}
 use lib.Dec.{leb, eqb, lit≤}
 use lib.ListN.{length, take, drop, length-drop}
-use lib.Seq.{drop-at, take-add, take-all, length-take-le}
+use lib.Seq.{drop-at, drop-drop, take-add, take-all, length-take-le}
 use borrow.Author.Tests.{leb-true, le-leb, eqb-true, not-true}
-use Rattle.rules.specs.Text.{isText, every, run, places, bytes}
+use Rattle.rules.specs.Text.{isText, every, run, places, bytes, number}
 use Rattle.rules.specs.Dates.{exists}
 use Rattle.rules.specs.Accounts.{isBic}
 use Rattle.rules.specs.Engine.{limit, isBank, goodReference, slashed}
-use Rattle.rules.specs.Area.{zeros, padded, numberAt, untilZero, referenceIn, positionIn, referenceRecord, positionRecord}
+use Rattle.rules.specs.Area.{zeros, padded, numberAt, untilZero, referenceIn, keyIn, positionIn, referenceRecord, keyBytes, positionRecord, dateOffset, blockOffset, transferredOffset, detailedOffset}
 use Rattle.laws.specs.Digits.{places-length}
 use Rattle.laws.specs.Numbers.{Within, bytes-number}
-use Rattle.laws.specs.Parts.{cut, from, cut-cut, from-take}
+use Rattle.laws.specs.Parts.{cut, from, cut-cut, cut-drop, cut-take, from-take}
 use Rattle.laws.specs.Tests.{and-left, and-right, cond-right}
 use Rattle.area.specs.Facts.{cond-left}
 use Rattle.area.specs.Bytes.{within-take, within-drop}
 use Rattle.area.specs.Layout.{part-at}
 use Rattle.area.specs.Positions.{Good}
 use Rattle.area.specs.Accepted.{bic-bank}
-use Rattle.area.specs.Tests.{isZero, textFits, referenceTest, dateTest, totalTest, positionTest}
+use Rattle.area.specs.Tests.{isZero, textFits, referenceTest, dateTest, valuesTest, positionFits}
 
 -- a part, as the definitions say it
 pub cut-is : (s : List ℕ) (i w : ℕ) → cut s i (i + w) ≡ take w (drop i s)
@@ -33,6 +33,11 @@ cut-is s i w = sym (from-take s i w)
 -- a part of a part of 24 bytes
 pub in-record : (a : List ℕ) (p i j : ℕ) → j ≤ 24 → cut (cut a p (p + 24)) i j ≡ cut a (p + i) (p + j)
 in-record a p i j h = cut-cut a p (p + 24) i j (omega arith)
+
+-- a number of a part of k bytes
+pub number-within : (a : List ℕ) (at k j w : ℕ) → j + w ≤ k → numberAt (take k (drop at a)) j w ≡ numberAt a (at + j) w
+number-within a at k j w h =
+    ap number (rw (← cut-is a at k, cut-drop a at (at + k) j, cut-take a (at + j) (at + k) w (omega arith)) (cut-is a (at + j) w))
 
 -- ---- zeros
 
@@ -73,44 +78,41 @@ take-part s i w = take-add i w s
 -- ---- positions
 
 module _ (r : List ℕ) (w : Within 256 0 r) (l : length r ≡ 24) where
-  -- four numbers, and the last byte
-  position-stands : positionRecord (positionIn r) ≡ take 23 r ++ bytes 1 0
-  unfolding positionRecord positionIn
+  -- bank and date, a byte, and both totals
+  position-stands : positionRecord (positionIn r) ≡ take blockOffset r ++ bytes 1 0 ++ take 12 (drop transferredOffset r)
+  unfolding positionRecord positionIn keyBytes keyIn
   position-stands =
-      rw (bytes-stand r 0 8 w (rw l (lit≤ tt)), bytes-stand r 8 3 w (rw l (lit≤ tt)), bytes-stand r 11 6 w (rw l (lit≤ tt)), bytes-stand r 17 6 w (rw l (lit≤ tt)))
-      (rw (take-part r 17 6, take-part r 11 6, take-part r 8 3))
+      let head : bytes 8 (numberAt r 0 8) ++ bytes 3 (numberAt r dateOffset 3) ≡ take blockOffset r =
+      rw (bytes-stand r 0 8 w (rw l (lit≤ tt)), bytes-stand r dateOffset 3 w (rw l (lit≤ tt))) (sym (take-part r dateOffset 3)) in
+      let rest : bytes 6 (numberAt r transferredOffset 6) ++ bytes 6 (numberAt r detailedOffset 6) ≡ take 12 (drop transferredOffset r) =
+      rw (bytes-stand r transferredOffset 6 w (rw l (lit≤ tt)), bytes-stand r detailedOffset 6 w (rw l (lit≤ tt)), ← drop-drop 6 transferredOffset r) (sym (take-part (drop transferredOffset r) 6 6)) in
+      rw (head, ← rest) (append-assoc (take blockOffset r ++ bytes 1 0) (bytes 6 (numberAt r transferredOffset 6)) (bytes 6 (numberAt r detailedOffset 6)))
 
   module _ (day : ℕ) where
-    -- the test in the words of the definitions
-    position-form : positionTest day r 0 ≡ (isBic (take 8 r) && ((exists (numberAt r 8 3) && leb (numberAt r 8 3) day) && (leb (numberAt r 11 6) limit && (leb (numberAt r 17 6) limit && every isZero (take 1 (drop 23 r))))))
-    unfolding positionTest dateTest totalTest
-    position-form = rw (cut-is r 0 8, cut-is r 8 3, cut-is r 11 6, cut-is r 17 6, cut-is r 23 1)
+    pub position-good : positionFits day r ≡ true → Good day (positionIn r)
+    unfolding positionFits valuesTest dateTest positionIn keyIn
+    position-good h = record {
+      bank = bic-bank (take 8 r) (search (and-left, and-right));
+      date = search (and-left, and-right);
+      past = leb-true _ _ (search (and-left, and-right));
+      transferred = leb-true _ _ (search (and-left, and-right));
+      detailed = leb-true _ _ (search (and-left, and-right));
+    }
 
-    pub position-good : positionTest day r 0 ≡ true → Good day (positionIn r)
-    unfolding positionIn
-    position-good h =
-        let k : _ ≡ true = sym position-form ∙ h in record {
-          bank = bic-bank (take 8 r) (search (and-left, and-right));
-          date = search (and-left, and-right);
-          past = leb-true _ _ (search (and-left, and-right));
-          transferred = leb-true _ _ (search (and-left, and-right));
-          detailed = leb-true _ _ (search (and-left, and-right));
-        }
-
-    pub position-same : positionTest day r 0 ≡ true → positionRecord (positionIn r) ≡ r
+    pub position-same : positionFits day r ≡ true → positionRecord (positionIn r) ≡ r
+    unfolding positionFits
     position-same h =
-        let k : _ ≡ true = sym position-form ∙ h in
-        let n : length (take 1 (drop 23 r)) ≡ 1 = length-take-le 1 (drop 23 r) (rw (length-drop, l) (lit≤ tt)) in
-        let z : take 1 (drop 23 r) ≡ zeros 1 = zero-bytes _ 1 n (search (and-left, and-right)) in
-        position-stands ∙ rw (bytes-zero 1, ← z, ← take-part r 23 1) (take-all 24 r (rw l (lit≤ tt)))
+        let n : length (take 1 (drop blockOffset r)) ≡ 1 = length-take-le 1 (drop blockOffset r) (rw (length-drop, l) (lit≤ tt)) in
+        let z : take 1 (drop blockOffset r) ≡ zeros 1 = zero-bytes _ 1 n (search (and-left, and-right)) in
+        position-stands ∙ rw (bytes-zero 1, ← z, ← take-part r blockOffset 1, ← take-part r transferredOffset 12) (take-all 24 r (rw l (lit≤ tt)))
 
-    pub position-test : Good day (positionIn r) → positionRecord (positionIn r) ≡ r → positionTest day r 0 ≡ true
-    unfolding positionIn
+    pub position-test : Good day (positionIn r) → positionRecord (positionIn r) ≡ r → positionFits day r ≡ true
+    unfolding positionFits valuesTest dateTest positionIn keyIn
     position-test g e =
         let b : isBic (take 8 r) ≡ true = rw (bytes-stand r 0 8 w (rw l (lit≤ tt))) at (bank-bic (numberAt r 0 8) (g .bank)) in
-        let n : length (take 23 r) ≡ 23 = length-take-le 23 r (rw l (lit≤ tt)) in
-        let z : take 1 (drop 23 r) ≡ bytes 1 0 = part-at r (take 23 r) (bytes 1 0) [] 23 1 n (places-length 256 0 1 0) (sym e ∙ position-stands ∙ simp append-nil) in
-        position-form ∙ rw (b, g .date, le-leb _ _ (g .past), le-leb _ _ (g .transferred), le-leb _ _ (g .detailed), z, bytes-zero 1) (zeros-zero 1)
+        let n : length (take blockOffset r) ≡ blockOffset = length-take-le blockOffset r (rw l (lit≤ tt)) in
+        let z : take 1 (drop blockOffset r) ≡ bytes 1 0 = part-at r (take blockOffset r) (bytes 1 0) (take 12 (drop transferredOffset r)) blockOffset 1 n (places-length 256 0 1 0) (sym e ∙ position-stands ∙ simp append-assoc) in
+        rw (b, z, bytes-zero 1, zeros-zero 1, g .date, le-leb _ _ (g .past), le-leb _ _ (g .transferred), le-leb _ _ (g .detailed))
 
 -- ---- references
 

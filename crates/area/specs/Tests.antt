@@ -3,13 +3,13 @@ use mathlib.Core.Bool.{Bool, _&&_, _||_, not}
 use mathlib.Core.List.{List}
 use Prim.Native.Nat.{ℕ, _+_, _-_, _*_}
 use lib.Dec.{leb, eqb}
-use lib.ListN.{length}
+use lib.ListN.{length, take, drop}
 use Rattle.rules.specs.Text.{isText, every, run, equal, textBefore, number, isSome}
 use Rattle.rules.specs.Dates.{exists}
 use Rattle.rules.specs.Accounts.{isBic}
 use Rattle.rules.specs.Register.{register}
-use Rattle.rules.specs.Engine.{Position, limit, slashed}
-use Rattle.rules.specs.Area.{mark, untilZero, areaSize, positionsPlace, textsPlace}
+use Rattle.rules.specs.Engine.{Key, Position, keyBefore, limit, slashed}
+use Rattle.rules.specs.Area.{mark, untilZero, keyIn, positionIn, areaSize, positionsPlace, textsPlace, recordSize, blockOffset}
 use Rattle.laws.specs.Parts.{cut}
 use Rattle.area.specs.Walk.{walk, always}
 
@@ -53,36 +53,35 @@ referencesTest a n = walk (always (referenceTest a)) n 16 && (walk (always (file
 
 -- ---- positions
 
--- the position at a place
-abbrev pub positionAt : List ℕ → ℕ → Position
-positionAt a p = record {
-  bank = number (cut a p (p + 8));
-  date = number (cut a (p + 8) (p + 11));
-  transferred = number (cut a (p + 11) (p + 17));
-  detailed = number (cut a (p + 17) (p + 23));
-}
+-- what the record at a place says, by the reader of its 24 bytes
+unfoldable pub valueAt : {A : Type 0} → (List ℕ → A) → List ℕ → ℕ → A
+valueAt reads a p = reads (take recordSize (drop p a))
 
-unfoldable pub totalTest : List ℕ → ℕ → ℕ → Bool
-totalTest a i j = leb (number (cut a i j)) limit
+-- the key and the position at a place
+abbrev pub keyAt : List ℕ → ℕ → Key
+keyAt a p = valueAt keyIn a p
+
+abbrev pub positionAt : List ℕ → ℕ → Position
+positionAt a p = valueAt positionIn a p
 
 unfoldable pub dateTest : ℕ → ℕ → Bool
 dateTest day date = exists date && leb date day
 
-unfoldable pub positionTest : ℕ → List ℕ → ℕ → Bool
-positionTest day a p =
-    isBic (cut a p (p + 8))
-    && (dateTest day (number (cut a (p + 8) (p + 11)))
-    && (totalTest a (p + 11) (p + 17)
-    && (totalTest a (p + 17) (p + 23)
-    && every isZero (cut a (p + 23) (p + 24)))))
+-- a position's date and both totals
+unfoldable pub valuesTest : ℕ → Position → Bool
+valuesTest day p = dateTest day (p .key .date) && (leb (p .transferred) limit && leb (p .detailed) limit)
 
--- bank and date before another bank and date
-unfoldable pub earlierBy : ℕ → ℕ → ℕ → ℕ → Bool
-earlierBy bank date other later = not (leb other bank) || (eqb bank other && not (leb later date))
+-- a record: a bank, no block, and these
+unfoldable pub positionFits : ℕ → List ℕ → Bool
+positionFits day r = isBic (take 8 r) && (every isZero (take 1 (drop blockOffset r)) && valuesTest day (positionIn r))
+
+-- the record at a place
+unfoldable pub positionTest : ℕ → List ℕ → ℕ → Bool
+positionTest day a p = valueAt (positionFits day) a p
 
 -- it stands before the next one
 unfoldable pub orderTest : List ℕ → ℕ → Bool
-orderTest a p = earlierBy (number (cut a p (p + 8))) (number (cut a (p + 8) (p + 11))) (number (cut a (p + 24) (p + 24 + 8))) (number (cut a (p + 24 + 8) (p + 24 + 11)))
+orderTest a p = keyBefore (keyAt a p) (keyAt a (p + 24))
 
 unfoldable pub positionsTest : ℕ → List ℕ → ℕ → Bool
 positionsTest day a n = walk (always (positionTest day a)) n positionsPlace && (walk (always (orderTest a)) (n - 1) positionsPlace && every isZero (cut a (positionsPlace + 24 * n) textsPlace))

@@ -4,17 +4,20 @@ use mathlib.Core.Bool.{Bool, true, false, _&&_, not}
 use mathlib.Core.List.{List}
 use Prim.Native.Nat.{ℕ, _+_, _-_, _≤_, _<_}
 use native.Mathlib.Omega.{arith}
-use lib.Dec.{leb}
+use lib.Dec.{leb, lit≤}
 use lib.ListN.{take, drop}
+use lib.Seq.{take-take}
 use borrow.Author.Tests.{le-leb, lt-leb, leb-true, eq-eqb, ne-eqb, not-true, not-false}
-use Rattle.rules.specs.Text.{textBefore, number, isSome}
+use Rattle.rules.specs.Text.{every, textBefore, number, isSome}
+use Rattle.rules.specs.Accounts.{isBic}
 use Rattle.rules.specs.Register.{register}
+use Rattle.rules.specs.Area.{blockOffset, transferredOffset}
 use Rattle.laws.specs.Parts.{cut}
 use Rattle.laws.specs.Reading.{reading}
 use Rattle.laws.specs.Tests.{and-left, and-right, tests}
 use Rattle.area.specs.Walk.{walking}
-use Rattle.area.specs.Records.{cut-is}
-use Rattle.area.specs.Tests.{countsTest, headerTest, precedesBy, filedTest, earlierBy}
+use Rattle.area.specs.Records.{cut-is, in-record}
+use Rattle.area.specs.Tests.{countsTest, headerTest, precedesBy, filedTest, isZero}
 
 -- ---- a limit, and the tests behind it
 
@@ -43,25 +46,14 @@ module _ (a b t : Bool) (u : t ≡ a) where
   pub bar-passed : t ≡ false → (r : Bool) → r ≡ b → r ≡ (not a && b)
   bar-passed h r e = rw (← u, h) e
 
--- ---- banks and dates compared
+-- ---- the parts of a record, as they stand in the area
 
-module _ (b d o l : ℕ) where
-  pub earlier-bank : b < o → true ≡ earlierBy b d o l
-  unfolding earlierBy
-  earlier-bank h = rw (lt-leb o b h)
+pub bank-part : (a : List ℕ) (p : ℕ) (t : Bool) → t ≡ isBic (cut a p (p + 8)) → t ≡ isBic (take 8 (take 24 (drop p a)))
+bank-part a p t h = rw (cut-is a p 8, ← take-take 8 24 (drop p a) (lit≤ tt)) at h
 
-  pub later-bank : o < b → false ≡ earlierBy b d o l
-  unfolding earlierBy
-  later-bank h = rw (le-leb o b (omega arith), ne-eqb b o (λ e. omega arith))
-
-  module _ (h : o ≤ b) (k : b ≤ o) where
-    pub earlier-date : d < l → true ≡ earlierBy b d o l
-    unfolding earlierBy
-    earlier-date m = rw (le-leb o b h, eq-eqb b o (omega arith), lt-leb l d m)
-
-    pub later-date : l ≤ d → false ≡ earlierBy b d o l
-    unfolding earlierBy
-    later-date m = rw (le-leb o b h, eq-eqb b o (omega arith), le-leb l d m)
+pub block-part : (a : List ℕ) (p : ℕ) (t : Bool) → t ≡ every isZero (cut a (p + blockOffset) (p + transferredOffset)) → t ≡ every isZero (take 1 (drop blockOffset (take 24 (drop p a))))
+block-part a p t h =
+    h ∙ ap (every isZero) (sym (in-record a p blockOffset transferredOffset (lit≤ tt)) ∙ cut-is (cut a p (p + 24)) blockOffset 1 ∙ ap (λ (r : List ℕ). take 1 (drop blockOffset r)) (cut-is a p 24))
 
 -- ---- senders and texts compared
 
@@ -96,8 +88,6 @@ module _ (a : List ℕ) (t : Bool) (u : t ≡ headerTest a) (h : not t ≡ false
 -- the register that a part holds
 pub register-part : (s : List ℕ) (a e : ℕ) (r : Bool) → a ≤ e → r ≡ isSome (register (take (e - a) (drop a s))) → r ≡ isSome (register (cut s a e))
 register-part s a e r h k = let m : a + (e - a) ≡ e = omega arith in k ∙ ap (λ (x : List ℕ). isSome (register x)) (sym (cut-is s a (e - a)) ∙ ap (cut s a) m)
-
-pub ruleset comparing = (earlier-bank, later-bank, earlier-date, later-date)
 
 pub ruleset filing = (lower-sender, higher-sender, same-sender)
 

@@ -1,21 +1,19 @@
 -- A message booked: `entered` in the ledger and `booked` among the engine's positions change every sum alike, so that entries and positions
 -- stay the same. Both take the one entry of q's bank and date out and put q's totals added to it in. Assumes nothing.
 use mathlib.Core.Path.{_≡_, refl, sym, ap, _∙_}
-use mathlib.Core.Bool.{Bool, true, false, cond, and-false}
+use mathlib.Core.Bool.{Bool, true, false, cond}
 use mathlib.Core.List.{List, [], _∷_}
 use Prim.Native.Nat.{ℕ, _+_, _≤_}
 use native.Mathlib.Nat.{zero-add, add-zero}
 use native.Mathlib.Omega.{arith}
-use lib.Dec.{eqb}
-use borrow.Author.Tests.{eqb-true, ne-eqb}
 use Rattle.rules.specs.Text.{ordered}
-use Rattle.rules.specs.Engine.{Position, earlier, alike, booked}
+use Rattle.rules.specs.Engine.{Position, earlier, alike, raised, booked}
 use Rattle.rules.specs.Ledger.{entered}
-use Rattle.laws.specs.Tests.{and-left, and-right}
+use Rattle.laws.specs.Keys.{before-trans, same-keys, behind-other, Place, Place.same, Place.ahead, Place.behind, place}
 use Rattle.area.specs.Facts.{never}
 use Rattle.area.specs.Layout.{All, All.none, All.more}
 use Rattle.area.specs.Order.{Sorted, Sorted.empty, Sorted.next, ordered-sorted}
-use Rattle.area.specs.Positions.{Before, Before.bank, Before.date, before-trans, Place, Place.same, Place.ahead, Place.behind, place, position-order, raised, booked-same, booked-ahead, booked-behind}
+use Rattle.area.specs.Positions.{Before, position-order, booked-same, booked-ahead, booked-behind}
 use Rattle.balance.specs.Tally.{Measure, Test, tally, Same, one, transfers, details, only, like}
 
 -- how many entries are of q's bank and date
@@ -25,15 +23,14 @@ many q ps = tally (only (like q) one) ps
 -- the entry of q's bank and date with q's totals added
 unfoldable pub total : Position → List Position → Position
 total q ps = record {
-  bank = q .bank;
-  date = q .date;
+  key = q .key;
   transferred = tally (only (like q) transfers) ps + q .transferred;
   detailed = tally (only (like q) details) ps + q .detailed;
 }
 
 -- a bank and date without totals
 unfoldable pub keyed : ℕ → ℕ → Position
-keyed b d = record { bank = b; date = d; transferred = 0; detailed = 0 }
+keyed b d = record { key = record { bank = b; date = d }; transferred = 0; detailed = 0 }
 
 -- what booking q does to every sum
 pub record Booked (q : Position) (ps ps' : List Position) : Type 0 where
@@ -75,11 +72,9 @@ total-past q p ps h = rw h (simp zero-add)
 -- one entry more, which is q's, and no other
 total-here : (q p : Position) (ps : List Position) → alike p q ≡ true → many q ps ≡ 0
     → total q (p ∷ ps) ≡ raised p q
-unfolding total tally only like alike
+unfolding total tally only like
 total-here q p ps h n =
-    let b : p .bank ≡ q .bank = eqb-true _ _ (and-left _ _ h) in
-    let d : p .date ≡ q .date = eqb-true _ _ (and-right (eqb (p .bank) (q .bank)) _ h) in
-    rw (h, many-none q transfers ps n, many-none q details ps n, b, d) (simp add-zero)
+    rw (h, many-none q transfers ps n, many-none q details ps n, same-keys (p .key) (q .key) h) (simp add-zero)
 
 -- ---- the ways that both go
 
@@ -135,8 +130,8 @@ total-entered t v q agrees stays adds ps =
     go p false true e = never (sym e)
 
 pub like-agrees : (k p q : Position) → alike p q ≡ true → like k p ≡ like k q
-unfolding like alike
-like-agrees k p q h = rw (eqb-true (p .bank) (q .bank) (and-left _ _ h), eqb-true (p .date) (q .date) (and-right (eqb (p .bank) (q .bank)) _ h))
+unfolding like
+like-agrees k p q h = rw (same-keys (p .key) (q .key) h)
 
 raised-none : (p : Position) (b d : ℕ) → raised p (keyed b d) ≡ p
 unfolding keyed
@@ -157,39 +152,29 @@ single g b d (p ∷ ps) z l = go (alike p (keyed b d)) refl (single g b d ps z)
 
 -- ---- the engine's positions, which stand in order
 
--- what stands after q is another entry than q's
-before-other : {q p : Position} → Before q p → alike p q ≡ false
-unfolding alike
-before-other {q} {p} (bank h) = rw (ne-eqb (p .bank) (q .bank) (λ e. omega arith))
-before-other {q} {p} (date h k) = rw (ne-eqb (p .date) (q .date) (λ e. omega arith), and-false)
-
-before-like : {q p r : Position} → p .bank ≡ q .bank → p .date ≡ q .date → Before p r → Before q r
-before-like e f (bank h) = bank (omega arith)
-before-like e f (date h k) = date (omega arith) (omega arith)
-
 none-behind : (q p : Position) {ps : List Position} → ((r : Position) → Before p r → Before q r) → All (Before p) ps → many q ps ≡ 0
 unfolding many tally
 none-behind q p f none = refl
-none-behind q p f (more {x = r} {xs = ps} k s) = many-past q r ps (before-other (f r k)) ∙ none-behind q p f s
+none-behind q p f (more {x = r} {xs = ps} k s) = many-past q r ps (behind-other (f r k)) ∙ none-behind q p f s
 
 -- positions in order are distinct
 pub sorted-many : (q : Position) {ps : List Position} → Sorted Before ps → many q ps ≤ 1
 unfolding many tally
 sorted-many q empty = omega arith
-sorted-many q (next {x = p} {xs = ps} a s) = go (place q p) (sorted-many q s)
+sorted-many q (next {x = p} {xs = ps} a s) = go (place (q .key) (p .key)) (sorted-many q s)
   where
-    go : Place q p → many q ps ≤ 1 → many q (p ∷ ps) ≤ 1
-    go (same e f h) l = omega (arith, many-here q p ps h, none-behind q p (λ r. before-like e f) a)
+    go : Place (q .key) (p .key) → many q ps ≤ 1 → many q (p ∷ ps) ≤ 1
+    go (same e h) l = omega (arith, many-here q p ps h, none-behind q p (λ r k. rw e at k) a)
     go (ahead k h e) l = omega (arith, many-past q p ps h)
     go (behind k h e) l = omega (arith, many-past q p ps h)
 
 pub booked-booked : (q : Position) {ps : List Position} → Sorted Before ps → Booked q ps (booked q ps)
 unfolding booked many tally
 booked-booked q empty = booked-new q [] refl
-booked-booked q (next {x = p} {xs = ps} a s) = go (place q p) (booked-booked q s)
+booked-booked q (next {x = p} {xs = ps} a s) = go (place (q .key) (p .key)) (booked-booked q s)
   where
-    go : Place q p → Booked q ps (booked q ps) → Booked q (p ∷ ps) (booked q (p ∷ ps))
-    go (same e f h) b = rw (booked-same q p ps h) (booked-here q p ps h (none-behind q p (λ r. before-like e f) a))
+    go : Place (q .key) (p .key) → Booked q ps (booked q ps) → Booked q (p ∷ ps) (booked q (p ∷ ps))
+    go (same e h) b = rw (booked-same q p ps h) (booked-here q p ps h (none-behind q p (λ r k. rw e at k) a))
     go (ahead k h e) b = rw (booked-ahead q p ps h e) (booked-new q (p ∷ ps) (many-past q p ps h ∙ none-behind q p (λ r. before-trans k) a))
     go (behind k h e) b = rw (booked-behind q p ps h e) (booked-past q p ps (booked q ps) h b)
 

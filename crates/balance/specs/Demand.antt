@@ -93,10 +93,10 @@ unfolding held only ofBank bare free hasDetails
 bare-held bank day ledger sent b h =
     let t : transferredOf bank ledger ≡ untouched bank sent sent =
     transferred-tally bank ledger ∙ b (only (ofBank bank) transfers)
-    ∙ tally-each (only bare (only (ofBank bank) transfers)) (free bank (λ d. true)) (λ p. same (eqb (p .bank) bank) (leb 1 (p .detailed)) (p .transferred)) ledger
+    ∙ tally-each (only bare (only (ofBank bank) transfers)) (free bank (λ d. true)) (λ p. same (eqb (p .key .bank) bank) (leb 1 (p .detailed)) (p .transferred)) ledger
     ∙ h .held bank (λ d. true) ∙ sym (untouched-all bank sent sent) in
     let d : detailedOf bank ledger ≡ 0 =
-    detailed-tally bank ledger ∙ b (only (ofBank bank) details) ∙ tally-none (only bare (only (ofBank bank) details)) (λ p. nothing (eqb (p .bank) bank) (p .detailed)) ledger in
+    detailed-tally bank ledger ∙ b (only (ofBank bank) details) ∙ tally-none (only bare (only (ofBank bank) details)) (λ p. nothing (eqb (p .key .bank) bank) (p .detailed)) ledger in
     rw (d, le-ltb (transferredOf bank ledger) 0 (omega arith)) (ap pos (omega arith))
   where
     same : (c e : Bool) (v : ℕ) → cond (not e) (cond c v 0) 0 ≡ cond (c && true && not e) v 0

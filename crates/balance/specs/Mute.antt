@@ -85,20 +85,20 @@ mute-closed part parts =
     subst Mute (append-assoc (decimal part ++ ascii "/" ++ decimal parts) (ascii "\r\n") (ascii "-\r\n"))
     (mute-line (short-decimal part ⊕ short-text (ascii "/") refl ⊕ short-decimal parts) refl ▹ mute-line (short-text (ascii "-") refl) refl)
 
-mute-199 : (day n : ℕ) (p : Position) (part parts : ℕ) {ds : List Detail} → isBic (bic (p .bank)) ≡ true → All Sent ds → Mute (mt199 day n p part parts ds)
+mute-199 : (day n : ℕ) (p : Position) (part parts : ℕ) {ds : List Detail} → isBic (bic (p .key .bank)) ≡ true → All Sent ds → Mute (mt199 day n p part parts ds)
 unfolding mt199 every inLine
 mute-199 day n p part parts h s =
-    (mute-opened (p .bank) (ascii "199") (short-text (ascii "199") refl) h ▹ mute-field (short-text (ascii ":20:") refl) (short-reference day (n + part)) refl ▹ mute-linked day n part)
-    ▹ mute-position (p .date) (p .transferred) (p .detailed)
+    (mute-opened (p .key .bank) (ascii "199") (short-text (ascii "199") refl) h ▹ mute-field (short-text (ascii ":20:") refl) (short-reference day (n + part)) refl ▹ mute-linked day n part)
+    ▹ mute-position (p .key .date) (p .transferred) (p .detailed)
     ▹ mute-returned s
     ▹ mute-closed part parts
 
-mute-199s : (k day n : ℕ) (p : Position) (part parts : ℕ) {ds : List Detail} → isBic (bic (p .bank)) ≡ true → All Sent ds → Mute (mt199s k day n p part parts ds)
+mute-199s : (k day n : ℕ) (p : Position) (part parts : ℕ) {ds : List Detail} → isBic (bic (p .key .bank)) ≡ true → All Sent ds → Mute (mt199s k day n p part parts ds)
 unfolding mt199s
 mute-199s zero day n p part parts h s = mute-none
 mute-199s (suc k) day n p part parts h s = mute-199 day n p part parts h (all-take 14 s) ▹ mute-199s k day n p (part + 1) parts h (all-drop 14 s)
 
-pub mute-verdicts : (day n : ℕ) (p : Position) {ds : List Detail} → isBic (bic (p .bank)) ≡ true → All Sent ds → Mute (verdicts day n p ds)
+pub mute-verdicts : (day n : ℕ) (p : Position) {ds : List Detail} → isBic (bic (p .key .bank)) ≡ true → All Sent ds → Mute (verdicts day n p ds)
 unfolding verdicts
 mute-verdicts day n p {ds} h s = mute-199s (partsOf (length ds)) day n p 1 (partsOf (length ds)) h s
 
@@ -116,30 +116,30 @@ mute-72 : (day n : ℕ) (p : Position) → p .detailed ≤ limit → Mute (field
 unfolding field72 every inLine
 mute-72 day n p h =
     mute-line (short-text (ascii ":72:/BAEREF/") refl ⊕ short-fixed 6 day ⊕ short-fixed 6 n) refl
-    ▹ mute-field (short-text (ascii "/RELREF/ERRCENTRB") refl) (short-fixed 6 (p .date)) refl
+    ▹ mute-field (short-text (ascii "/RELREF/ERRCENTRB") refl) (short-fixed 6 (p .key .date)) refl
     ▹ mute-line (short-text (ascii "//RAZLIKA OT CENTRALIZACIA NA BS") refl) refl
     ▹ mute-field (short-text (ascii "//SUMA PREZ RINGS ") refl) (short-written (p .transferred) (short-text (ascii ".") refl)) refl
     ▹ (mute-field (short-text (ascii "//SUMA PREZ BISERA ") refl) (short-point (p .detailed) h) refl ▹ mute-line (short-text (ascii "-") refl) refl)
 
-pub mute-204 : (day : ℕ) (temporary : List ℕ) (n : ℕ) (p : Position) (v : ℕ) → isBic (bic (p .bank)) ≡ true → ibanShape temporary ≡ true → p .detailed ≤ limit → Mute (mt204 day temporary n p v)
+pub mute-204 : (day : ℕ) (temporary : List ℕ) (n : ℕ) (p : Position) (v : ℕ) → isBic (bic (p .key .bank)) ≡ true → ibanShape temporary ≡ true → p .detailed ≤ limit → Mute (mt204 day temporary n p v)
 unfolding mt204 every inLine
 mute-204 day temporary n p v h t l =
-    (mute-opened (p .bank) (ascii "204") (short-text (ascii "204") refl) h
+    (mute-opened (p .key .bank) (ascii "204") (short-text (ascii "204") refl) h
     ▹ mute-field (short-text (ascii ":20:") refl) (short-reference day n) refl
     ▹ mute-field (short-text (ascii ":19:") refl) (short-comma v) refl
     ▹ mute-field (short-text (ascii ":30:") refl) (short-fixed 6 day) refl)
     ▹ (mute-field (short-text (ascii ":58D:/") refl) (short-iban temporary t) refl
     ▹ mute-line (short-text (ascii "SMETKA ZA RAZPREDELENIE NA PREVODI") refl) refl
     ▹ mute-field (short-text (ascii ":20:") refl) (short-reference day n) refl)
-    ▹ (mute-field (short-text (ascii ":32B:BGN") refl) (short-comma v) refl ▹ mute-field (short-text (ascii ":53A:") refl) (short-bic (bic (p .bank)) h) refl)
+    ▹ (mute-field (short-text (ascii ":32B:BGN") refl) (short-comma v) refl ▹ mute-field (short-text (ascii ":53A:") refl) (short-bic (bic (p .key .bank)) h) refl)
     ▹ mute-72 day n p l
 
-pub mute-205 : (day n : ℕ) (p : Position) (v : ℕ) → isBic (bic (p .bank)) ≡ true → p .detailed ≤ limit → Mute (mt205 day n p v)
+pub mute-205 : (day n : ℕ) (p : Position) (v : ℕ) → isBic (bic (p .key .bank)) ≡ true → p .detailed ≤ limit → Mute (mt205 day n p v)
 unfolding mt205 every inLine
 mute-205 day n p v h l =
-    (mute-opened (p .bank) (ascii "205") (short-text (ascii "205") refl) h
+    (mute-opened (p .key .bank) (ascii "205") (short-text (ascii "205") refl) h
     ▹ mute-field (short-text (ascii ":20:") refl) (short-reference day n) refl
     ▹ mute-field (short-text (ascii ":21:") refl) (short-reference day n) refl)
     ▹ mute-line (short-text (ascii ":32A:") refl ⊕ short-fixed 6 day ⊕ short-text (ascii "BGN") refl ⊕ short-comma v) refl
-    ▹ (mute-line (short-text (ascii ":52A:BNBGBGSD") refl) refl ▹ mute-field (short-text (ascii ":58A:") refl) (short-bic (bic (p .bank)) h) refl)
+    ▹ (mute-line (short-text (ascii ":52A:BNBGBGSD") refl) refl ▹ mute-field (short-text (ascii ":58A:") refl) (short-bic (bic (p .key .bank)) h) refl)
     ▹ mute-72 day n p l

@@ -12,7 +12,7 @@ use borrow.Author.Tests.{ne-eqb, eqb-true, eqb-false}
 use Rattle.rules.specs.Messages.{Message, dateOf, transferredBy, detailedBy}
 use Rattle.rules.specs.Register.{registerOf}
 use Rattle.rules.specs.Text.{ordered}
-use Rattle.rules.specs.Engine.{Position, Engine, earlier, alike}
+use Rattle.rules.specs.Engine.{Position, Engine, earlier, sameKey}
 use Rattle.rules.specs.Calls.{bankOf, added, afterMessage, afterTurn as laterEngine}
 use Rattle.rules.specs.Area.{Result, cardMessage, cardTurn, holds}
 use Rattle.rules.specs.Ledger.{Fed, message, turn, Event, fedWith, enteredBy, ledgerFrom, isTurn, afterTurn, listed, messageOf, accepted, sumOf}
@@ -67,13 +67,13 @@ once {ps} h s bank date = rw (← s .sums (only (like (keyed bank date)) one)) (
 
 -- no entry is dated after the day
 unmet : {day : ℕ} {ps ledger : List Position} → All (Good day) ps → Same ps ledger → (bank next : ℕ) → day < next → many (keyed bank next) ledger ≡ 0
-unfolding many tally alike keyed
+unfolding many tally sameKey keyed
 unmet {day} {ps} a s bank next l = rw (← s .sums (only (like (keyed bank next)) one)) (go a)
   where
     go : {qs : List Position} → All (Good day) qs → many (keyed bank next) qs ≡ 0
     go none = refl
     go (more {x = p} {xs = qs} g t) =
-        many-past (keyed bank next) p qs (rw (ne-eqb (p .date) next (λ e. omega (arith, g .past)), and-false)) ∙ go t
+        many-past (keyed bank next) p qs (rw (ne-eqb (p .key .date) next (λ e. omega (arith, g .past)), and-false)) ∙ go t
 
 -- from what the bytes of an event tell
 told-settles : (bank : ℕ) (temporary : List ℕ) (e : Event) {v u : ℕ} {ledger next : List Position} → Tells (comesIn bank) (e .fed) (e .bytes) v → Tells (goesOut temporary bank) (e .fed) (e .bytes) u

@@ -1,16 +1,13 @@
 -- One accepted call on the ledger: what comes in with it and what goes out are what it changes of the bank's totals. Assumes nothing.
-use mathlib.Core.Path.{_≡_, refl, ap}
+use mathlib.Core.Path.{_≡_, refl}
 use mathlib.Core.List.{List}
 use Prim.Native.Nat.{ℕ, _+_}
 use native.Mathlib.Omega.{arith}
-use lib.Dec.{eqb}
-use borrow.Author.Tests.{eqb-true}
 use Rattle.rules.specs.Messages.{Message, transferredBy, detailedBy}
-use Rattle.rules.specs.Engine.{Position, alike, kept}
+use Rattle.rules.specs.Engine.{Position, raised, kept}
 use Rattle.rules.specs.Calls.{bankOf, added}
 use Rattle.rules.specs.Ledger.{entered, transferredOf, detailedOf}
-use Rattle.laws.specs.Tests.{and-left}
-use Rattle.area.specs.Positions.{raised}
+use Rattle.laws.specs.Keys.{same-keys}
 use Rattle.balance.specs.Kinds.{mine}
 use Rattle.balance.specs.Tally.{Measure, tally, Same, only, ofBank, transfers, details, transferred-tally, detailed-tally}
 use Rattle.balance.specs.Booking.{total-entered}
@@ -31,9 +28,9 @@ settles-then s t = record { balance = omega (arith, s .balance, t .balance) }
 -- a total of one bank grows by what is entered for it
 bank-entered : (v : Measure) (bank : ℕ) (q : Position) → ((p : Position) → v (raised p q) ≡ v p + v q) → (ledger : List Position)
     → tally (only (ofBank bank) v) (entered q ledger) ≡ tally (only (ofBank bank) v) ledger + only (ofBank bank) v q
-unfolding ofBank alike
+unfolding ofBank
 bank-entered v bank q adds ledger =
-    total-entered (ofBank bank) v q (λ p h. ap (λ (b : ℕ). eqb b bank) (eqb-true (p .bank) (q .bank) (and-left _ _ h))) (λ p. refl) adds ledger
+    total-entered (ofBank bank) v q (λ p h. rw (same-keys (p .key) (q .key) h)) (λ p. refl) adds ledger
 
 -- an accepted message
 pub message-settles : (bank : ℕ) (m : Message) (ledger : List Position)

@@ -42,7 +42,7 @@ only t g p = cond (t p) (g p) 0
 
 -- of one bank's
 unfoldable pub ofBank : ℕ → Test
-ofBank bank p = eqb (p .bank) bank
+ofBank bank p = eqb (p .key .bank) bank
 
 -- of those of q's bank and date
 unfoldable pub like : Position → Test
@@ -71,12 +71,12 @@ step false v e = omega arith
 pub transferred-tally : (bank : ℕ) (ps : List Position) → transferredOf bank ps ≡ tally (only (ofBank bank) transfers) ps
 unfolding transferredOf tally only ofBank
 transferred-tally bank [] = refl
-transferred-tally bank (p ∷ ps) = step (eqb (p .bank) bank) (p .transferred) (transferred-tally bank ps)
+transferred-tally bank (p ∷ ps) = step (eqb (p .key .bank) bank) (p .transferred) (transferred-tally bank ps)
 
 pub detailed-tally : (bank : ℕ) (ps : List Position) → detailedOf bank ps ≡ tally (only (ofBank bank) details) ps
 unfolding detailedOf tally only ofBank
 detailed-tally bank [] = refl
-detailed-tally bank (p ∷ ps) = step (eqb (p .bank) bank) (p .detailed) (detailed-tally bank ps)
+detailed-tally bank (p ∷ ps) = step (eqb (p .key .bank) bank) (p .detailed) (detailed-tally bank ps)
 
 pub times-tally : (q : Position) (ps : List Position) → times q ps ≡ tally (only (equalTo q) one) ps
 unfolding times tally only equalTo

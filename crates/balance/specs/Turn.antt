@@ -24,7 +24,7 @@ use Rattle.balance.specs.Tally.{Measure, tally, only, ofBank, bare, tran
 
 -- what a turn counts for a position that it removes: up what it refunds and down what it collects, each by the bank
 unfoldable pub closed : (ℕ → ℕ → ℕ) → (ℕ → ℕ → ℕ) → Measure
-closed up down p = cond (hasDetails p) (up (p .bank) (p .transferred - p .detailed) + down (p .bank) (p .detailed - p .transferred)) 0
+closed up down p = cond (hasDetails p) (up (p .key .bank) (p .transferred - p .detailed) + down (p .key .bank) (p .detailed - p .transferred)) 0
 
 -- counted as nothing
 abbrev pub nothing : ℕ → ℕ → ℕ
@@ -32,12 +32,12 @@ nothing x v = 0
 
 -- the book of a correction
 abbrev pub bookOf : ℕ → List ℕ → Position → Book
-bookOf day temporary p = record { day = day; temporary = temporary; bank = p .bank; date = p .date }
+bookOf day temporary p = record { day = day; temporary = temporary; bank = p .key .bank; date = p .key .date }
 
 module _ (day : ℕ) (temporary : List ℕ) (a : ibanShape temporary ≡ true) {old : ℕ} where
   readable : {p : Position} → Good old p → Readable (bookOf day temporary p)
   unfolding isBank
-  readable {p} g = record { known = and-right (leb (p .bank) 18446744073709551615) _ (g .bank); small = omega (arith, bank-small (p .bank) (g .bank)); account = a }
+  readable {p} g = record { known = and-right (leb (p .key .bank) 18446744073709551615) _ (g .bank); small = omega (arith, bank-small (p .key .bank) (g .bank)); account = a }
 
   -- ---- messages
 
@@ -62,16 +62,16 @@ module _ (day : ℕ) (temporary : List ℕ) (a : ibanShape temporary ≡ true) {
   -- ---- posting lines, by a kind that counts refunds by up and collections by down
 
   module _ (kind : Kind) (f : Fed) (up down : ℕ → ℕ → ℕ) (no-up : (x : ℕ) → up x 0 ≡ 0) (no-down : (x : ℕ) → down x 0 ≡ 0)
-      (refunds : (p : Position) (v : ℕ) → Readable (bookOf day temporary p) → v < 10 ^ 20 → Tells kind f (toBank (bookOf day temporary p) v) (up (p .bank) v))
-      (collects : (p : Position) (v : ℕ) → Readable (bookOf day temporary p) → v < 10 ^ 20 → Tells kind f (fromBank (bookOf day temporary p) v) (down (p .bank) v)) where
+      (refunds : (p : Position) (v : ℕ) → Readable (bookOf day temporary p) → v < 10 ^ 20 → Tells kind f (toBank (bookOf day temporary p) v) (up (p .key .bank) v))
+      (collects : (p : Position) (v : ℕ) → Readable (bookOf day temporary p) → v < 10 ^ 20 → Tells kind f (fromBank (bookOf day temporary p) v) (down (p .key .bank) v)) where
     tells-correction : (p : Position) → Good old p
-        → Tells kind f (correctionPosting day temporary p) (up (p .bank) (p .transferred - p .detailed) + down (p .bank) (p .detailed - p .transferred))
+        → Tells kind f (correctionPosting day temporary p) (up (p .key .bank) (p .transferred - p .detailed) + down (p .key .bank) (p .detailed - p .transferred))
     unfolding correctionPosting isRefund
     tells-correction p g = go (leb (p .detailed) (p .transferred)) refl
       where
         go : (t : Bool) → leb (p .detailed) (p .transferred) ≡ t
             → Tells kind f (cond t (toBank (bookOf day temporary p) (p .transferred - p .detailed)) (fromBank (bookOf day temporary p) (p .detailed - p .transferred)))
-            (up (p .bank) (p .transferred - p .detailed) + down (p .bank) (p .detailed - p .transferred))
+            (up (p .key .bank) (p .transferred - p .detailed) + down (p .key .bank) (p .detailed - p .transferred))
         go true e =
             let z : p .detailed - p .transferred ≡ 0 = omega (arith, leb-true (p .detailed) (p .transferred) e) in
             tells-same (refunds p (p .transferred - p .detailed) (readable g) (omega (arith, g .transferred))) (rw (z, no-down) (omega arith))
@@ -87,7 +87,7 @@ module _ (day : ℕ) (temporary : List ℕ) (a : ibanShape temporary ≡ true) {
       where
         go : (t u : Bool) → eqb (p .transferred) (p .detailed) ≡ u → Tells kind f (correctionPostings day temporary ps) (tally (closed up down) ps)
             → Tells kind f (cond (t && not u) (correctionPosting day temporary p ++ correctionPostings day temporary ps) (correctionPostings day temporary ps))
-            (cond t (up (p .bank) (p .transferred - p .detailed) + down (p .bank) (p .detailed - p .transferred)) 0 + tally (closed up down) ps)
+            (cond t (up (p .key .bank) (p .transferred - p .detailed) + down (p .key .bank) (p .detailed - p .transferred)) 0 + tally (closed up down) ps)
         go true false e r = tells-join (tells-correction p g) r
         go true true e r =
             let x : p .transferred - p .detailed ≡ 0 = omega (arith, eqb-true (p .transferred) (p .detailed) e) in
@@ -107,7 +107,7 @@ module _ (e : Engine) (l : Limits e) (day bank : ℕ) (f : Fed) (s : bank < 2 ^ 
   turn-in =
       let t : List ℕ = registerOf (e .register) .temporary in
       tells-turn day t (temporary-shape (e .register) (l .register)) (comesIn bank) f nothing (mine bank) (λ x. refl) (mine-none bank)
-      (λ p v k h. in-paid (bookOf day t p) bank v k s h (bic (p .bank)) (bank-party (bookOf day t p) k)) (λ p v k h. in-from (bookOf day t p) bank v k s h)
+      (λ p v k h. in-paid (bookOf day t p) bank v k s h (bic (p .key .bank)) (bank-party (bookOf day t p) k)) (λ p v k h. in-from (bookOf day t p) bank v k s h)
       (all-good (e .day) (e .positions) (l .good))
 
   pub turn-out : Tells (goesOut (registerOf (e .register) .temporary) bank) f (turnText e day) (tally (closed (mine bank) nothing) (e .positions))
@@ -115,7 +115,7 @@ module _ (e : Engine) (l : Limits e) (day bank : ℕ) (f : Fed) (s : bank < 2 ^ 
   turn-out =
       let t : List ℕ = registerOf (e .register) .temporary in
       tells-turn day t (temporary-shape (e .register) (l .register)) (goesOut t bank) f (mine bank) nothing (mine-none bank) (λ x. refl)
-      (λ p v k h. out-paid (bookOf day t p) bank v k s h (bic (p .bank)) (bank-party (bookOf day t p) k)) (λ p v k h. out-from (bookOf day t p) bank v k s h)
+      (λ p v k h. out-paid (bookOf day t p) bank v k s h (bic (p .key .bank)) (bank-party (bookOf day t p) k)) (λ p v k h. out-from (bookOf day t p) bank v k s h)
       (all-good (e .day) (e .positions) (l .good))
 
 -- a bank's collected and transferred against its refunded and detailed, over what is there and what a turn keeps
@@ -151,4 +151,4 @@ turn-settles bank ps =
     go p false false h = refl
 
     each : (p : Position) → closed nothing (mine bank) p + only (ofBank bank) transfers p + only bare (only (ofBank bank) details) p ≡ closed (mine bank) nothing p + only (ofBank bank) details p + only bare (only (ofBank bank) transfers) p
-    each p = go p (leb 1 (p .detailed)) (eqb (p .bank) bank) refl
+    each p = go p (leb 1 (p .detailed)) (eqb (p .key .bank) bank) refl

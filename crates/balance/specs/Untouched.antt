@@ -10,7 +10,7 @@ use lib.Dec.{leb, eqb}
 use borrow.Author.Tests.{eqb-true, eqb-false, eq-eqb, ne-eqb, le-leb}
 use Rattle.rules.specs.Text.{any}
 use Rattle.rules.specs.Messages.{Message, mt103, mt101, Transfer, Order, dateOf, firstDate, transferredBy, detailedBy, detailsOf, sumOf}
-use Rattle.rules.specs.Engine.{Position, alike, hasDetails, kept}
+use Rattle.rules.specs.Engine.{Position, sameKey, hasDetails, kept}
 use Rattle.rules.specs.Calls.{bankOf, added}
 use Rattle.rules.specs.Ledger.{entered, isDetails, untouched}
 use Rattle.area.specs.Layout.{All, All.none, All.more}
@@ -24,7 +24,7 @@ Dates = ℕ → Bool
 
 -- what an entry without details holds, where it is the bank's and its date is chosen
 unfoldable pub free : ℕ → Dates → Measure
-free bank t p = cond (eqb (p .bank) bank && t (p .date) && not (hasDetails p)) (p .transferred) 0
+free bank t p = cond (eqb (p .key .bank) bank && t (p .key .date) && not (hasDetails p)) (p .transferred) 0
 
 -- the bank's transfers for chosen dates for which none of its details is among all
 unfoldable pub untouchedIn : ℕ → Dates → List Message → List Message → ℕ
@@ -140,11 +140,11 @@ parts false t n x e a c w h k = omega (arith, nought (a && c))
 
 module _ (bank x d : ℕ) (t : Dates) (ledger : List Position) (l : many (keyed x d) ledger ≤ 1) where
   free-transfer : (v : ℕ) (sent : List Message) → leb 1 (tally (only (like (keyed x d)) details) ledger) ≡ any (isDetails x d) sent
-      → tally (free bank t) (entered record { bank = x; date = d; transferred = v; detailed = 0 } ledger)
+      → tally (free bank t) (entered record { key = record { bank = x; date = d }; transferred = v; detailed = 0 } ledger)
       ≡ tally (free bank t) ledger + cond (eqb x bank && t d && not (any (isDetails bank d) sent)) v 0
-  unfolding many like alike keyed total free hasDetails
+  unfolding many like sameKey keyed total free hasDetails
   free-transfer v sent k =
-      let q : Position = record { bank = x; date = d; transferred = v; detailed = 0 } in
+      let q : Position = record { key = record { bank = x; date = d }; transferred = v; detailed = 0 } in
       let g : Measure = free bank t in
       let b : Booked q ledger (entered q ledger) = entered-booked q ledger l in
       let s : tally (only (like (keyed x d)) g) ledger ≡ g (total (keyed x d) ledger) = single g x d ledger (no-free bank x d t) l in
@@ -159,18 +159,18 @@ module _ (bank x d : ℕ) (t : Dates) (ledger : List Position) (l : many (keyed 
   unfoldable taken : Dates
   taken date = t date && not (eqb x bank && eqb d date)
 
-  free-order : (v : ℕ) → 1 ≤ v → tally (free bank t) (entered record { bank = x; date = d; transferred = 0; detailed = v } ledger) ≡ tally (free bank taken) ledger
-  unfolding many like alike keyed total free hasDetails taken only
+  free-order : (v : ℕ) → 1 ≤ v → tally (free bank t) (entered record { key = record { bank = x; date = d }; transferred = 0; detailed = v } ledger) ≡ tally (free bank taken) ledger
+  unfolding many like sameKey keyed total free hasDetails taken only
   free-order v k =
-      let q : Position = record { bank = x; date = d; transferred = 0; detailed = v } in
+      let q : Position = record { key = record { bank = x; date = d }; transferred = 0; detailed = v } in
       let g : Measure = free bank t in
       let b : Booked q ledger (entered q ledger) = entered-booked q ledger l in
       let z : g (total q ledger) ≡ 0 = rw (le-leb 1 (tally (only (like (keyed x d)) details) ledger + v) (omega arith)) (shut (eqb x bank) (t d) _) in
       let r : tally (free bank taken) ledger + tally (only (like q) g) ledger ≡ tally g ledger =
       tally-add (free bank taken) (only (like q) g) ledger
       ∙ tally-each (λ p. free bank taken p + only (like q) g p) g
-      (λ p. parts (eqb (p .bank) bank) (t (p .date)) (not (leb 1 (p .detailed))) (eqb x bank) (eqb d (p .date)) (eqb (p .bank) x) (eqb (p .date) d) (p .transferred)
-      (λ e. rw (eqb-true (p .bank) bank e) (eqb-sym bank x)) (eqb-sym (p .date) d)) ledger in
+      (λ p. parts (eqb (p .key .bank) bank) (t (p .key .date)) (not (leb 1 (p .detailed))) (eqb x bank) (eqb d (p .key .date)) (eqb (p .key .bank) x) (eqb (p .key .date) d) (p .transferred)
+      (λ e. rw (eqb-true (p .key .bank) bank e) (eqb-sym bank x)) (eqb-sym (p .key .date) d)) ledger in
       omega (arith, b .sums g)
 
 -- ---- an accepted message
@@ -204,7 +204,7 @@ module _ {day : ℕ} {ledger : List Position} {sent : List Message} (h : History
       out false a k = refl
 
   today-message : (m : Message) → Admitted day m → (bank : ℕ) → leb 1 (tally (only (like (keyed bank day)) details) (entered (added m) ledger)) ≡ any (isDetails bank day) (sent ++ m ∷ [])
-  unfolding like alike keyed only detailedBy detailsOf sumOf isDetails dateOf
+  unfolding like sameKey keyed only detailedBy detailsOf sumOf isDetails dateOf
   today-message m a bank =
       let k : Position = keyed bank day in
       let e : tally (only (like k) details) (entered (added m) ledger) ≡ tally (only (like k) details) ledger + only (like k) details (added m) =
@@ -235,7 +235,7 @@ module _ {day : ℕ} {ledger : List Position} {sent : List Message} (h : History
   pub history-turn : (next : ℕ) → day < next → ((bank : ℕ) → many (keyed bank next) ledger ≡ 0) → History next (kept ledger) sent
   unfolding bare only free hasDetails any isDetails dateOf
   history-turn next l n = record {
-    held = λ bank t. kept-tally (free bank t) ledger ∙ tally-each (only bare (free bank t)) (free bank t) (λ p. still (eqb (p .bank) bank && t (p .date)) (leb 1 (p .detailed)) (p .transferred)) ledger ∙ h .held bank t;
+    held = λ bank t. kept-tally (free bank t) ledger ∙ tally-each (only bare (free bank t)) (free bank t) (λ p. still (eqb (p .key .bank) bank && t (p .key .date)) (leb 1 (p .detailed)) (p .transferred)) ledger ∙ h .held bank t;
     today = λ bank. rw (kept-tally (only (like (keyed bank next)) details) ledger
         ∙ tally-each (only bare (only (like (keyed bank next)) details)) (only (like (keyed bank next)) (only bare details)) (λ p. swap (leb 1 (p .detailed)) (like (keyed bank next) p) (p .detailed)) ledger
         ∙ many-none (keyed bank next) (only bare details) ledger (n bank)) (sym (unmet bank (h .past)));

@@ -14,33 +14,32 @@ use Rattle.rules.specs.Text.{isSome, over}
 use Rattle.rules.specs.Messages.{Message, read}
 use Rattle.rules.specs.Register.{registerOf}
 use Rattle.rules.specs.Engine.{Engine, Position}
-use Rattle.rules.specs.Calls.{stop, firstOf, holdsOf, noRoom, overLimit, added, inputStops, stateStops, messageStops, messageText, writes, after, afterMessage, messageCall, bothOf, acceptedMessage, refused}
+use Rattle.rules.specs.Calls.{stop, firstOf, holdsOf, noRoom, overLimit, bankOf, added, inputStops, stateStops, messageStops, messageText, writes, after, afterMessage, messageCall, bothOf, acceptedMessage, refused}
 use Rattle.rules.specs.Area.{cardMessage, onAreas, stored, encode, decode, holds, areaSize}
 use Rattle.laws.specs.Parts.{cut}
 use Rattle.laws.specs.Tests.{held-told}
 use Rattle.laws.specs.Writing.{wrote-over, furthest}
 use Rattle.area.specs.Facts.{Passed, passed}
 use Rattle.area.specs.Held.{held}
-use Rattle.engine.specs.Find.{TotalsOf}
+use Rattle.engine.specs.Totals.{TotalsOf}
 use Rattle.engine.specs.Texts.{RegisterOf}
-use Rattle.engine.specs.declared.find.Totals.{Totals}
+use Rattle.engine.specs.declared.held.Totals.{Totals}
 use Rattle.steps.specs.Booking.{Booking as CanBook, booking-clear, bookedWith, booked-after}
 use Rattle.steps.specs.Filing.{reference}
-use Rattle.steps.specs.Places.{position}
 use Rattle.outgoing_number.specs.declared.Numbered.{Numbered}
 use Rattle.details.specs.Message.{messageIn}
 use Rattle.details.specs.Kept.{Room}
-use Rattle.conditions.specs.Books.{Books, amountIf}
+use Rattle.conditions.specs.Books.{Books}
 use Rattle.conditions.specs.Answers.{CheckedAs, Passes, refused-told, refused-some, passed-told}
 use Rattle.conditions.specs.declared.booking.Booking.{Booking}
 use Rattle.conditions.specs.declared.message.Checked.{Checked}
 use Rattle.conditions.specs.declared.message.Checked.the-variants.{Refused}
 use Rattle.verdict.specs.Details.{VerdictsIn, JudgedIn}
-use Rattle.state.specs.Stops.{limitStops}
+use Rattle.state.specs.Stops.{limitStops, addedBy}
 use Rattle.detail_lines.specs.Returned.{ReturnedCount}
 use Rattle.message_text.specs.Message.{AfterOf, amount-part, after-is, WritesOf, Writes, writes-told, TextPut}
-use Rattle.written.specs.Values.{positionOf}
-use Rattle.written.specs.declared.Position as W
+use Rattle.position.specs.Values.{keyValue, positionValue}
+use Rattle.position.specs.declared.Position as P
 use Rattle.card.specs.Answers.{Answers}
 use Rattle.card.specs.Minus.{difference-small}
 use Rattle.card.specs.Stops.{numbered, first-later, first-earlier}
@@ -117,13 +116,13 @@ pub record Booked (s a a' : List ℕ) : Type 0 where
   pub area : a' ≡ encode (afterMessage (decode a) (messageIn s)) ++ drop areaSize a
 
 -- p is the message's position as it leaves it
-pub record Leaves (a s : List ℕ) (p : W.Position) : Type 0 where
-  pub same : positionOf p ≡ after (decode a) (messageIn s)
+pub record Leaves (a s : List ℕ) (p : P.Position) : Type 0 where
+  pub same : positionValue p ≡ after (decode a) (messageIn s)
   pub few : p .transferred < 2 ^ 62
   pub small : p .detailed < 2 ^ 62
 
 -- a message that none of 1 to 15 stops, to be written and booked
-pub record Ready (s a : List ℕ) (b : Booking) (p : W.Position) (parts : ℕ) (amounts places verdicts : List ℕ) : Type 0 where
+pub record Ready (s a : List ℕ) (b : Booking) (p : P.Position) (parts : ℕ) (amounts places verdicts : List ℕ) : Type 0 where
   pub engine : isSome (holds a) ≡ true
   pub books : Books s (messageIn s) b
   pub none-holds : 0 ≡ firstOf (limitStops (decode a) (messageIn s))
@@ -131,7 +130,7 @@ pub record Ready (s a : List ℕ) (b : Booking) (p : W.Position) (parts : ℕ) (
   pub leaves : Leaves a s p
   pub parts-are : Writes (decode a) (messageIn s) parts
 
-pub leaves-told : (a s : List ℕ) (b : Booking) → Books s (messageIn s) b → (x : Totals) → TotalsOf (decode a .positions) (b .bank) (b .date) x → (p : W.Position) → AfterOf b x p → Leaves a s p
+pub leaves-told : (a s : List ℕ) (b : Booking) → Books s (messageIn s) b → (x : Totals) → TotalsOf (decode a .positions) (keyValue (b .key)) x → (p : P.Position) → AfterOf b x p → Leaves a s p
 leaves-told a s b k x y p q = record {
   same = after-is a s b k x y p q;
   few = omega (arith, q .transferred, y .small, amount-part (b .transfer) (b .amount), k .small);
@@ -142,7 +141,7 @@ leaves-told a s b k x y p q = record {
 pub judged-told : (a s t : List ℕ) → RegisterOf a t → {verdicts : List ℕ} {n : ℕ} → VerdictsIn t s verdicts n → VerdictsIn (decode a .register) s verdicts n
 judged-told a s t r v = rw (r .same) at v
 
-module _ (s area : List ℕ) (h : isSome (holds area) ≡ true) (b : Booking) {amounts places : List ℕ} (k : Passes (temporaryOf (decode area)) s b amounts places) (p : W.Position) (q : Leaves area s p) (z : 0 ≡ firstOf (limitStops (decode area) (messageIn s))) where
+module _ (s area : List ℕ) (h : isSome (holds area) ≡ true) (b : Booking) {amounts places : List ℕ} (k : Passes (temporaryOf (decode area)) s b amounts places) (p : P.Position) (q : Leaves area s p) (z : 0 ≡ firstOf (limitStops (decode area) (messageIn s))) where
   pub ready : {verdicts : List ℕ} → VerdictsIn (decode area .register) s verdicts (b .count) → {n : ℕ} → ReturnedCount verdicts (b .count) n → {parts : ℕ} → WritesOf b p n parts → Ready s area b p parts amounts places verdicts
   ready {verdicts} v c w =
       let j : JudgedIn (decode area .register) s amounts places verdicts (b .count) = record { lines-kept = k .lines-kept; amounts-kept = k .amounts-kept; verdicts-kept = v } in record {
@@ -160,12 +159,15 @@ module _ (s area : List ℕ) (h : isSome (holds area) ≡ true) where
 
   module _ (b : Booking) (k : Books s (messageIn s) b) where
     -- the message's own parts
-    module _ {t d : ℕ} (u : t ≡ amountIf (b .transfer) (b .amount)) (v : d ≡ amountIf (not (b .transfer)) (b .amount)) where
-      position-is : position (b .bank) (b .date) t d ≡ added (messageIn s)
-      position-is = rw (k .bank, k .date, u, v, k .transferred, k .detailed) refl
+    module _ {p : P.Position} (u : p ≡ addedBy b) where
+      position-is : positionValue p ≡ added (messageIn s)
+      position-is = rw (u, ← k .key, k .transferred, k .detailed) refl
+
+      bank-is : p .key .bank ≡ bankOf (messageIn s)
+      bank-is = ap (λ (x : Position). x .key .bank) position-is
 
       -- where none of 11 to 15 holds it can be booked
-      pub booking-of : 0 ≡ firstOf (limitStops (decode area) (messageIn s)) → CanBook (decode area) (position (b .bank) (b .date) t d)
+      pub booking-of : 0 ≡ firstOf (limitStops (decode area) (messageIn s)) → CanBook (decode area) (positionValue p)
       unfolding limitStops
       booking-of z =
           let p11 : Passed _ _ = passed 10 _ _ (sym z) in
@@ -177,10 +179,10 @@ module _ (s area : List ℕ) (h : isSome (holds area) ≡ true) where
 
       -- the area with the message
       pub booked-done : {a' : List ℕ} {w : ℕ} → w ≡ decode area .count + writes (decode area) (messageIn s)
-          → a' ≡ encode (bookedWith (decode area) (position (b .bank) (b .date) t d) (reference (b .bank) (cut s (b .reference .start) (b .reference .end))) w) ++ drop areaSize area → Booked s area a'
-      booked-done f c = record { area = c ∙ rw (position-is, k .bank, k .reference, f, booked-after) refl }
+          → a' ≡ encode (bookedWith (decode area) (positionValue p) (reference (p .key .bank) (cut s (b .reference .start) (b .reference .end))) w) ++ drop areaSize area → Booked s area a'
+      booked-done f c = record { area = c ∙ rw (position-is, bank-is, k .reference, f, booked-after) refl }
 
-pub sent-done : {s area : List ℕ} {b : Booking} {p : W.Position} {parts : ℕ} {amounts places verdicts : List ℕ} → Ready s area b p parts amounts places verdicts → {out out' a' : List ℕ} {r : Numbered} {z : ℤ} → length (messageText (decode area) (messageIn s)) ≤ length out
+pub sent-done : {s area : List ℕ} {b : Booking} {p : P.Position} {parts : ℕ} {amounts places verdicts : List ℕ} → Ready s area b p parts amounts places verdicts → {out out' a' : List ℕ} {r : Numbered} {z : ℤ} → length (messageText (decode area) (messageIn s)) ≤ length out
     → TextPut (decode area) (messageIn s) 0 out r out' → z ≡ subℕ (p .transferred) (p .detailed) → Booked s area a' → Sent s area out (r .at) z a' out'
 sent-done {s} {area} {b} {p} m l w e c = record {
   written = wrote-exact (w .wrote) l;

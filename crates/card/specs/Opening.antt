@@ -3,8 +3,8 @@ use mathlib.Core.Path.{_≡_, refl, sym, ap, _∙_}
 use mathlib.Core.Bool.{Bool, true, false, cond, not}
 use mathlib.Core.List.{List, [], _++_}
 use mathlib.Core.Option.{Option, none, some}
-use Prim.Native.Nat.{ℕ, _≤_, _<_}
-use borrow.Author.Tests.{le-leb, lt-leb}
+use Prim.Native.Nat.{ℕ, _≤_}
+use borrow.Author.Tests.{leb-true, not-true, not-false}
 use lib.Dec.{leb, eqb, lit<}
 use lib.IntN.{ℤ, pos}
 use lib.ListN.{length, drop}
@@ -23,29 +23,35 @@ module _ (text : List ℕ) (day : ℕ) (area : List ℕ) where
   unfolding cardOpen openCall onAreas
   refusal k e n = record { number = rw (e, n, n) refl; written = rw (e, n, n) refl; difference = rw (e, n, n) refl; area = rw (e, n, n) refl; output = rw (e, n, n) refl; small = lit< tt }
 
-  pub open-short : length area < areaSize → Answers (cardOpen text day area) 10 0 (pos 0) area []
+  pub open-short : (z : Bool) → z ≡ leb areaSize (length area) → not z ≡ true → Answers (cardOpen text day area) 10 0 (pos 0) area []
   unfolding firstOf openStops
-  open-short h = refusal 10 (rw (lt-leb _ _ h) refl) refl
+  open-short z y h = refusal 10 (rw (← y, not-true z h) refl) refl
 
-  module _ (l : areaSize ≤ length area) (t : Bool) (u : t ≡ exists day) where
+  pub open-long : (z : Bool) → z ≡ leb areaSize (length area) → not z ≡ false → areaSize ≤ length area
+  open-long z y h = leb-true areaSize (length area) (sym y ∙ not-false z h)
+
+  module _ (z : Bool) (y : z ≡ leb areaSize (length area)) (h : not z ≡ false) (t : Bool) (u : t ≡ exists day) where
+    room : leb areaSize (length area) ≡ true
+    room = sym y ∙ not-false z h
+
     pub open-day : t ≡ false → Answers (cardOpen text day area) 3 0 (pos 0) area []
     unfolding firstOf openStops
-    open-day d = refusal 3 (rw (le-leb _ _ l, ← u, d) refl) refl
+    open-day d = refusal 3 (rw (room, ← u, d) refl) refl
 
     module _ (d : t ≡ true) (q : Bool) (v : q ≡ isSome (register text)) where
       pub open-register : q ≡ false → Answers (cardOpen text day area) 9 0 (pos 0) area []
       unfolding firstOf openStops
-      open-register r = refusal 9 (rw (le-leb _ _ l, ← u, d, ← v, r) refl) refl
+      open-register r = refusal 9 (rw (room, ← u, d, ← v, r) refl) refl
 
       pub open-accepted : {area' : List ℕ} → q ≡ true → area' ≡ encode (opened text day) ++ drop areaSize area → Answers (cardOpen text day area) 0 0 (pos 0) area' []
       unfolding firstOf openStops cardOpen openCall onAreas stored over
       open-accepted {area'} r a = record {
-        number = rw (le-leb _ _ l, ← u, d, ← v, r) refl;
-        written = rw (le-leb _ _ l, ← u, d, ← v, r) refl;
-        difference = rw (le-leb _ _ l, ← u, d, ← v, r) refl;
-        area = rw (le-leb _ _ l, ← u, d, ← v, r) a;
-        output = rw (le-leb _ _ l, ← u, d, ← v, r) refl;
+        number = rw (room, ← u, d, ← v, r) refl;
+        written = rw (room, ← u, d, ← v, r) refl;
+        difference = rw (room, ← u, d, ← v, r) refl;
+        area = rw (room, ← u, d, ← v, r) a;
+        output = rw (room, ← u, d, ← v, r) refl;
         small = lit< tt;
       }
 
-pub ruleset opening = (held-told, open-short, open-day, open-register, open-accepted)
+pub ruleset opening = (held-told, open-short, open-long, open-day, open-register, open-accepted)

@@ -2,7 +2,7 @@
 use crate::difference::minus;
 use conditions::Booking;
 use conditions::Checked;
-use written::Position;
+use position::Position;
 ghost use mathlib.Core.Path.{_≡_};
 ghost use mathlib.Core.Bool.{true};
 ghost use Prim.Native.Nat.{_+_, _≤_};
@@ -83,10 +83,7 @@ fn book_in(message: &[u8], area: &mut [u8], b: Booking, count: u32)
         message,
         reference.start as usize,
         reference.end as usize,
-        b.bank,
-        b.date,
-        state::transferred_by(b),
-        state::detailed_by(b),
+        state::added_by(b),
         count,
     );
 }
@@ -187,7 +184,7 @@ fn book_message(
 {
     *written = 0;
     *difference = 0;
-    let x = engine::totals_of(area, b.bank, b.date);
+    let x = engine::totals_of(area, b.key);
     let k = state::state_number(message, area, b, x);
     if k > 0 {
         return k;

@@ -16,7 +16,7 @@ pub extern "C" fn card_open(
 {
     *written = 0;
     *difference = 0;
-    if area.len() < 6144 {
+    if !engine::has_room(area) {
         return 10;
     }
     if calendar::exists(day) {

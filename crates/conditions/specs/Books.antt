@@ -10,13 +10,14 @@ use borrow.Author.Tests.{leb-true}
 use Rattle.rules.specs.Text.{between, isText, every, run, number}
 use Rattle.rules.specs.Lines.{sender}
 use Rattle.rules.specs.Messages.{Message, mt103, mt101, Transfer, Order, senderOf, referenceOf, detailsOf, dateOf, transferredBy, detailedBy, sumOf, firstDate}
-use Rattle.rules.specs.Calls.{misdated, bankOf}
+use Rattle.rules.specs.Calls.{misdated, bankOf, keyOf}
 use Rattle.laws.specs.Parts.{cut, from, from-take, cut-length}
 use Rattle.laws.specs.Tests.{and-left, and-right}
 use Rattle.calendar.specs.Days.{exists-small}
 use Rattle.area.specs.Accepted.{Has}
 use Rattle.forms.specs.Spans.{spanOf, SpanIn}
 use Rattle.forms.specs.declared.rows.Span.{Span}
+use Rattle.position.specs.Values.{keyValue}
 use Rattle.conditions.specs.declared.booking.Booking.{Booking}
 
 -- an amount where the test holds
@@ -43,9 +44,12 @@ abbrev pub KindOf : Message → ℕ → Bool → Type 0
 KindOf m amount true = IsTransfer m amount
 KindOf m amount false = IsOrder m
 
+-- the booking of a message: the sender is the bank of its position's key
+abbrev pub bookingOf : List ℕ → Bool → Span → ℕ → ℕ → ℕ → Booking
+bookingOf s transfer reference date amount count = record { key = record { bank = number (cut s 4 12); date = date }; amount = amount; reference = reference; transfer = transfer; count = count }
+
 pub record Books (s : List ℕ) (m : Message) (b : Booking) : Type 0 where
-  pub bank : b .bank ≡ bankOf m
-  pub date : b .date ≡ dateOf m
+  pub key : keyValue (b .key) ≡ keyOf m
   pub reference : spanOf s (b .reference) ≡ referenceOf m
   pub order : b .reference .start ≤ b .reference .end
   pub room : b .reference .end ≤ length s
@@ -53,7 +57,7 @@ pub record Books (s : List ℕ) (m : Message) (b : Booking) : Type 0 where
   pub text : every isText (spanOf s (b .reference)) ≡ true
   pub transferred : transferredBy m ≡ amountIf (b .transfer) (b .amount)
   pub detailed : detailedBy m ≡ amountIf (not (b .transfer)) (b .amount)
-  pub dated : (day : ℕ) → misdated day m ≡ misdatedBy (b .transfer) (b .date) day
+  pub dated : (day : ℕ) → misdated day m ≡ misdatedBy (b .transfer) (b .key .date) day
   pub small : b .amount ≤ 160000000000000000
   pub kind : KindOf m (b .amount) (b .transfer)
 
@@ -82,11 +86,10 @@ module _ (s : List ℕ) (m : Message) (h : Has s m) where
 -- ---- an MT103, and an MT101
 
 pub transfer-books : (s : List ℕ) (t : Transfer) → Has s (mt103 t) → (p : Span) → SpanIn s p → spanOf s p ≡ referenceOf (mt103 t) → t .amount < 10000000000000000
-    → Books s (mt103 t) (record { transfer = true; bank = number (cut s 4 12); date = t .date; amount = t .amount; reference = p; count = 0 })
+    → Books s (mt103 t) (bookingOf s true p (t .date) (t .amount) 0)
 unfolding dateOf transferredBy detailedBy detailsOf sumOf misdated
 transfer-books s t h p w e l = record {
-  bank = bank-is s (mt103 t) h;
-  date = refl;
+  key = rw (bank-is s (mt103 t) h);
   reference = e;
   order = w .order;
   room = w .room;
@@ -100,11 +103,10 @@ transfer-books s t h p w e l = record {
 }
 
 pub order-books : (s : List ℕ) (o : Order) → Has s (mt101 o) → (p : Span) → SpanIn s p → spanOf s p ≡ referenceOf (mt101 o) → {date sum count : ℕ} → date ≡ firstDate (o .details) → sum ≡ sumOf (o .details) → sum ≤ 160000000000000000
-    → Books s (mt101 o) (record { transfer = false; bank = number (cut s 4 12); date = date; amount = sum; reference = p; count = count })
+    → Books s (mt101 o) (bookingOf s false p date sum count)
 unfolding dateOf transferredBy detailedBy detailsOf misdated
 order-books s o h p w e d f l = record {
-  bank = bank-is s (mt101 o) h;
-  date = d;
+  key = rw (bank-is s (mt101 o) h, d);
   reference = e;
   order = w .order;
   room = w .room;
@@ -117,6 +119,7 @@ order-books s o h p w e d f l = record {
   kind = record { order = o; same = refl };
 }
 
-pub booking-made : {t : Bool} {v w date amount count : ℕ} {p : Span} → v ≡ w
-    → _≡_ {A = Booking} (record { transfer = t; bank = v; date = date; amount = amount; reference = p; count = count }) (record { transfer = t; bank = w; date = date; amount = amount; reference = p; count = count })
-booking-made e = rw e
+-- made of a bank that was read
+pub booking-made : (s : List ℕ) (t : Bool) (p : Span) (v date amount count : ℕ) → v ≡ number (cut s 4 12)
+    → _≡_ {A = Booking} (record { key = record { bank = v; date = date }; amount = amount; reference = p; transfer = t; count = count }) (bookingOf s t p date amount count)
+booking-made s t p v date amount count e = rw e

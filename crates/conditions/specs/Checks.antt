@@ -33,7 +33,7 @@ use Rattle.conditions.specs.Walk.{FieldsIn, heldFrom, alike, named-twice
 use Rattle.conditions.specs.Lowest.{lowestAny}
 use Rattle.conditions.specs.Tally.{Told, All, TallyAt, told-fields}
 use Rattle.conditions.specs.Order.{orderStop, order-stops, order-many, order-few}
-use Rattle.conditions.specs.Books.{date-six, transfer-books, order-books}
+use Rattle.conditions.specs.Books.{date-six, transfer-books, order-books, bookingOf}
 use Rattle.conditions.specs.Answers.{Parts, Judged, CheckedAs}
 use Rattle.conditions.specs.declared.booking.Booking.{Booking}
 use Rattle.conditions.specs.declared.tally.Tally.{Tally}
@@ -81,7 +81,7 @@ module _ (s temporary : List ℕ) (t : T.Transfer) (w : TransferIn s t) where
       transfer-stopped z = record { with = λ amounts places. record { number = transfer-number; parts = omega arith } }
 
       pub transfer-good : k ≡ 0 → (q : Span) → Behind (getD (t .spans) 0 noSpan) 4 q → (b : Booking)
-          → b ≡ record { transfer = true; bank = number (cut s 4 12); date = t .date; amount = t .amount; reference = q; count = 0 } → TransferChecked temporary s (Passed b)
+          → b ≡ bookingOf s true q (t .date) (t .amount) 0 → TransferChecked temporary s (Passed b)
       unfolding referenceOf detailsOf
       transfer-good z q d b e =
           let f : SpanIn s (getD (t .spans) 0 noSpan) = within-at s (t .spans) 0 (w .within) in record {
@@ -172,7 +172,7 @@ module _ (s : List ℕ) (rows : Rows) (w : RowsAt s 23 0 1 rows) where
         order-count z = order-few (t .count) (slashed (drop 4 (spanOf s (getD (rows .spans) 0 noSpan)))) (t .low) (twice equal (heldFrom s fields 0 (t .count))) (sym u ∙ z)
 
         pub order-good : c ≡ 0 → (q : Span) → Behind (getD (rows .spans) 0 noSpan) 4 q → (b : Booking)
-            → b ≡ record { transfer = false; bank = number (cut s 4 12); date = t .date; amount = t .sum; reference = q; count = t .count } → OrderChecked s (Passed b) amounts places
+            → b ≡ bookingOf s false q (t .date) (t .sum) (t .count) → OrderChecked s (Passed b) amounts places
         unfolding referenceOf detailsOf
         order-good z q d b e =
             let few : t .count ≤ 16 = order-count z in

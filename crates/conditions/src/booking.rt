@@ -1,53 +1,48 @@
 // What booking a message needs of it.
 use forms::Span;
+use position::Key;
 ghost use mathlib.Core.Path.{_≡_};
-ghost use mathlib.Core.Bool.{true, false};
 ghost use Prim.Native.Nat.{_≤_, _<_};
 ghost use lib.ListN.{length};
-ghost use Rattle.rules.specs.Text.{number};
-ghost use Rattle.laws.specs.Parts.{cut};
+ghost use Rattle.conditions.specs.Books.{bookingOf};
 
-// A message's bank, centralisation date, amount or sum of amounts, the place of its field 20, and of an MT101 how many details it has.
+// A message as it is booked.
 pub struct Booking {
-    pub bank: u64,
+    // The key of its position.
+    pub key: Key,
+    // The amount of an MT103, the sum of amounts of an MT101.
     pub amount: u64,
-    pub date: u32,
+    // Its field 20.
     pub reference: Span,
+    // Is it an MT103?
     pub transfer: bool,
+    // How many details an MT101 has.
     pub count: u8,
 }
 
-// An MT103's.
-pub fn transfer_booking(s: &[u8], reference: Span, date: u64, amount: u64) -> Booking
-    requires { ⌜ 23 ≤ length (now s) ⌝ }
-    requires { ⌜ date < 1000000 ⌝ }
-    ensures { λ r. ⌜ r ≡ record { transfer = true; bank = number (cut (now (s .entry)) 4 12); date = date; amount = amount; reference = reference; count = 0 } ⌝ }
-{
-    let bank = text::read_be(s, 4, 12);
-    Booking {
-        transfer: true,
-        bank,
-        date: date as u32,
-        amount,
-        reference,
-        count: 0,
-    }
-}
-
-// An MT101's.
-pub fn order_booking(s: &[u8], reference: Span, date: u64, sum: u64, count: u32) -> Booking
+// The booking of a message whose sender stands in its first line.
+pub fn booking_of(
+    s: &[u8],
+    transfer: bool,
+    reference: Span,
+    date: u64,
+    amount: u64,
+    count: u32,
+) -> Booking
     requires { ⌜ 23 ≤ length (now s) ⌝ }
     requires { ⌜ date < 1000000 ⌝ }
     requires { ⌜ count ≤ 16 ⌝ }
-    ensures { λ r. ⌜ r ≡ record { transfer = false; bank = number (cut (now (s .entry)) 4 12); date = date; amount = sum; reference = reference; count = count } ⌝ }
+    ensures { λ r. ⌜ r ≡ bookingOf (now (s .entry)) transfer reference date amount count ⌝ }
 {
     let bank = text::read_be(s, 4, 12);
     Booking {
-        transfer: false,
-        bank,
-        date: date as u32,
-        amount: sum,
+        key: Key {
+            bank,
+            date: date as u32,
+        },
+        amount,
         reference,
+        transfer,
         count: count as u8,
     }
 }

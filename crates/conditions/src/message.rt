@@ -1,7 +1,6 @@
 // The check of a whole message: the number of the lowest condition of 1 to 8 that holds, or what booking it needs.
 use crate::booking::Booking;
-use crate::booking::order_booking;
-use crate::booking::transfer_booking;
+use crate::booking::booking_of;
 use crate::order::order_stop;
 use crate::stops::transfer_stop;
 use crate::tally::tally_details;
@@ -37,7 +36,7 @@ fn check_transfer(s: &[u8], temporary: &[u8]) -> Checked
         let k = transfer_stop(s, temporary, t);
         if k == 0 {
             let reference = behind(t.spans[0], 4);
-            return Checked::Passed(transfer_booking(s, reference, t.date, t.amount));
+            return Checked::Passed(booking_of(s, true, reference, t.date, t.amount, 0));
         }
         return Checked::Refused(k);
     }
@@ -60,7 +59,7 @@ fn check_order(s: &[u8], amounts: &mut [u64; 16], places: &mut [u16; 96]) -> Che
             let k = order_stop(s, line, &fields, t);
             if k == 0 {
                 let reference = behind(line, 4);
-                return Checked::Passed(order_booking(s, reference, t.date, t.sum, t.count));
+                return Checked::Passed(booking_of(s, false, reference, t.date, t.sum, t.count));
             }
             return Checked::Refused(k);
         }

@@ -1,17 +1,17 @@
--- Looked up in an area that holds an engine: what is found among its records is found among the engine's positions and references. Assumes nothing.
+-- Looked up in an area that holds an engine: what is found among its records is found among the engine's references; a position is found at its place. Assumes nothing.
 use mathlib.Core.Path.{_≡_, sym, _∙_}
 use mathlib.Core.Bool.{Bool, true}
 use mathlib.Core.List.{List}
 use Prim.Native.Nat.{ℕ}
 use Rattle.rules.specs.Text.{isSome, any}
 use Rattle.rules.specs.Engine.{Reference}
-use Rattle.rules.specs.Area.{numberAt, decode, holds, positionsPlace}
+use Rattle.rules.specs.Area.{numberAt, decode, holds}
 use Rattle.area.specs.Decoded.{decoded-room, decoded-positions, decoded-references}
-use Rattle.engine.specs.declared.find.Totals.{Totals}
 use Rattle.engine.specs.declared.header.Header.{Header}
 use Rattle.engine.specs.Header.{HeaderOf}
-use Rattle.engine.specs.Positions.{positionsAt, values-are}
-use Rattle.engine.specs.Find.{TotalsOf}
+use Rattle.engine.specs.Positions.{positionsFrom, values-are}
+use Rattle.engine.specs.Records.{many}
+use Rattle.engine.specs.Totals.{found-place, totals-found, totals-missing}
 use Rattle.engine.specs.References.{referencesAt}
 
 module _ (a : List ℕ) (h : isSome (holds a) ≡ true) (x : Header) (n : HeaderOf a x) where
@@ -21,12 +21,12 @@ module _ (a : List ℕ) (h : isSome (holds a) ≡ true) (x : Header) (n : Header
   many-references : numberAt a 8 1 ≡ x .references
   many-references = decoded-references a h ∙ sym (n .references)
 
-  pub totals-held : (bank date : ℕ) (r : Totals) → TotalsOf (positionsAt a positionsPlace (x .positions)) bank date r → TotalsOf (decode a .positions) bank date r
+  pub positions-are : decode a .positions ≡ positionsFrom a 0 (x .positions)
   unfolding decode
-  totals-held bank date r t = rw (many-positions, values-are) t
+  positions-are = rw (many-positions, values-are)
 
   pub used-held : (p : Reference → Bool) (r : Bool) → r ≡ any p (referencesAt a 16 (x .references)) → r ≡ any p (decode a .references)
   unfolding decode
   used-held p r e = rw (many-references, values-are) e
 
-pub ruleset looking = (decoded-room, totals-held, used-held)
+pub ruleset looking = (decoded-room, many, found-place, totals-found, totals-missing, used-held)

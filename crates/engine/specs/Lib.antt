@@ -1,6 +1,8 @@
+pub mod Header
 pub mod Positions
-pub mod Find
+pub mod Places
+pub mod Records
+pub mod Totals
 pub mod References
 pub mod Held
-pub mod Header
 pub mod Texts

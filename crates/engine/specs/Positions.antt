@@ -1,24 +1,22 @@
 -- The records of an area, one behind the other, each read off its 24 bytes; its positions. Assumes nothing.
 use mathlib.Core.Path.{_≡_, refl, sym, ap, _∙_}
 use mathlib.Core.List.{List, [], _∷_, map}
-use Prim.Native.Nat.{ℕ, zero, suc, _+_, _-_, _≤_, _<_}
+use Prim.Native.Nat.{ℕ, zero, suc, _+_, _-_, _*_, _≤_, _<_}
 use native.Mathlib.Nat.{add-zero}
 use native.Mathlib.Omega.{arith}
 use lib.Dec.{lit≤}
-use lib.ListN.{take, drop}
-use Rattle.rules.specs.Text.{number}
+use lib.ListN.{drop}
+use lib.Seq.{drop-drop}
 use Rattle.rules.specs.Engine.{Position}
-use Rattle.rules.specs.Area.{numberAt, positionIn, records}
-use Rattle.laws.specs.Parts.{cut, from, cut-drop, cut-take, from-take, from-drop}
-use Rattle.area.specs.Records.{cut-is}
+use Rattle.rules.specs.Area.{keyIn, positionIn, records, positionsPlace, dateOffset, transferredOffset, detailedOffset}
+use Rattle.area.specs.Records.{number-within}
+use Rattle.area.specs.Tests.{valueAt, keyAt, positionAt}
 use Rattle.text.specs.Numbers.{NumberAt}
-use Rattle.written.specs.Values.{positionOf}
-use Rattle.written.specs.declared.Position as W
+use Rattle.position.specs.Values.{keyValue, positionValue}
+use Rattle.position.specs.declared.Key as K
+use Rattle.position.specs.declared.Position as P
 
--- what a record of 24 bytes at a place says, and k of them from the place p on
-unfoldable pub valueAt : {A : Type 0} → (List ℕ → A) → List ℕ → ℕ → A
-valueAt reads area p = reads (cut area p (p + 24))
-
+-- what k records from the place p on say
 unfoldable pub valuesAt : {A : Type 0} → (List ℕ → A) → List ℕ → ℕ → ℕ → List A
 valuesAt reads area p zero = []
 valuesAt reads area p (suc k) = valueAt reads area p ∷ valuesAt reads area (p + 24) k
@@ -36,35 +34,48 @@ module _ {A : Type 0} (reads : List ℕ → A) (area : List ℕ) (p : ℕ) where
 
 -- as the layout says them
 pub values-are : {A : Type 0} (reads : List ℕ → A) (area : List ℕ) (p k : ℕ) → map reads (records k (drop p area)) ≡ valuesAt reads area p k
-unfolding valuesAt valueAt records from
+unfolding valuesAt valueAt records
 values-are reads area p zero = refl
-values-are reads area p (suc k) = rw (from-take area p 24, from-drop area p 24, ← values-are reads area (p + 24) k) refl
+values-are reads area p (suc k) = rw (drop-drop 24 p area, values-are reads area (p + 24) k) refl
 
--- the position at a place, and those of an area
-abbrev pub positionAt : List ℕ → ℕ → Position
-positionAt area p = valueAt positionIn area p
+-- ---- positions by their number
 
-abbrev pub positionsAt : List ℕ → ℕ → ℕ → List Position
-positionsAt area p k = valuesAt positionIn area p k
+-- the i-th position of an area, and k of them from it on
+abbrev pub nthPosition : List ℕ → ℕ → Position
+nthPosition area i = positionAt area (positionsPlace + 24 * i)
 
--- ---- the position that was read
+abbrev pub positionsFrom : List ℕ → ℕ → ℕ → List Position
+positionsFrom area i k = valuesAt positionIn area (positionsPlace + 24 * i) k
+
+module _ (area : List ℕ) (i k : ℕ) where
+  pub positions-next : 0 < k → positionsFrom area i k ≡ nthPosition area i ∷ positionsFrom area (i + 1) (k - 1)
+  positions-next h = let e : positionsPlace + 24 * (i + 1) ≡ positionsPlace + 24 * i + 24 = omega arith in rw e (values-next positionIn area (positionsPlace + 24 * i) k h)
+
+  pub positions-none : k ≤ 0 → positionsFrom area i k ≡ []
+  positions-none h = values-none positionIn area (positionsPlace + 24 * i) k h
+
+-- ---- a key and a position that were read
 
 -- q is the position at p, its totals of six bytes
-pub record PositionAt (area : List ℕ) (p : ℕ) (q : W.Position) : Type 0 where
-  pub value : positionOf q ≡ positionAt area p
+pub record PositionAt (area : List ℕ) (p : ℕ) (q : P.Position) : Type 0 where
+  pub value : positionValue q ≡ positionAt area p
   pub transferred : q .transferred < 281474976710656
   pub detailed : q .detailed < 281474976710656
 
 module _ (area : List ℕ) (p : ℕ) where
-  -- a number of the record
-  pub in-record : (i w : ℕ) {r : ℕ} → i + w ≤ 24 → NumberAt area (p + i) w r → r ≡ numberAt (cut area p (p + 24)) i w
-  in-record i w h n = n .value ∙ sym (ap number (ap (take w) (cut-drop area p (p + 24) i) ∙ cut-take area (p + i) (p + 24) w (omega arith) ∙ cut-is area (p + i) w))
+  pub key-read : {bank date : ℕ} → NumberAt area p 8 bank → NumberAt area (p + dateOffset) 3 date → keyValue (record { bank = bank; date = date }) ≡ keyAt area p
+  unfolding valueAt keyIn
+  key-read b d =
+      rw (number-within area p 24 dateOffset 3 (lit≤ tt), b .value, d .value, rw add-zero at (number-within area p 24 0 8 (lit≤ tt)))
 
-  pub position-read : {bank date transferred detailed : ℕ} → NumberAt area p 8 bank → NumberAt area (p + 8) 3 date → NumberAt area (p + 11) 6 transferred → NumberAt area (p + 17) 6 detailed
-      → PositionAt area p (record { bank = bank; date = date; transferred = transferred; detailed = detailed })
+  pub position-read : {k : K.Key} {transferred detailed : ℕ} → keyValue k ≡ keyAt area p → NumberAt area (p + transferredOffset) 6 transferred → NumberAt area (p + detailedOffset) 6 detailed
+      → PositionAt area p (record { key = k; transferred = transferred; detailed = detailed })
   unfolding valueAt positionIn
-  position-read b d t e = record {
-    value = rw (in-record 0 8 (lit≤ tt) (rw (← add-zero p) at b), in-record 8 3 (lit≤ tt) d, in-record 11 6 (lit≤ tt) t, in-record 17 6 (lit≤ tt) e);
+  position-read k t d = record {
+    value = rw (number-within area p 24 transferredOffset 6 (lit≤ tt), number-within area p 24 detailedOffset 6 (lit≤ tt), k, t .value, d .value);
     transferred = t .small;
-    detailed = e .small;
+    detailed = d .small;
   }
+
+pub at-place : {area : List ℕ} {p q : ℕ} {r : P.Position} → p ≡ q → PositionAt area p r → PositionAt area q r
+at-place e a = rw (← e) a

@@ -14,8 +14,10 @@ use Rattle.rules.specs.Area.{untilZero, referenceIn, positionsPlace}
 use Rattle.laws.specs.Parts.{cut, cut-step, cut-done, cut-length, cut-drop, cut-take}
 use Rattle.laws.specs.Tests.{cond-left, cond-right, and-left}
 use Rattle.area.specs.Layout.{text-byte}
+use Rattle.area.specs.Records.{cut-is, number-within}
+use Rattle.area.specs.Tests.{valueAt}
 use Rattle.text.specs.Numbers.{NumberAt}
-use Rattle.engine.specs.Positions.{valueAt, valuesAt, values-next, values-none, in-record}
+use Rattle.engine.specs.Positions.{valuesAt, values-next, values-none}
 
 -- a bank's reference
 abbrev pub ofBank : ℕ → List ℕ → Reference
@@ -85,11 +87,11 @@ module _ (area : List ℕ) (p bank : ℕ) (cs : List ℕ) where
   unfolding valueAt referenceIn
   text-is =
       let e : p + 8 + 16 ≡ p + 24 = omega arith in
-      ap untilZero (ap (take 16) (cut-drop area p (p + 24) 8) ∙ cut-take area (p + 8) (p + 24) 16 (omega arith))
+      ap untilZero (ap (λ (r : List ℕ). take 16 (drop 8 r)) (sym (cut-is area p 24)) ∙ ap (take 16) (cut-drop area p (p + 24) 8) ∙ cut-take area (p + 8) (p + 24) 16 (omega arith))
 
   sender-is : (v : ℕ) → NumberAt area p 8 v → referenceAt area p .sender ≡ v
   unfolding valueAt referenceIn
-  sender-is v n = sym (in-record area p 0 8 (lit≤ tt) (rw (← add-zero p) at n))
+  sender-is v n = rw add-zero at (number-within area p 24 0 8 (lit≤ tt)) ∙ sym (n .value)
 
   module _ (t : Bool) (u : t ≡ equal cs (untilZero (cut area (p + 8) (p + 8 + 16)))) where
     pub reference-other : t ≡ false → false ≡ sameReference (ofBank bank cs) (referenceAt area p)

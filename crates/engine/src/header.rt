@@ -3,9 +3,10 @@ use text::number_at;
 ghost use mathlib.Core.Path.{_≡_};
 ghost use mathlib.Core.Bool.{true};
 ghost use Prim.Native.Nat.{_≤_};
+ghost use lib.Dec.{leb};
 ghost use lib.ListN.{length};
 ghost use Rattle.rules.specs.Text.{isSome};
-ghost use Rattle.rules.specs.Area.{holds};
+ghost use Rattle.rules.specs.Area.{holds, areaSize};
 ghost use Rattle.engine.specs.Header.{HeaderAt, HeaderOf};
 
 // The day, the outgoing count, how many positions and references there are, and how long the register's text is.
@@ -15,6 +16,13 @@ pub struct Header {
     pub positions: u32,
     pub references: u32,
     pub register: u32,
+}
+
+// Has an area room for an engine?
+pub fn has_room(area: &[u8]) -> bool
+    ensures { λ r. ⌜ r ≡ leb areaSize (length (now (area .entry))) ⌝ }
+{
+    6144 <= area.len()
 }
 
 // The header of any bytes that have room for one.

@@ -1,8 +1,10 @@
 // An area that holds an engine: what is looked up in it, by the numbers of its header.
-use crate::find::Totals;
-use crate::find::find_position;
 use crate::header::header_of;
+use crate::places::is_at;
+use crate::places::place_of;
+use crate::positions::nth_position;
 use crate::reference::reference_used;
+use position::Key;
 ghost use mathlib.Core.Path.{_≡_};
 ghost use mathlib.Core.Bool.{true};
 ghost use Prim.Native.Nat.{_-_, _≤_};
@@ -11,16 +13,39 @@ ghost use Rattle.rules.specs.Text.{isText, every, isSome, any};
 ghost use Rattle.rules.specs.Engine.{sameReference};
 ghost use Rattle.rules.specs.Area.{decode, holds};
 ghost use Rattle.laws.specs.Parts.{cut};
-ghost use Rattle.engine.specs.Find.{TotalsOf};
+ghost use Rattle.position.specs.Values.{keyValue};
+ghost use Rattle.engine.specs.Totals.{TotalsOf};
 ghost use Rattle.engine.specs.References.{ofBank};
 
-// The totals of a bank's position of a date.
-pub fn totals_of(area: &[u8], bank: u64, date: u32) -> Totals
+// The totals of a position; a missing one has 0 and 0.
+pub struct Totals {
+    // Is the position open?
+    pub is_open: bool,
+    pub transferred: u64,
+    pub detailed: u64,
+}
+
+// The totals of the position of a key.
+pub fn totals_of(area: &[u8], k: Key) -> Totals
     requires { ⌜ isSome (holds (now area)) ≡ true ⌝ }
-    ensures { λ r. ⌜ TotalsOf (decode (now (area .entry)) .positions) bank date r ⌝ }
+    ensures { λ r. ⌜ TotalsOf (decode (now (area .entry)) .positions) (keyValue k) r ⌝ }
 {
     let h = header_of(area);
-    find_position(area, h.positions, bank, date)
+    let n = h.positions;
+    let i = place_of(area, n, k);
+    if is_at(area, n, i, k) {
+        let p = nth_position(area, i);
+        return Totals {
+            is_open: true,
+            transferred: p.transferred,
+            detailed: p.detailed,
+        };
+    }
+    Totals {
+        is_open: false,
+        transferred: 0,
+        detailed: 0,
+    }
 }
 
 // Was this bank's reference, the bytes of s from a up to b, accepted today?

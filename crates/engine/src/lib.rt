@@ -1,19 +1,23 @@
 // The engine read off its area.
-mod find;
 mod header;
 mod held;
+mod places;
 mod positions;
 mod reference;
 mod texts;
 
-pub use find::Totals;
-pub use find::find_position;
 pub use header::Header;
+pub use header::has_room;
 pub use header::header_at;
 pub use header::header_of;
+pub use held::Totals;
 pub use held::is_used;
 pub use held::totals_of;
+pub use places::is_at;
+pub use places::place_of;
+pub use positions::key_at;
+pub use positions::nth_position;
 pub use positions::position_at;
-pub use reference::reference_used;
+pub use positions::position_place;
 pub use texts::register_text;
 pub use texts::temporary;

@@ -5,22 +5,12 @@ ghost use mathlib.Core.Bool.{_&&_};
 ghost use Prim.Native.Nat.{_+_, _-_, _*_, _≤_};
 ghost use lib.Dec.{eqb};
 ghost use lib.ListN.{length};
-ghost use Rattle.rules.specs.Text.{every, equal, number};
+ghost use Rattle.rules.specs.Text.{every, equal};
 ghost use Rattle.rules.specs.Area.{mark, areaSize};
 ghost use Rattle.laws.specs.Parts.{cut};
 ghost use Rattle.laws.specs.Places.{Passed};
 ghost use Rattle.area.specs.Tests.{isZero, countsTest, headerTest};
 ghost use Rattle.engine.specs.Header.{HeaderAt};
-
-// A number of at most 4 bytes.
-pub fn small_at(s: &[u8], a: usize, b: usize) -> u32
-    requires { ⌜ a ≤ b ⌝ }
-    requires { ⌜ b ≤ length (now s) ⌝ }
-    requires { ⌜ b - a ≤ 4 ⌝ }
-    ensures { λ r. ⌜ r ≡ number (cut (now (s .entry)) a b) ⌝ }
-{
-    text::read_be(s, a, b) as u32
-}
 
 // How many of the n bytes from a are zero, up to the first that is not.
 pub fn zeros_at(s: &[u8], a: usize, n: u32) -> u32

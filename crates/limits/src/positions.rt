@@ -1,14 +1,16 @@
 // The section of positions: each within the limits, in order, and zeros behind them.
-use crate::header::small_at;
 use crate::header::zeros_hold;
+use engine::key_at;
+use engine::position_at;
+use position::Position;
+use position::is_before;
 ghost use mathlib.Core.Path.{_≡_};
 ghost use Prim.Native.Nat.{_+_, _-_, _*_, _≤_};
 ghost use lib.ListN.{length};
 ghost use Rattle.rules.specs.Area.{positionsPlace, textsPlace};
-ghost use Rattle.rules.specs.Text.{number};
-ghost use Rattle.laws.specs.Parts.{cut};
 ghost use Rattle.area.specs.Walk.{walk, always};
-ghost use Rattle.area.specs.Tests.{dateTest, totalTest, positionTest, earlierBy, orderTest, positionsTest};
+ghost use Rattle.area.specs.Tests.{dateTest, valuesTest, positionTest, orderTest, positionsTest};
+ghost use Rattle.position.specs.Values.{positionValue};
 
 // Does the date exist, and is it no later than the day?
 fn date_fits(date: u32, day: u32) -> bool
@@ -20,25 +22,20 @@ fn date_fits(date: u32, day: u32) -> bool
     date <= day
 }
 
-// Does the date of the position there pass?
-fn dated(area: &[u8], p: usize, day: u32) -> bool
-    requires { ⌜ p + 24 ≤ length (now area) ⌝ }
-    ensures { λ r. ⌜ r ≡ dateTest day (number (cut (now (area .entry)) (p + 8) (p + 11))) ⌝ }
+// Are the date and both totals within the limits?
+fn values_fit(q: Position, day: u32) -> bool
+    ensures { λ r. ⌜ r ≡ valuesTest day (positionValue q) ⌝ }
 {
-    date_fits(small_at(area, p + 8, p + 11), day)
+    if !date_fits(q.key.date, day) {
+        return false;
+    }
+    if q.transferred > 99999999999999 {
+        return false;
+    }
+    q.detailed <= 99999999999999
 }
 
-// Is the total from a up to b at most 99,999,999,999,999?
-fn total_fits(area: &[u8], a: usize, b: usize) -> bool
-    requires { ⌜ a ≤ b ⌝ }
-    requires { ⌜ b ≤ length (now area) ⌝ }
-    requires { ⌜ b - a ≤ 8 ⌝ }
-    ensures { λ r. ⌜ r ≡ totalTest (now (area .entry)) a b ⌝ }
-{
-    text::read_be(area, a, b) <= 99999999999999
-}
-
-// Is the position there within the limits, and its unused byte zero?
+// Is the position there within the limits, and its byte for a block zero?
 fn position_fits(area: &[u8], p: usize, day: u32) -> bool
     requires { ⌜ p + 24 ≤ length (now area) ⌝ }
     ensures { λ r. ⌜ r ≡ positionTest day (now (area .entry)) p ⌝ }
@@ -46,16 +43,10 @@ fn position_fits(area: &[u8], p: usize, day: u32) -> bool
     if !account::is_bic(area, p) {
         return false;
     }
-    if !dated(area, p, day) {
+    if !zeros_hold(area, p + 11, p + 12) {
         return false;
     }
-    if !total_fits(area, p + 11, p + 17) {
-        return false;
-    }
-    if !total_fits(area, p + 17, p + 23) {
-        return false;
-    }
-    zeros_hold(area, p + 23, p + 24)
+    values_fit(position_at(area, p), day)
 }
 
 // Is each of the n positions within the limits?
@@ -77,34 +68,12 @@ fn positions_fit(area: &[u8], n: u32, day: u32) -> bool
     true
 }
 
-// Do bank and date stand before another bank and date?
-pub fn comes_before(bank: u64, date: u32, other: u64, later: u32) -> bool
-    ensures { λ r. ⌜ r ≡ earlierBy bank date other later ⌝ }
-{
-    if bank < other {
-        return true;
-    }
-    if other < bank {
-        return false;
-    }
-    if date < later {
-        return true;
-    }
-    false
-}
-
 // Does the position there stand before the next one?
 fn in_order(area: &[u8], p: usize) -> bool
     requires { ⌜ p + 24 + 24 ≤ length (now area) ⌝ }
     ensures { λ r. ⌜ r ≡ orderTest (now (area .entry)) p ⌝ }
 {
-    let q = p + 24;
-    comes_before(
-        text::read_be(area, p, p + 8),
-        small_at(area, p + 8, p + 11),
-        text::read_be(area, q, q + 8),
-        small_at(area, q + 8, q + 11),
-    )
+    is_before(key_at(area, p), key_at(area, p + 24))
 }
 
 // One less, and 0 where there is none.

@@ -14,17 +14,17 @@ use Rattle.rules.specs.Written.{mt199s, partsOf, verdicts}
 use Rattle.rules.specs.Calls.{bankOf, judged, after, returnedOf, postings, messageText, writes}
 use Rattle.rules.specs.Area.{decode, holds}
 use Rattle.laws.specs.Writing.{Wrote, wrote-then}
-use Rattle.engine.specs.Find.{TotalsOf}
+use Rattle.engine.specs.Totals.{TotalsOf}
 use Rattle.engine.specs.Header.{HeaderOf}
 use Rattle.engine.specs.Texts.{RegisterOf}
 use Rattle.engine.specs.declared.header.Header.{Header}
-use Rattle.engine.specs.declared.find.Totals.{Totals}
+use Rattle.engine.specs.declared.held.Totals.{Totals}
 use Rattle.details.specs.Message.{messageIn, detailsIn}
 use Rattle.conditions.specs.Books.{Books, amountIf}
 use Rattle.conditions.specs.declared.booking.Booking.{Booking}
 use Rattle.verdict.specs.Details.{JudgedIn}
-use Rattle.written.specs.Values.{positionOf}
-use Rattle.written.specs.declared.Position as W
+use Rattle.position.specs.Values.{keyValue, positionValue}
+use Rattle.position.specs.declared.Position as P
 use Rattle.detail_lines.specs.Returned.{returned-all, ReturnedCount, count-paper}
 use Rattle.outgoing_number.specs.declared.Numbered.{Numbered}
 use Rattle.message_text.specs.Parts.{PartsOf, PartsPut}
@@ -32,9 +32,8 @@ use Rattle.message_text.specs.Postings.{bookFor, transfer-is, order-is}
 
 -- ---- the position as the message leaves it
 
-pub record AfterOf (b : Booking) (x : Totals) (p : W.Position) : Type 0 where
-  pub bank : p .bank ≡ b .bank
-  pub date : p .date ≡ b .date
+pub record AfterOf (b : Booking) (x : Totals) (p : P.Position) : Type 0 where
+  pub key : p .key ≡ b .key
   pub transferred : p .transferred ≡ x .transferred + amountIf (b .transfer) (b .amount)
   pub detailed : p .detailed ≡ x .detailed + amountIf (not (b .transfer)) (b .amount)
 
@@ -52,22 +51,22 @@ verdictFollows false detailed = true
 pub transfer-follows : (t : Bool) (detailed : ℕ) → t ≡ true → leb 1 detailed ≡ verdictFollows t detailed
 transfer-follows t detailed e = rw e
 
-follows-is : (s : List ℕ) (b : Booking) → Books s (messageIn s) b → (p : W.Position) → judged (messageIn s) (positionOf p) ≡ verdictFollows (b .transfer) (p .detailed)
+follows-is : (s : List ℕ) (b : Booking) → Books s (messageIn s) b → (p : P.Position) → judged (messageIn s) (positionValue p) ≡ verdictFollows (b .transfer) (p .detailed)
 unfolding judged hasDetails
 follows-is s b k p = go (b .transfer) refl
   where
-    go : (t : Bool) → b .transfer ≡ t → judged (messageIn s) (positionOf p) ≡ verdictFollows t (p .detailed)
+    go : (t : Bool) → b .transfer ≡ t → judged (messageIn s) (positionValue p) ≡ verdictFollows t (p .detailed)
     go true e = rw (transfer-is s b k e .same)
     go false e = rw (order-is s b k e .same)
 
 -- ---- how many messages are written
 
 -- r of them, so many details being returned
-pub record WritesOf (b : Booking) (p : W.Position) (returned r : ℕ) : Type 0 where
+pub record WritesOf (b : Booking) (p : P.Position) (returned r : ℕ) : Type 0 where
   pub value : r ≡ cond (verdictFollows (b .transfer) (p .detailed)) (partsOf returned) 0
   pub few : r ≤ 4096
 
-module _ (b : Booking) (p : W.Position) (returned : ℕ) (v : Bool) (f : v ≡ verdictFollows (b .transfer) (p .detailed)) where
+module _ (b : Booking) (p : P.Position) (returned : ℕ) (v : Bool) (f : v ≡ verdictFollows (b .transfer) (p .detailed)) where
   pub writes-parts : v ≡ true → {r : ℕ} → PartsOf returned r → WritesOf b p returned r
   writes-parts e u = record { value = u .value ∙ rw (← f, e); few = u .few }
 
@@ -79,7 +78,7 @@ pub record Writes (e : Engine) (m : Message) (r : ℕ) : Type 0 where
   pub value : r ≡ writes e m
   pub few : r ≤ 4096
 
-module _ (a s : List ℕ) (b : Booking) (k : Books s (messageIn s) b) (p : W.Position) (q : positionOf p ≡ after (decode a) (messageIn s)) where
+module _ (a s : List ℕ) (b : Booking) (k : Books s (messageIn s) b) (p : P.Position) (q : positionValue p ≡ after (decode a) (messageIn s)) where
   judged-is : judged (messageIn s) (after (decode a) (messageIn s)) ≡ verdictFollows (b .transfer) (p .detailed)
   judged-is = rw (← q) (follows-is s b k p)
 
@@ -91,9 +90,9 @@ module _ (a s : List ℕ) (b : Booking) (k : Books s (messageIn s) b) (p : W.Pos
 
 -- ---- the position as the message leaves it is the paper's
 
-pub after-is : (a s : List ℕ) (b : Booking) → Books s (messageIn s) b → (x : Totals) → TotalsOf (decode a .positions) (b .bank) (b .date) x → (p : W.Position) → AfterOf b x p → positionOf p ≡ after (decode a) (messageIn s)
+pub after-is : (a s : List ℕ) (b : Booking) → Books s (messageIn s) b → (x : Totals) → TotalsOf (decode a .positions) (keyValue (b .key)) x → (p : P.Position) → AfterOf b x p → positionValue p ≡ after (decode a) (messageIn s)
 unfolding after
-after-is a s b k x y p q = rw (q .bank, q .date, q .transferred, q .detailed, y .transferred, y .detailed, ← k .transferred, ← k .detailed, k .bank, k .date)
+after-is a s b k x y p q = rw (q .key, q .transferred, q .detailed, y .transferred, y .detailed, ← k .transferred, ← k .detailed, k .key)
 
 -- ---- the text
 
@@ -122,13 +121,13 @@ module _ (a s text : List ℕ) (g : RegisterOf a text) {amounts places verdicts 
   pub judged-here : JudgedIn text s amounts places verdicts n
   judged-here = rw (g .same) j
 
-  module _ (h : Header) (d : HeaderOf a h) (b : Booking) (k : Books s (messageIn s) b) (p : W.Position) (q : positionOf p ≡ after (decode a) (messageIn s)) (parts : ℕ) (w : Writes (decode a) (messageIn s) parts) {at m : ℕ} {r : Numbered} {out out₁ out₂ : List ℕ} where
-    pub message-wrote : Wrote (postings (registerOf text) (bookFor (h .day) text (positionOf p)) (messageIn s)) at out m out₁
-        → PartsPut (h .day) (h .count) (positionOf p) parts s verdicts n m out₁ r out₂ → TextPut (decode a) (messageIn s) at out r out₂
+  module _ (h : Header) (d : HeaderOf a h) (b : Booking) (k : Books s (messageIn s) b) (p : P.Position) (q : positionValue p ≡ after (decode a) (messageIn s)) (parts : ℕ) (w : Writes (decode a) (messageIn s) parts) {at m : ℕ} {r : Numbered} {out out₁ out₂ : List ℕ} where
+    pub message-wrote : Wrote (postings (registerOf text) (bookFor (h .day) text (positionValue p)) (messageIn s)) at out m out₁
+        → PartsPut (h .day) (h .count) (positionValue p) parts s verdicts n m out₁ r out₂ → TextPut (decode a) (messageIn s) at out r out₂
     unfolding after
     message-wrote u v =
-        let bank : positionOf p .bank ≡ bankOf (messageIn s) = ap (λ (x : Position). x .bank) q in
-        let date : positionOf p .date ≡ dateOf (messageIn s) = ap (λ (x : Position). x .date) q in
+        let bank : positionValue p .key .bank ≡ bankOf (messageIn s) = ap (λ (x : Position). x .key .bank) q in
+        let date : positionValue p .key .date ≡ dateOf (messageIn s) = ap (λ (x : Position). x .key .date) q in
         record {
           wrote =
               rw (text-is (decode a) (messageIn s))

@@ -7,9 +7,9 @@ use engine::Totals;
 use engine::header_of;
 use engine::register_text;
 use outgoing_number::Numbered;
+use position::Position;
 use state::detailed_by;
 use state::transferred_by;
-use written::Position;
 ghost use mathlib.Core.Path.{_≡_};
 ghost use mathlib.Core.Bool.{true};
 ghost use Prim.Native.Nat.{_≤_, _<_};
@@ -19,7 +19,7 @@ ghost use Rattle.rules.specs.Area.{decode, holds};
 ghost use Rattle.details.specs.Message.{messageIn};
 ghost use Rattle.conditions.specs.Books.{Books};
 ghost use Rattle.verdict.specs.Details.{JudgedIn};
-ghost use Rattle.written.specs.Values.{positionOf};
+ghost use Rattle.position.specs.Values.{positionValue};
 ghost use Rattle.message_text.specs.Message.{AfterOf, WritesOf, Writes, TextPut, verdictFollows};
 
 // The position as the message leaves it, from its totals before.
@@ -29,9 +29,9 @@ pub fn position_after(b: Booking, x: Totals) -> Position
     requires { ⌜ b .amount ≤ 160000000000000000 ⌝ }
     ensures { λ r. ⌜ AfterOf b x r ⌝ }
 {
+    let key = b.key;
     Position {
-        bank: b.bank,
-        date: b.date,
+        key,
         transferred: x.transferred + transferred_by(b),
         detailed: x.detailed + detailed_by(b),
     }
@@ -74,7 +74,7 @@ pub fn put_message_text(
     requires { ⌜ isSome (holds (now area)) ≡ true ⌝ }
     requires { ⌜ Books (now s) (messageIn (now s)) b ⌝ }
     requires { ⌜ JudgedIn (decode (now area) .register) (now s) (now amounts) (now places) (now verdicts) (b .count) ⌝ }
-    requires { ⌜ positionOf p ≡ after (decode (now area)) (messageIn (now s)) ⌝ }
+    requires { ⌜ positionValue p ≡ after (decode (now area)) (messageIn (now s)) ⌝ }
     requires { ⌜ Writes (decode (now area)) (messageIn (now s)) parts ⌝ }
     ensures { λ r. ⌜ TextPut (decode (now (area .entry))) (messageIn (now (s .entry))) at (now (out .entry)) r (now (out .exit)) ⌝ }
 {

@@ -1,8 +1,8 @@
 // The posting lines of a message.
 use conditions::Booking;
 use detail_lines::put_detail_postings;
+use position::Position;
 use written::Book;
-use written::Position;
 use written::put_from_bank;
 ghost use mathlib.Core.Path.{_≡_};
 ghost use mathlib.Core.Bool.{true};
@@ -12,7 +12,7 @@ ghost use Rattle.rules.specs.Text.{isSome};
 ghost use Rattle.rules.specs.Register.{register, registerOf};
 ghost use Rattle.rules.specs.Calls.{postings};
 ghost use Rattle.laws.specs.Writing.{Wrote};
-ghost use Rattle.written.specs.Values.{positionOf};
+ghost use Rattle.position.specs.Values.{positionValue};
 ghost use Rattle.details.specs.Message.{messageIn};
 ghost use Rattle.conditions.specs.Books.{Books};
 ghost use Rattle.verdict.specs.Details.{JudgedIn};
@@ -35,12 +35,12 @@ pub fn put_postings(
     requires { ⌜ 22 ≤ length (now text) ⌝ }
     requires { ⌜ Books (now s) (messageIn (now s)) b ⌝ }
     requires { ⌜ JudgedIn (now text) (now s) (now amounts) (now places) (now verdicts) (b .count) ⌝ }
-    ensures { λ r. ⌜ Wrote (postings (registerOf (now (text .entry))) (bookFor day (now (text .entry)) (positionOf p)) (messageIn (now (s .entry)))) at (now (out .entry)) r (now (out .exit)) ⌝ }
+    ensures { λ r. ⌜ Wrote (postings (registerOf (now (text .entry))) (bookFor day (now (text .entry)) (positionValue p)) (messageIn (now (s .entry)))) at (now (out .entry)) r (now (out .exit)) ⌝ }
 {
     let book = Book {
         day,
-        bank: p.bank,
-        date: p.date,
+        bank: p.key.bank,
+        date: p.key.date,
     };
     if b.transfer {
         return put_from_bank(out, at, book, &text[0..22], b.amount);

@@ -4,12 +4,12 @@ use outgoing_number::Numbered;
 use outgoing_number::Outgoing;
 use outgoing_number::Reference;
 use outgoing_number::issue;
-use written::Position;
+use position::Position;
 use written::put_closed79;
 use written::put_opened199;
 use written::put_position79;
 ghost use Prim.Native.Nat.{_≤_};
-ghost use Rattle.written.specs.Values.{positionOf};
+ghost use Rattle.position.specs.Values.{positionValue};
 ghost use Rattle.message_text.specs.Parts.{PartsOf, FirstOf, PartDue, PartPut, PartsDue, PartsPut};
 
 // How many parts there are: 14 returned details to each, and one part where there are none.
@@ -55,12 +55,12 @@ fn put_part(
     n: u32,
 ) -> Parting
     requires { ⌜ PartDue r parts (now s) (now places) n t ⌝ }
-    ensures { λ x. ⌜ PartPut r (positionOf p) parts (now (s .entry)) (now (verdicts .entry)) n t (now (out .entry)) x (now (out .exit)) ⌝ }
+    ensures { λ x. ⌜ PartPut r (positionValue p) parts (now (s .entry)) (now (verdicts .entry)) n t (now (out .entry)) x (now (out .exit)) ⌝ }
 {
     let part = parts - t.left + 1;
     let first = first_number(part, r, t.first);
-    let a = put_opened199(out, t.out, r.day, first, r.number, p.bank, part);
-    let b = put_position79(out, a, p.date, p.transferred, p.detailed);
+    let a = put_opened199(out, t.out, r.day, first, r.number, p.key.bank, part);
+    let b = put_position79(out, a, p.key.date, p.transferred, p.detailed);
     let c = put_returned(out, b, s, amounts, places, verdicts, t.detail, n, 14);
     let d = put_closed79(out, c.out, part, parts);
     Parting {
@@ -86,7 +86,7 @@ pub fn put_parts(
     n: u32,
 ) -> Numbered
     requires { ⌜ PartsDue count parts (now s) (now places) n ⌝ }
-    ensures { λ r. ⌜ PartsPut day count (positionOf p) parts (now (s .entry)) (now (verdicts .entry)) n at (now (out .entry)) r (now (out .exit)) ⌝ }
+    ensures { λ r. ⌜ PartsPut day count (positionValue p) parts (now (s .entry)) (now (verdicts .entry)) n at (now (out .entry)) r (now (out .exit)) ⌝ }
 {
     let mut o = Outgoing { day, count };
     let mut t = Parting {

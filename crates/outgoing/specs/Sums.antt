@@ -8,12 +8,16 @@ use lib.Dec.{leb}
 use borrow.Author.Tests.{le-leb}
 use Rattle.rules.specs.Engine.{Position, hasDetails}
 use Rattle.rules.specs.Calls.{refunded, collected}
-use Rattle.rules.specs.Area.{positionIn, decode, positionsPlace}
-use Rattle.written.specs.Values.{positionOf}
-use Rattle.written.specs.declared.Position as W
+use Rattle.rules.specs.Text.{isSome}
+use Rattle.rules.specs.Area.{decode, holds, positionsPlace}
+use Rattle.area.specs.Decoded.{decoded-room}
+use Rattle.position.specs.Values.{positionValue}
+use Rattle.position.specs.declared.Position as P
 use Rattle.outgoing.specs.declared.sums.Sums.{Sums}
-use Rattle.engine.specs.Positions.{positionsAt, values-next, values-none, PositionAt}
-use Rattle.outgoing.specs.Area.{Standing}
+use Rattle.engine.specs.Header.{HeaderOf}
+use Rattle.engine.specs.declared.header.Header.{Header}
+use Rattle.engine.specs.Held.{positions-are}
+use Rattle.engine.specs.Positions.{positionsFrom, positions-next, positions-none, PositionAt}
 
 -- what a position adds
 unfoldable pub refundOf : Position → ℕ
@@ -75,11 +79,11 @@ collection-small p = go (leb 1 (p .detailed))
 
 -- ---- position by position
 
--- what is left of the n positions, k from the place p on, completes the sums; each may still add 2 ^ 48
-pub record SumsLeft (area : List ℕ) (p k n : ℕ) (s : Sums) : Type 0 where
-  pub place : p + 24 * k ≡ positionsPlace + 24 * n
-  pub refunded : s .refunded + refunded (positionsAt area p k) ≡ refunded (positionsAt area positionsPlace n)
-  pub collected : s .collected + collected (positionsAt area p k) ≡ collected (positionsAt area positionsPlace n)
+-- what is left of the n positions, k from the i-th on, completes the sums; each may still add 2 ^ 48
+pub record SumsLeft (area : List ℕ) (i k n : ℕ) (s : Sums) : Type 0 where
+  pub place : i + k ≡ n
+  pub refunded : s .refunded + refunded (positionsFrom area i k) ≡ refunded (positionsFrom area 0 n)
+  pub collected : s .collected + collected (positionsFrom area i k) ≡ collected (positionsFrom area 0 n)
   pub small : s .refunded + 281474976710656 * k ≤ 281474976710656 * n
   pub little : s .collected + 281474976710656 * k ≤ 281474976710656 * n
 
@@ -100,15 +104,15 @@ module _ (p : Position) (ps : List Position) where
       go true = omega arith
       go false = omega arith
 
-pub sums-all : (area : List ℕ) (n : ℕ) → SumsLeft area positionsPlace n n (record { refunded = 0; collected = 0 })
-sums-all area n = record { place = refl; refunded = omega arith; collected = omega arith; small = omega arith; little = omega arith }
+pub sums-all : (area : List ℕ) (n : ℕ) → SumsLeft area 0 n n (record { refunded = 0; collected = 0 })
+sums-all area n = record { place = omega arith; refunded = omega arith; collected = omega arith; small = omega arith; little = omega arith }
 
-module _ (area : List ℕ) (p k n : ℕ) (s : Sums) (l : SumsLeft area p k n s) where
-  pub sums-more : 0 < k → {q : W.Position} → PositionAt area p q → {r : Sums} → Adds (positionOf q) s r → SumsLeft area (p + 24) (k - 1) n r
+module _ (area : List ℕ) (i k n : ℕ) (s : Sums) (l : SumsLeft area i k n s) where
+  pub sums-more : 0 < k → {q : P.Position} → PositionAt area (positionsPlace + 24 * i) q → {r : Sums} → Adds (positionValue q) s r → SumsLeft area (i + 1) (k - 1) n r
   sums-more h {q} a {r} d =
-      let x : Position = positionOf q in
-      let xs : List Position = positionsAt area (p + 24) (k - 1) in
-      let e : positionsAt area p k ≡ x ∷ xs = values-next positionIn area p k h ∙ rw (a .value) in
+      let x : Position = positionValue q in
+      let xs : List Position = positionsFrom area (i + 1) (k - 1) in
+      let e : positionsFrom area i k ≡ x ∷ xs = positions-next area i k h ∙ rw (a .value) in
       record {
         place = omega (arith, l .place);
         refunded = omega (arith, l .refunded, ap refunded e, refunded-first x xs, d .refunded);
@@ -117,10 +121,10 @@ module _ (area : List ℕ) (p k n : ℕ) (s : Sums) (l : SumsLeft area p k n s) 
         little = omega (arith, l .little, d .collected, collection-small x, a .detailed);
       }
 
-  pub sums-end : k ≤ 0 → n ≤ 32 → Totals (positionsAt area positionsPlace n) s
+  pub sums-end : k ≤ 0 → n ≤ 32 → Totals (positionsFrom area 0 n) s
   unfolding refunded collected
   sums-end h m =
-      let e : positionsAt area p k ≡ [] = values-none positionIn area p k h in
+      let e : positionsFrom area i k ≡ [] = positions-none area i k h in
       record {
         refunded = omega (arith, l .refunded, ap refunded e);
         collected = omega (arith, l .collected, ap collected e);
@@ -128,8 +132,8 @@ module _ (area : List ℕ) (p k n : ℕ) (s : Sums) (l : SumsLeft area p k n s) 
         little = omega (arith, l .little);
       }
 
--- the positions that stand in the area
-pub sums-stand : (area : List ℕ) (n : ℕ) (s : Sums) → Standing area n → Totals (positionsAt area positionsPlace n) s → Totals (decode area .positions) s
-sums-stand area n s a t = subst (λ (ps : List Position). Totals ps s) (sym (a .positions)) t
+-- the positions of the engine that the area holds
+pub sums-held : (area : List ℕ) (x : Header) (s : Sums) → isSome (holds area) ≡ true → HeaderOf area x → Totals (positionsFrom area 0 (x .positions)) s → Totals (decode area .positions) s
+sums-held area x s h n t = subst (λ (ps : List Position). Totals ps s) (sym (positions-are area h x n)) t
 
-pub ruleset summing = (adds-nothing, adds-some, sums-all, sums-more, sums-end, sums-stand)
+pub ruleset summing = (adds-nothing, adds-some, sums-all, sums-more, sums-end, sums-held, decoded-room)

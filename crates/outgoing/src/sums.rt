@@ -1,15 +1,15 @@
 // What a turn refunds and collects.
-use crate::positions::position_count;
-use engine::position_at;
-use written::Position;
+use engine::header_of;
+use engine::nth_position;
+use position::Position;
 ghost use mathlib.Core.Path.{_≡_};
 ghost use mathlib.Core.Bool.{true};
-ghost use Prim.Native.Nat.{_-_, _+_, _*_, _<_, _≤_};
+ghost use Prim.Native.Nat.{_-_, _+_, _<_, _≤_};
 ghost use lib.ListN.{length};
 ghost use Rattle.rules.specs.Text.{isSome};
-ghost use Rattle.rules.specs.Area.{decode, holds, positionsPlace};
-ghost use Rattle.written.specs.Values.{positionOf};
-ghost use Rattle.engine.specs.Positions.{positionsAt};
+ghost use Rattle.rules.specs.Area.{decode, holds, textsPlace};
+ghost use Rattle.position.specs.Values.{positionValue};
+ghost use Rattle.engine.specs.Positions.{positionsFrom};
 ghost use Rattle.outgoing.specs.Sums.{Adds, Totals};
 
 // The sum refunded and the sum collected.
@@ -32,7 +32,7 @@ fn above(a: u64, b: u64) -> u64
 fn with_position(s: Sums, p: Position) -> Sums
     requires { ⌜ s .refunded + p .transferred < 18446744073709551616 ⌝ }
     requires { ⌜ s .collected + p .detailed < 18446744073709551616 ⌝ }
-    ensures { λ r. ⌜ Adds (positionOf p) s r ⌝ }
+    ensures { λ r. ⌜ Adds (positionValue p) s r ⌝ }
 {
     if p.detailed == 0 {
         return s;
@@ -43,21 +43,21 @@ fn with_position(s: Sums, p: Position) -> Sums
     }
 }
 
-// The sums of n positions.
-fn sums_of(area: &[u8], n: usize) -> Sums
+// The sums of the first n positions.
+fn sums_of(area: &[u8], n: u32) -> Sums
     requires { ⌜ n ≤ 32 ⌝ }
-    requires { ⌜ positionsPlace + 24 * n ≤ length (now area) ⌝ }
-    ensures { λ r. ⌜ Totals (positionsAt (now (area .entry)) positionsPlace n) r ⌝ }
+    requires { ⌜ textsPlace ≤ length (now area) ⌝ }
+    ensures { λ r. ⌜ Totals (positionsFrom (now (area .entry)) 0 n) r ⌝ }
 {
     let mut s = Sums {
         refunded: 0,
         collected: 0,
     };
-    let mut p: usize = 1552;
+    let mut i: u32 = 0;
     let mut k = n;
     while k > 0 {
-        s = with_position(s, position_at(area, p));
-        p += 24;
+        s = with_position(s, nth_position(area, i));
+        i += 1;
         k -= 1;
     }
     s
@@ -68,5 +68,6 @@ pub fn turn_sums(area: &[u8]) -> Sums
     requires { ⌜ isSome (holds (now area)) ≡ true ⌝ }
     ensures { λ r. ⌜ Totals (decode (now (area .entry)) .positions) r ⌝ }
 {
-    sums_of(area, position_count(area))
+    let h = header_of(area);
+    sums_of(area, h.positions)
 }

@@ -1,7 +1,8 @@
 // The text of a turn: posting lines, then messages, for the positions that it corrects.
 use crate::positions::is_corrected;
-use crate::positions::position_count;
-use engine::position_at;
+use engine::header_of;
+use engine::nth_position;
+use engine::temporary;
 use outgoing_number::Numbered;
 use outgoing_number::Outgoing;
 use outgoing_number::Reference;
@@ -10,13 +11,13 @@ use written::put_correction;
 use written::put_correction_posting;
 ghost use mathlib.Core.Path.{_≡_};
 ghost use mathlib.Core.Bool.{true};
-ghost use Prim.Native.Nat.{_+_, _*_, _≤_};
+ghost use Prim.Native.Nat.{_+_, _≤_};
 ghost use lib.ListN.{length};
 ghost use Rattle.rules.specs.Text.{isSome};
 ghost use Rattle.rules.specs.Written.{correctionPostings};
-ghost use Rattle.rules.specs.Area.{holds, positionsPlace, textsPlace};
+ghost use Rattle.rules.specs.Area.{holds, textsPlace};
 ghost use Rattle.laws.specs.Writing.{Wrote};
-ghost use Rattle.engine.specs.Positions.{positionsAt};
+ghost use Rattle.engine.specs.Positions.{positionsFrom};
 ghost use Rattle.outgoing.specs.Turn.{Stands, Due, Found, CorrectionPut, CorrectionsPut};
 ghost use Rattle.outgoing.specs.Area.{TurnPut};
 
@@ -27,60 +28,62 @@ fn put_correction_postings(
     day: u32,
     temporary: &[u8],
     area: &[u8],
-    n: usize,
+    n: u32,
 ) -> usize
-    requires { ⌜ positionsPlace + 24 * n ≤ length (now area) ⌝ }
-    ensures { λ r. ⌜ Wrote (correctionPostings day (now (temporary .entry)) (positionsAt (now (area .entry)) positionsPlace n)) at (now (out .entry)) r (now (out .exit)) ⌝ }
+    requires { ⌜ n ≤ 32 ⌝ }
+    requires { ⌜ textsPlace ≤ length (now area) ⌝ }
+    ensures { λ r. ⌜ Wrote (correctionPostings day (now (temporary .entry)) (positionsFrom (now (area .entry)) 0 n)) at (now (out .entry)) r (now (out .exit)) ⌝ }
 {
     let mut o = at;
-    let mut p: usize = 1552;
+    let mut i: u32 = 0;
     let mut k = n;
     while k > 0 {
-        let q = position_at(area, p);
-        if is_corrected(q) {
-            o = put_correction_posting(out, o, day, temporary, q);
-            p += 24;
+        let p = nth_position(area, i);
+        if is_corrected(p) {
+            o = put_correction_posting(out, o, day, temporary, p);
+            i += 1;
             k -= 1;
         } else {
-            p += 24;
+            i += 1;
             k -= 1;
         }
     }
     o
 }
 
-// Where the messages of a turn have come to: the place in the output, that of the next position to correct, and how many positions there are from it on; where none is
-// to correct, none is left.
+// Where the messages of a turn have come to.
 pub struct Correcting {
+    // The place in the output.
     pub out: usize,
+    // The number of the next position to correct.
     pub at: u32,
+    // How many positions there are from it on; where none is to correct, none is left.
     pub left: u32,
 }
 
-// The first position to correct of some that are left from a place on.
+// The first position to correct of some that are left from a number on.
 fn next_corrected(area: &[u8], out: usize, from: u32, left: u32) -> Correcting
-    requires { ⌜ left ≤ 32 ⌝ }
-    requires { ⌜ from + 24 * left ≤ textsPlace ⌝ }
-    requires { ⌜ 2342 ≤ length (now area) ⌝ }
+    requires { ⌜ from + left ≤ 32 ⌝ }
+    requires { ⌜ isSome (holds (now area)) ≡ true ⌝ }
     ensures { λ r. ⌜ Found (now (area .entry)) out from left r ⌝ }
 {
-    let mut p = from;
+    let mut i = from;
     let mut k = left;
     while k > 0 {
-        if is_corrected(position_at(area, p as usize)) {
+        if is_corrected(nth_position(area, i)) {
             return Correcting {
                 out,
-                at: p,
+                at: i,
                 left: k,
             };
         } else {
-            p += 24;
+            i += 1;
             k -= 1;
         }
     }
     Correcting {
         out,
-        at: p,
+        at: i,
         left: 0,
     }
 }
@@ -90,9 +93,9 @@ fn put_next(out: &mut [u8], t: Correcting, r: Reference, area: &[u8]) -> Correct
     requires { ⌜ Due (now area) t ⌝ }
     ensures { λ x. ⌜ CorrectionPut (now (area .entry)) t r (now (out .entry)) x (now (out .exit)) ⌝ }
 {
-    let q = position_at(area, t.at as usize);
-    let o = put_correction(out, t.out, r.day, &area[2320..2342], r.number, q);
-    next_corrected(area, o, t.at + 24, t.left - 1)
+    let p = nth_position(area, t.at);
+    let o = put_correction(out, t.out, r.day, temporary(area), r.number, p);
+    next_corrected(area, o, t.at + 1, t.left - 1)
 }
 
 // The messages of the positions to correct, each by the next reference of the day.
@@ -117,8 +120,9 @@ pub fn put_turn_text(out: &mut [u8], at: usize, day: u32, area: &[u8]) -> Number
     requires { ⌜ isSome (holds (now area)) ≡ true ⌝ }
     ensures { λ r. ⌜ TurnPut (now (area .entry)) day at (now (out .entry)) r (now (out .exit)) ⌝ }
 {
-    let n = position_count(area);
-    let a = put_correction_postings(out, at, day, &area[2320..2342], area, n);
-    let first = next_corrected(area, a, 1552, n as u32);
+    let h = header_of(area);
+    let n = h.positions;
+    let a = put_correction_postings(out, at, day, temporary(area), area, n);
+    let first = next_corrected(area, a, 0, n);
     put_corrections(out, first, day, area)
 }

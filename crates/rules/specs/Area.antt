@@ -7,13 +7,13 @@ use lib.Dec.{leb, eqb}
 use lib.IntN.{ℤ, pos}
 use lib.ListN.{length, take, drop, replicate}
 use Rattle.rules.specs.Text.{ascii, equal, bytes, number, given, over}
-use Rattle.rules.specs.Engine.{Position, Reference, Engine, within}
+use Rattle.rules.specs.Engine.{Key, Position, Reference, Engine, within}
 use Rattle.rules.specs.Calls.{Answer, openCall, messageCall, turnCall}
 
 -- ---- layout: numbers are big-endian, unused room is zero
 --   0  mark (2), day (3), outgoing count (2), positions (1), references (1), currency (1), lengths of three texts (2 each)
 --   16  64 references of 24 bytes: sender (8), reference (16)
---   1,552  32 positions of 24 bytes: bank (8), date (3), transferred (6), detailed (6), block (1)
+--   1,552  32 positions of 24 bytes: key (12), that is bank (8), date (3) and block (1), transferred (6), detailed (6)
 --   2,320  texts, 3,824 bytes: the register
 
 -- where the sections begin: references, positions, texts; and where the area ends
@@ -42,6 +42,19 @@ textsRoom = 3824
 abbrev pub recordSize : ℕ
 recordSize = 24
 
+-- where a position's parts begin in its record
+abbrev pub dateOffset : ℕ
+dateOffset = 8
+
+abbrev pub blockOffset : ℕ
+blockOffset = 11
+
+abbrev pub transferredOffset : ℕ
+transferredOffset = 12
+
+abbrev pub detailedOffset : ℕ
+detailedOffset = 18
+
 -- "zeros hold no engine": n of them
 unfoldable pub zeros : ℕ → List ℕ
 zeros n = replicate n 0
@@ -59,9 +72,13 @@ joined (x ∷ xs) = x ++ joined xs
 unfoldable pub referenceRecord : Reference → List ℕ
 referenceRecord r = bytes 8 (r .sender) ++ padded 16 (r .text)
 
+-- the key of a position, with a byte for its block
+unfoldable pub keyBytes : Key → List ℕ
+keyBytes k = bytes 8 (k .bank) ++ bytes 3 (k .date) ++ bytes 1 0
+
 -- "open positions": one of them
 unfoldable pub positionRecord : Position → List ℕ
-positionRecord p = bytes 8 (p .bank) ++ bytes 3 (p .date) ++ bytes 6 (p .transferred) ++ bytes 6 (p .detailed) ++ bytes 1 0
+positionRecord p = keyBytes (p .key) ++ bytes 6 (p .transferred) ++ bytes 6 (p .detailed)
 
 -- the mark of an area that holds an engine: "zeros hold no engine"
 abbrev pub mark : List ℕ
@@ -96,9 +113,13 @@ untilZero (c ∷ cs) = let r = untilZero cs in cond (eqb c 0) [] (c ∷ r)
 unfoldable pub referenceIn : List ℕ → Reference
 referenceIn r = record { sender = numberAt r 0 8; text = untilZero (take 16 (drop 8 r)) }
 
--- "One position per sender and centralisation date": of a record
+-- "One position per sender and centralisation date": the key of a record
+unfoldable pub keyIn : List ℕ → Key
+keyIn r = record { bank = numberAt r 0 8; date = numberAt r dateOffset 3 }
+
+-- its position
 unfoldable pub positionIn : List ℕ → Position
-positionIn r = record { bank = numberAt r 0 8; date = numberAt r 8 3; transferred = numberAt r 11 6; detailed = numberAt r 17 6 }
+positionIn r = record { key = keyIn r; transferred = numberAt r transferredOffset 6; detailed = numberAt r detailedOffset 6 }
 
 -- n records
 unfoldable pub records : ℕ → List ℕ → List (List ℕ)

@@ -13,7 +13,7 @@ use Rattle.rules.specs.Lines.{framed, type, receiver}
 use Rattle.rules.specs.Messages.{Message, mt103, mt101, Transfer, Detail, currency32A, account103, field21, currency32B, payer, account59, read, senderOf, referenceOf, detailsOf, dateOf, transferredBy, detailedBy, firstDate}
 use Rattle.rules.specs.Register.{Register, Account, register, registerOf}
 use Rattle.rules.specs.Verdict.{Verdict, credited, returned, verdict, isReturned, accountAt}
-use Rattle.rules.specs.Engine.{Position, Reference, Engine, limit, positionOf, isOpen, booked, kept, slashed, sameReference, filed, hasDetails}
+use Rattle.rules.specs.Engine.{Key, Position, Reference, Engine, limit, positionOf, isOpen, booked, kept, slashed, sameReference, filed, hasDetails}
 use Rattle.rules.specs.Written.{Book, fromBank, toAccount, toBank, verdicts, partsOf, correctionPostings, corrections, correctedCount, corrected, isRefund}
 
 -- ---- conditions of refusal
@@ -116,19 +116,23 @@ bankOf m = number (senderOf m)
 abbrev pub ownReference : Message → Reference
 ownReference m = record { sender = bankOf m; text = referenceOf m }
 
+-- the key of its position
+abbrev pub keyOf : Message → Key
+keyOf m = record { bank = bankOf m; date = dateOf m }
+
 -- what the message adds to its position
 abbrev pub added : Message → Position
-added m = record { bank = bankOf m; date = dateOf m; transferred = transferredBy m; detailed = detailedBy m }
+added m = record { key = keyOf m; transferred = transferredBy m; detailed = detailedBy m }
 
 -- its position as it then is
 unfoldable pub after : Engine → Message → Position
 after e m =
-    let p = positionOf (bankOf m) (dateOf m) (e .positions) in
-    record { bank = bankOf m; date = dateOf m; transferred = p .transferred + transferredBy m; detailed = p .detailed + detailedBy m }
+    let p = positionOf (keyOf m) (e .positions) in
+    record { key = keyOf m; transferred = p .transferred + transferredBy m; detailed = p .detailed + detailedBy m }
 
 -- 14: "32 positions open, none of them this one"
 unfoldable pub noRoom : Engine → Message → Bool
-noRoom e m = leb 32 (length (e .positions)) && not (isOpen (bankOf m) (dateOf m) (e .positions))
+noRoom e m = leb 32 (length (e .positions)) && not (isOpen (keyOf m) (e .positions))
 
 -- 15: "a total over its limit"
 unfoldable pub overLimit : Engine → Message → Bool

@@ -9,10 +9,14 @@ use Rattle.rules.specs.Dates.{exists}
 use Rattle.rules.specs.Accounts.{isBic}
 use Rattle.rules.specs.Register.{register}
 
--- "One position per sender and centralisation date: transferred (MT103) and detailed (MT101)"; a bank is the number of its BIC
-pub record Position : Type 0 where
+-- "One position per sender and centralisation date": what tells it from the others; a bank is the number of its BIC
+pub record Key : Type 0 where
   pub bank : ℕ
   pub date : ℕ
+
+-- "transferred (MT103) and detailed (MT101)" of a sender and centralisation date
+pub record Position : Type 0 where
+  pub key : Key
   pub transferred : ℕ
   pub detailed : ℕ
 
@@ -44,29 +48,37 @@ isBank bank = leb bank 18446744073709551615 && isBic (bic bank)
 -- ---- positions, kept "by BIC in byte order and then date"
 
 -- "by BIC in byte order and then date"
-unfoldable pub earlier : Position → Position → Bool
-earlier p q = not (leb (q .bank) (p .bank)) || (eqb (p .bank) (q .bank) && not (leb (q .date) (p .date)))
+unfoldable pub keyBefore : Key → Key → Bool
+keyBefore k l = not (leb (l .bank) (k .bank)) || (eqb (k .bank) (l .bank) && not (leb (l .date) (k .date)))
 
 -- of one "sender and centralisation date"
-unfoldable pub alike : Position → Position → Bool
-alike p q = eqb (p .bank) (q .bank) && eqb (p .date) (q .date)
+unfoldable pub sameKey : Key → Key → Bool
+sameKey k l = eqb (k .bank) (l .bank) && eqb (k .date) (l .date)
 
--- the position of a bank and date; "a missing one begins with 0 and 0"
-unfoldable pub positionOf : ℕ → ℕ → List Position → Position
-positionOf bank date [] = record { bank = bank; date = date; transferred = 0; detailed = 0 }
-positionOf bank date (p ∷ ps) = let r = positionOf bank date ps in cond (eqb (p .bank) bank && eqb (p .date) date) p r
+-- positions by their keys
+abbrev pub earlier : Position → Position → Bool
+earlier p q = keyBefore (p .key) (q .key)
+
+abbrev pub alike : Position → Position → Bool
+alike p q = sameKey (p .key) (q .key)
+
+-- the position of a key; "a missing one begins with 0 and 0"
+unfoldable pub positionOf : Key → List Position → Position
+positionOf k [] = record { key = k; transferred = 0; detailed = 0 }
+positionOf k (p ∷ ps) = let r = positionOf k ps in cond (sameKey (p .key) k) p r
 
 -- "32 positions open, none of them this one": is this one open?
-unfoldable pub isOpen : ℕ → ℕ → List Position → Bool
-isOpen bank date ps = any (λ (p : Position). eqb (p .bank) bank && eqb (p .date) date) ps
+unfoldable pub isOpen : Key → List Position → Bool
+isOpen k ps = any (λ (p : Position). sameKey (p .key) k) ps
+
+-- p with both totals of q added
+abbrev pub raised : Position → Position → Position
+raised p q = record { key = p .key; transferred = p .transferred + q .transferred; detailed = p .detailed + q .detailed }
 
 -- both totals of q added to its position, which opens in its place where it is missing
 unfoldable pub booked : Position → List Position → List Position
 booked q [] = q ∷ []
-booked q (p ∷ ps) =
-    let sum : Position = record { bank = p .bank; date = p .date; transferred = p .transferred + q .transferred; detailed = p .detailed + q .detailed } in
-    let on = p ∷ booked q ps in
-    cond (alike p q) (sum ∷ ps) (cond (earlier q p) (q ∷ p ∷ ps) on)
+booked q (p ∷ ps) = let on = p ∷ booked q ps in cond (alike p q) (raised p q ∷ ps) (cond (earlier q p) (q ∷ p ∷ ps) on)
 
 -- "each position with detailed above 0"
 unfoldable pub hasDetails : Position → Bool
@@ -106,7 +118,7 @@ filed r (q ∷ rs) = let on = q ∷ filed r rs in cond (precedes q r) on (r ∷ 
 
 -- a position of a BIC and an existing date no later than the day, both totals within the limit
 unfoldable pub goodPosition : ℕ → Position → Bool
-goodPosition day p = isBank (p .bank) && exists (p .date) && leb (p .date) day && leb (p .transferred) limit && leb (p .detailed) limit
+goodPosition day p = isBank (p .key .bank) && exists (p .key .date) && leb (p .key .date) day && leb (p .transferred) limit && leb (p .detailed) limit
 
 -- all positions are
 unfoldable pub goodPositions : ℕ → List Position → Bool

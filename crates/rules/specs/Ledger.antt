@@ -10,7 +10,7 @@ use Rattle.rules.specs.Text.{ascii, equal, fits, digits, isSome, given, 
 use Rattle.rules.specs.Accounts.{isBic, ibanShape}
 use Rattle.rules.specs.Lines.{Line, lines}
 use Rattle.rules.specs.Messages.{Message, mt103, mt101, read, dateOf, transferredBy}
-use Rattle.rules.specs.Engine.{Position, alike, kept, bic}
+use Rattle.rules.specs.Engine.{Position, alike, raised, kept, bic}
 use Rattle.rules.specs.Calls.{added, bankOf}
 
 -- what a call was handed: its message or day
@@ -29,10 +29,7 @@ pub record Event : Type 0 where
 -- "An entry has bank, centralisation date, transferred and detailed; a missing one begins with 0 and 0.": both totals of q added to its entry
 unfoldable pub entered : Position → List Position → List Position
 entered q [] = q ∷ []
-entered q (p ∷ ps) =
-    let sum : Position = record { bank = p .bank; date = p .date; transferred = p .transferred + q .transferred; detailed = p .detailed + q .detailed } in
-    let on = p ∷ entered q ps in
-    cond (alike p q) (sum ∷ ps) on
+entered q (p ∷ ps) = let on = p ∷ entered q ps in cond (alike p q) (raised p q ∷ ps) on
 
 -- "An accepted MT103 adds its amount to transferred in the entry of its sender and date, an accepted MT101 all its 32B amounts to detailed."
 unfoldable pub enteredBy : Option Message → List Position → List Position
@@ -56,12 +53,12 @@ ledgerOf es = ledgerFrom [] es
 -- "transferred": of a bank's entries
 unfoldable pub transferredOf : ℕ → List Position → ℕ
 transferredOf bank [] = 0
-transferredOf bank (p ∷ ps) = let r = transferredOf bank ps in cond (eqb (p .bank) bank) (p .transferred + r) r
+transferredOf bank (p ∷ ps) = let r = transferredOf bank ps in cond (eqb (p .key .bank) bank) (p .transferred + r) r
 
 -- "detailed": of a bank's entries
 unfoldable pub detailedOf : ℕ → List Position → ℕ
 detailedOf bank [] = 0
-detailedOf bank (p ∷ ps) = let r = detailedOf bank ps in cond (eqb (p .bank) bank) (p .detailed + r) r
+detailedOf bank (p ∷ ps) = let r = detailedOf bank ps in cond (eqb (p .key .bank) bank) (p .detailed + r) r
 
 -- "Held in demand 3 is the sum of transferred minus detailed over the bank's entries."
 unfoldable pub held : ℕ → List Position → ℤ

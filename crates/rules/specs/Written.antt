@@ -87,8 +87,8 @@ closed79 part parts = decimal part ++ ascii "/" ++ decimal parts ++ ascii "\r\n-
 -- one part of an MT199 on a position, after n messages written today
 unfoldable pub mt199 : ℕ → ℕ → Position → ℕ → ℕ → List Detail → List ℕ
 mt199 day n p part parts ds =
-    (opened (ascii "199") (p .bank) ++ field (ascii ":20:") (reference day (n + part)) ++ linked day n part)
-    ++ position79 (p .date) (p .transferred) (p .detailed)
+    (opened (ascii "199") (p .key .bank) ++ field (ascii ":20:") (reference day (n + part)) ++ linked day n part)
+    ++ position79 (p .key .date) (p .transferred) (p .detailed)
     ++ allReturned ds
     ++ closed79 part parts
 
@@ -111,7 +111,7 @@ verdicts day n p ds = let parts = partsOf (length ds) in mt199s parts day n p 1 
 unfoldable pub field72 : ℕ → ℕ → Position → List ℕ
 field72 day n p =
     (ascii ":72:/BAEREF/" ++ fixed 6 day ++ fixed 6 n ++ ascii "\r\n")
-    ++ field (ascii "/RELREF/ERRCENTRB") (fixed 6 (p .date))
+    ++ field (ascii "/RELREF/ERRCENTRB") (fixed 6 (p .key .date))
     ++ ascii "//RAZLIKA OT CENTRALIZACIA NA BS\r\n"
     ++ field (ascii "//SUMA PREZ RINGS ") (withPoint (p .transferred))
     ++ (field (ascii "//SUMA PREZ BISERA ") (withPoint (p .detailed)) ++ ascii "-\r\n")
@@ -119,17 +119,17 @@ field72 day n p =
 -- MT204: "both 20 and 72's BAEREF carry one number, 30 the day, 19 and 32B the amount"
 unfoldable pub mt204 : ℕ → List ℕ → ℕ → Position → ℕ → List ℕ
 mt204 day temporary n p v =
-    (opened (ascii "204") (p .bank) ++ field (ascii ":20:") (reference day n) ++ field (ascii ":19:") (withComma v) ++ field (ascii ":30:") (fixed 6 day))
+    (opened (ascii "204") (p .key .bank) ++ field (ascii ":20:") (reference day n) ++ field (ascii ":19:") (withComma v) ++ field (ascii ":30:") (fixed 6 day))
     ++ (field (ascii ":58D:/") temporary ++ ascii "SMETKA ZA RAZPREDELENIE NA PREVODI\r\n" ++ field (ascii ":20:") (reference day n))
-    ++ (field (ascii ":32B:BGN") (withComma v) ++ field (ascii ":53A:") (bic (p .bank)))
+    ++ (field (ascii ":32B:BGN") (withComma v) ++ field (ascii ":53A:") (bic (p .key .bank)))
     ++ field72 day n p
 
 -- "MT205: 20; 21, the same; 32A day, BGN, amount; 52A BNBGBGSD; 58A bank; 72 as in the MT204"
 unfoldable pub mt205 : ℕ → ℕ → Position → ℕ → List ℕ
 mt205 day n p v =
-    (opened (ascii "205") (p .bank) ++ field (ascii ":20:") (reference day n) ++ field (ascii ":21:") (reference day n))
+    (opened (ascii "205") (p .key .bank) ++ field (ascii ":20:") (reference day n) ++ field (ascii ":21:") (reference day n))
     ++ (ascii ":32A:" ++ fixed 6 day ++ ascii "BGN" ++ withComma v ++ ascii "\r\n")
-    ++ (ascii ":52A:BNBGBGSD\r\n" ++ field (ascii ":58A:") (bic (p .bank)))
+    ++ (ascii ":52A:BNBGBGSD\r\n" ++ field (ascii ":58A:") (bic (p .key .bank)))
     ++ field72 day n p
 
 -- a position that a turn corrects: it has details, and its totals differ
@@ -143,7 +143,7 @@ isRefund p = leb (p .detailed) (p .transferred)
 -- the posting line of a correction
 unfoldable pub correctionPosting : ℕ → List ℕ → Position → List ℕ
 correctionPosting day temporary p =
-    let b : Book = record { day = day; temporary = temporary; bank = p .bank; date = p .date } in
+    let b : Book = record { day = day; temporary = temporary; bank = p .key .bank; date = p .key .date } in
     cond (isRefund p) (toBank b (p .transferred - p .detailed)) (fromBank b (p .detailed - p .transferred))
 
 -- the message of a correction: MT205 or MT204

@@ -9,14 +9,16 @@ use lib.Dec.{leb, eqb}
 use lib.ListN.{length}
 use Rattle.rules.specs.Text.{isSome, any}
 use Rattle.rules.specs.Messages.{Message, dateOf, transferredBy, detailedBy, referenceOf}
-use Rattle.rules.specs.Engine.{Engine, Position, limit, positionOf, isOpen, sameReference}
+use Rattle.rules.specs.Engine.{Key, Engine, Position, limit, positionOf, isOpen, sameReference}
 use Rattle.rules.specs.Calls.{Stop, stop, firstOf, misdated, bankOf, ownReference, noRoom, overLimit, after}
 use Rattle.rules.specs.Area.{holds, decode}
 use Rattle.laws.specs.Parts.{cut}
 use Rattle.laws.specs.Tests.{held-told}
-use Rattle.engine.specs.Find.{TotalsOf}
+use Rattle.position.specs.Values.{keyValue}
+use Rattle.position.specs.declared.Position as P
+use Rattle.engine.specs.Totals.{TotalsOf}
 use Rattle.engine.specs.References.{ofBank}
-use Rattle.engine.specs.declared.find.Totals.{Totals}
+use Rattle.engine.specs.declared.held.Totals.{Totals}
 use Rattle.engine.specs.Header.{HeaderOf}
 use Rattle.engine.specs.declared.header.Header.{Header}
 use Rattle.details.specs.Message.{messageIn}
@@ -36,6 +38,13 @@ limitStops e m =
 -- ---- single tests
 
 -- 15, of both totals
+-- what a message adds to its position
+abbrev pub addedBy : Booking → P.Position
+addedBy b = record { key = b .key; transferred = amountIf (b .transfer) (b .amount); detailed = amountIf (not (b .transfer)) (b .amount) }
+
+pub added-made : (b : Booking) {t d : ℕ} → t ≡ amountIf (b .transfer) (b .amount) → d ≡ amountIf (not (b .transfer)) (b .amount) → _≡_ {A = P.Position} (record { key = b .key; transferred = t; detailed = d }) (addedBy b)
+added-made b e f = rw (e, f)
+
 unfoldable pub overBy : Totals → Booking → Bool
 overBy t b = not (leb (t .transferred + amountIf (b .transfer) (b .amount)) limit) || not (leb (t .detailed + amountIf (not (b .transfer)) (b .amount)) limit)
 
@@ -44,13 +53,13 @@ unfoldable pub restNumber : ℕ → Totals → Booking → ℕ
 restNumber n t b = cond (leb 32 n && not (t .«is_open»)) 14 (cond (overBy t b) 15 0)
 
 module _ (b : Booking) (day : ℕ) where
-  pub misdated-transfer : b .transfer ≡ true → not (eqb (b .date) day) ≡ misdatedBy (b .transfer) (b .date) day
+  pub misdated-transfer : b .transfer ≡ true → not (eqb (b .key .date) day) ≡ misdatedBy (b .transfer) (b .key .date) day
   misdated-transfer t = rw t refl
 
-  pub misdated-before : b .transfer ≡ false → b .date ≤ day → false ≡ misdatedBy (b .transfer) (b .date) day
+  pub misdated-before : b .transfer ≡ false → b .key .date ≤ day → false ≡ misdatedBy (b .transfer) (b .key .date) day
   misdated-before t l = rw (t, le-leb _ _ l) refl
 
-  pub misdated-after : b .transfer ≡ false → day < b .date → true ≡ misdatedBy (b .transfer) (b .date) day
+  pub misdated-after : b .transfer ≡ false → day < b .key .date → true ≡ misdatedBy (b .transfer) (b .key .date) day
   misdated-after t l = rw (t, lt-leb _ _ l) refl
 
 pub total-within : (v w : ℕ) → v + w ≤ 99999999999999 → false ≡ not (leb (v + w) limit)
@@ -121,15 +130,15 @@ module _ (n : ℕ) (t : Totals) (b : Booking) (q : Bool) (u : q ≡ overBy t b) 
 
 -- ---- all of them
 
-pub used-is : (s area : List ℕ) (b : Booking) → Books s (messageIn s) b → {q : Bool} → q ≡ any (sameReference (ofBank (b .bank) (cut s (b .reference .start) (b .reference .end)))) (decode area .references)
+pub used-is : (s area : List ℕ) (b : Booking) → Books s (messageIn s) b → {q : Bool} → q ≡ any (sameReference (ofBank (b .key .bank) (cut s (b .reference .start) (b .reference .end)))) (decode area .references)
     → q ≡ any (sameReference (ownReference (messageIn s))) (decode area .references)
-used-is s area b k e = e ∙ rw (k .bank, k .reference) refl
+used-is s area b k e = e ∙ rw (ap (λ (y : Key). y .bank) (k .key), k .reference) refl
 
 module _ (s area : List ℕ) (b : Booking) (k : Books s (messageIn s) b) (x : Header) (n : HeaderOf area x) where
-  day-is : misdated (decode area .day) (messageIn s) ≡ misdatedBy (b .transfer) (b .date) (x .day)
+  day-is : misdated (decode area .day) (messageIn s) ≡ misdatedBy (b .transfer) (b .key .date) (x .day)
   day-is = rw (n .day) (k .dated (decode area .day))
 
-  module _ (t : Bool) (u : t ≡ misdatedBy (b .transfer) (b .date) (x .day)) where
+  module _ (t : Bool) (u : t ≡ misdatedBy (b .transfer) (b .key .date) (x .day)) where
     pub state-day : t ≡ true → 11 ≡ firstOf (limitStops (decode area) (messageIn s))
     unfolding firstOf limitStops
     state-day d = rw (day-is, ← u, d) refl
@@ -144,9 +153,9 @@ module _ (s area : List ℕ) (b : Booking) (k : Books s (messageIn s) b) (x : He
         unfolding firstOf limitStops
         state-full l = rw (day-is, ← u, d, ← v, w, ← n .references, le-leb _ _ l) refl
 
-        pub state-rest : x .references < 64 → (y : Totals) → TotalsOf (decode area .positions) (b .bank) (b .date) y → {r : ℕ} → r ≡ restNumber (x .positions) y b → r ≡ firstOf (limitStops (decode area) (messageIn s))
+        pub state-rest : x .references < 64 → (y : Totals) → TotalsOf (decode area .positions) (keyValue (b .key)) y → {r : ℕ} → r ≡ restNumber (x .positions) y b → r ≡ firstOf (limitStops (decode area) (messageIn s))
         unfolding firstOf limitStops restNumber noRoom overLimit overBy after
         state-rest l y g e =
-            e ∙ rw (day-is, ← u, d, ← v, w, ← n .references, lt-leb _ _ l, ← k .bank, ← k .date, ← g .opens, ← g .transferred, ← g .detailed, ← n .positions, k .transferred, k .detailed) refl
+            e ∙ rw (day-is, ← u, d, ← v, w, ← n .references, lt-leb _ _ l, ← k .key, ← g .opens, ← g .transferred, ← g .detailed, ← n .positions, k .transferred, k .detailed) refl
 
 pub ruleset stops = (held-told, misdated-transfer, misdated-before, misdated-after, total-within, total-above, amount-own, amount-none, sum-none, sum-own, added-small, summed-small, over-first, over-second, rest-open-over, rest-open, rest-full, rest-over, rest-none, used-is, state-day, state-used, state-full, state-rest)

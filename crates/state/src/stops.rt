@@ -1,6 +1,7 @@
 // The conditions 11 to 15, "stopped by the state".
 use conditions::Booking;
 use engine::Totals;
+use position::Position;
 ghost use mathlib.Core.Path.{_≡_};
 ghost use mathlib.Core.Bool.{true, _&&_, _||_, not};
 ghost use Prim.Native.Nat.{_+_, _<_, _≤_};
@@ -12,14 +13,15 @@ ghost use Rattle.rules.specs.Calls.{firstOf, ownReference};
 ghost use Rattle.rules.specs.Area.{holds, decode};
 ghost use Rattle.details.specs.Message.{messageIn};
 ghost use Rattle.conditions.specs.Books.{Books, amountIf, misdatedBy};
-ghost use Rattle.engine.specs.Find.{TotalsOf};
-ghost use Rattle.state.specs.Stops.{limitStops, overBy, restNumber};
+ghost use Rattle.position.specs.Values.{keyValue};
+ghost use Rattle.engine.specs.Totals.{TotalsOf};
+ghost use Rattle.state.specs.Stops.{limitStops, addedBy, overBy, restNumber};
 
 // 11: an MT103 not dated on the day, an MT101 dated after it?
 fn is_misdated(b: Booking, day: u32) -> bool
-    ensures { λ r. ⌜ r ≡ misdatedBy (b .transfer) (b .date) day ⌝ }
+    ensures { λ r. ⌜ r ≡ misdatedBy (b .transfer) (b .key .date) day ⌝ }
 {
-    let date = b.date;
+    let date = b.key.date;
     if b.transfer {
         return date != day;
     }
@@ -47,6 +49,18 @@ pub fn detailed_by(b: Booking) -> u64
         return 0;
     }
     b.amount
+}
+
+// What it adds to its position.
+pub fn added_by(b: Booking) -> Position
+    ensures { λ r. ⌜ r ≡ addedBy b ⌝ }
+{
+    let key = b.key;
+    Position {
+        key,
+        transferred: transferred_by(b),
+        detailed: detailed_by(b),
+    }
 }
 
 // Is a total with so much added over its limit?
@@ -104,14 +118,15 @@ fn already_accepted(s: &[u8], area: &[u8], b: Booking) -> bool
     ensures { λ r. ⌜ r ≡ any (sameReference (ownReference (messageIn (now (s .entry))))) (decode (now (area .entry)) .references) ⌝ }
 {
     let p = b.reference;
-    engine::is_used(area, b.bank, s, p.start as usize, p.end as usize)
+    let k = b.key;
+    engine::is_used(area, k.bank, s, p.start as usize, p.end as usize)
 }
 
 // 11 to 15, t being the totals of the message's position; 0 where none holds.
 pub fn state_number(s: &[u8], area: &[u8], b: Booking, t: Totals) -> u32
     requires { ⌜ isSome (holds (now area)) ≡ true ⌝ }
     requires { ⌜ Books (now s) (messageIn (now s)) b ⌝ }
-    requires { ⌜ TotalsOf (decode (now area) .positions) (b .bank) (b .date) t ⌝ }
+    requires { ⌜ TotalsOf (decode (now area) .positions) (keyValue (b .key)) t ⌝ }
     ensures { λ r. ⌜ r ≡ firstOf (limitStops (decode (now (area .entry))) (messageIn (now (s .entry)))) ⌝ }
 {
     let h = engine::header_of(area);

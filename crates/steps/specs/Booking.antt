@@ -9,32 +9,35 @@ use lib.ListN.{length, drop, length-append, drop-of-length-le}
 use borrow.Author.Tests.{leb-true, leb-false, not-false}
 use Rattle.rules.specs.Text.{isSome, bytes}
 use Rattle.rules.specs.Messages.{Message}
-use Rattle.rules.specs.Engine.{Position, Reference, Engine, limit, positionOf, booked, filed, within}
+use Rattle.rules.specs.Engine.{Key, Position, Reference, Engine, limit, positionOf, booked, filed, within}
 use Rattle.rules.specs.Calls.{added, ownReference, after, noRoom, overLimit, writes, afterMessage}
-use Rattle.rules.specs.Area.{numberAt, referenceRecord, positionRecord, header, encode, decode, holds, areaSize, positionsPlace, positionsRoom, referencesRoom}
+use Rattle.rules.specs.Area.{referenceRecord, keyBytes, positionRecord, header, encode, decode, holds, areaSize, positionsPlace, positionsRoom, referencesRoom}
 use Rattle.laws.specs.Digits.{places-length}
 use Rattle.laws.specs.Parts.{cut, cut-length}
 use Rattle.laws.specs.Laid.{laid, laid-length}
-use Rattle.laws.specs.Pieces.{wrote-5}
-use Rattle.laws.specs.Writing.{Wrote}
+use Rattle.laws.specs.Writing.{Wrote, wrote-then}
 use Rattle.laws.specs.Sections.{Each, inserted, replaced, each-map, each-inserted, map-inserted, padded-length}
 use Rattle.laws.specs.Standing.{Stands, moved}
 use Rattle.laws.specs.Moving.{Opens, opens}
-use Rattle.area.specs.Facts.{never, or-left, or-right}
+use Rattle.area.specs.Facts.{or-left, or-right}
 use Rattle.area.specs.Limits.{Limits, limits}
 use Rattle.area.specs.Held.{Held}
 use Rattle.area.specs.Sections.{referencePart, positionPart, textPart, Of, held-sections, positions-stand}
 use Rattle.area.specs.Order.{ordered-sorted}
-use Rattle.area.specs.Positions.{position-order, booked-few, found-same}
+use Rattle.area.specs.Positions.{position-order, booked-few}
+use Rattle.area.specs.Tests.{positionAt}
 use Rattle.area.specs.References.{filed-length}
 use Rattle.engine.specs.Header.{HeaderOf}
 use Rattle.engine.specs.declared.header.Header.{Header}
 use Rattle.steps.specs.Header.{numbers}
 use Rattle.steps.specs.Changes.{section, inserted-length, replaced-length, section-replaced, section-inserted, stands-back, stands-other}
 use Rattle.steps.specs.Next.{holding, position-wide, references-each, positions-length, positions-section, Fits, assembled}
-use Rattle.steps.specs.Places.{position, isFirst, PlaceOf}
+use Rattle.position.specs.declared.Position as P
+use Rattle.engine.specs.Positions.{PositionAt}
+use Rattle.engine.specs.Places.{position, isFirst, PlaceOf}
 use Rattle.steps.specs.Filing.{reference, FiledAt, Files}
-use Rattle.steps.specs.Records.{positionAt, transferred-at, detailed-at, Many, positions-from}
+use Rattle.engine.specs.Records.{Many}
+use Rattle.engine.specs.Totals.{Found, found}
 
 -- ---- the engine then
 
@@ -57,8 +60,8 @@ booked-after e m = refl
 pub record Booking (e : Engine) (q : Position) : Type 0 where
   pub today : length (e .references) < 64
   pub few : length (booked q (e .positions)) ≤ 32
-  pub transferred : positionOf (q .bank) (q .date) (e .positions) .transferred + q .transferred ≤ limit
-  pub detailed : positionOf (q .bank) (q .date) (e .positions) .detailed + q .detailed ≤ limit
+  pub transferred : positionOf (q .key) (e .positions) .transferred + q .transferred ≤ limit
+  pub detailed : positionOf (q .key) (e .positions) .detailed + q .detailed ≤ limit
 
 -- where none of 13 to 15 holds of a message
 pub booking-clear : (e : Engine) (m : Message) → within e ≡ true → length (e .references) < 64 → noRoom e m ≡ false → overLimit e m ≡ false → Booking e (added m)
@@ -78,91 +81,80 @@ pub record Positions (ps : List Position) (a : List ℕ) (k : ℕ) (b : List ℕ
   pub count : k ≡ length ps
   pub bytes : b ≡ laid (positionPart ps) positionsPlace a
 
-pub position-wrote : (bank date t d : ℕ) {at m₁ m₂ m₃ m₄ r : ℕ} {out o₁ o₂ o₃ o₄ out' : List ℕ} → Wrote (bytes 8 bank) at out m₁ o₁ → Wrote (bytes 3 date) m₁ o₁ m₂ o₂ → Wrote (bytes 6 t) m₂ o₂ m₃ o₃
-    → Wrote (bytes 6 d) m₃ o₃ m₄ o₄ → Wrote (bytes 1 0) m₄ o₄ r out' → Wrote (positionRecord (position bank date t d)) at out r out'
+pub key-wrote : (k : Key) {at m₁ m₂ r : ℕ} {out o₁ o₂ out' : List ℕ} → Wrote (bytes 8 (k .bank)) at out m₁ o₁ → Wrote (bytes 3 (k .date)) m₁ o₁ m₂ o₂ → Wrote (bytes 1 0) m₂ o₂ r out' → Wrote (keyBytes k) at out r out'
+unfolding keyBytes
+key-wrote k u v w = wrote-then (wrote-then u v) w
+
+pub position-wrote : (p : Position) {at m₁ m₂ r : ℕ} {out o₁ o₂ out' : List ℕ} → Wrote (keyBytes (p .key)) at out m₁ o₁ → Wrote (bytes 6 (p .transferred)) m₁ o₁ m₂ o₂ → Wrote (bytes 6 (p .detailed)) m₂ o₂ r out'
+    → Wrote (positionRecord p) at out r out'
 unfolding positionRecord
-position-wrote bank date t d u v w x y = wrote-5 u v w x y
+position-wrote p u v w = wrote-then (wrote-then u v) w
 
--- both totals of the record at a place can be raised
-pub record Raises (a : List ℕ) (at t d : ℕ) : Type 0 where
+-- both totals of q can be added to the record at a place
+pub record Raises (a : List ℕ) (at : ℕ) (q : Position) : Type 0 where
   pub inside : at + 24 ≤ length a
-  pub transferred : numberAt a (at + 11) 6 + t ≤ limit
-  pub detailed : numberAt a (at + 17) 6 + d ≤ limit
+  pub transferred : positionAt a at .transferred + q .transferred ≤ limit
+  pub detailed : positionAt a at .detailed + q .detailed ≤ limit
 
--- the position of that record raised, as that of a bank and date
-abbrev pub raisedAt : List ℕ → ℕ → ℕ → ℕ → ℕ → ℕ → Position
-raisedAt a at bank date t d = position bank date (numberAt a (at + 11) 6 + t) (numberAt a (at + 17) 6 + d)
+-- the position of that record raised, its key being that of q
+abbrev pub raisedAt : List ℕ → ℕ → Position → Position
+raisedAt a at q = position (q .key) (positionAt a at .transferred + q .transferred) (positionAt a at .detailed + q .detailed)
 
-pub raised-wrote : (a : List ℕ) (at bank date t d u v : ℕ) {r : ℕ} {b : List ℕ} → u ≡ numberAt a (at + 11) 6 → v ≡ numberAt a (at + 17) 6
-    → Wrote (positionRecord (position bank date (u + t) (v + d))) at a r b → Wrote (positionRecord (raisedAt a at bank date t d)) at a r b
-raised-wrote a at bank date t d u v e f w = rw (e, f) at w
+module _ (a : List ℕ) (at : ℕ) (q : Position) (x : P.Position) (e : PositionAt a at x) where
+  pub raised-small : Raises a at q → (x .transferred + q .transferred ≤ limit) × (x .detailed + q .detailed ≤ limit)
+  raised-small r =
+      let t : x .transferred ≡ positionAt a at .transferred = ap (λ (y : Position). y .transferred) (e .value) in
+      let d : x .detailed ≡ positionAt a at .detailed = ap (λ (y : Position). y .detailed) (e .value) in
+      (omega (arith, r .transferred), omega (arith, r .detailed))
 
--- an open position stands at its place
-record Found (a : List ℕ) (n i bank date : ℕ) : Type 0 where
-  inside : i < n
-  is : positionOf bank date (decode a .positions) ≡ positionAt a (positionsPlace + 24 * i)
+  pub raised-wrote : {r : ℕ} {b : List ℕ} → Wrote (positionRecord (position (q .key) (x .transferred + q .transferred) (x .detailed + q .detailed))) at a r b → Wrote (positionRecord (raisedAt a at q)) at a r b
+  raised-wrote w =
+      let t : x .transferred ≡ positionAt a at .transferred = ap (λ (y : Position). y .transferred) (e .value) in
+      let d : x .detailed ≡ positionAt a at .detailed = ap (λ (y : Position). y .detailed) (e .value) in
+      rw (t, d) at w
 
-found : (a : List ℕ) (n i bank date : ℕ) → Many a n → PlaceOf bank date (decode a .positions) i → isFirst bank date (drop i (decode a .positions)) ≡ true → Found a n i bank date
-unfolding isFirst
-found a n i bank date m p k = go (leb n i) refl
-  where
-    go : (t : Bool) → leb n i ≡ t → Found a n i bank date
-    go true e =
-        let l : length (decode a .positions) ≤ i = omega (arith, m .same, leb-true n i e) in
-        never (sym (rw (drop-of-length-le (decode a .positions) l) at k))
-    go false e =
-        let l : i < n = leb-false n i e in
-        let f : drop i (decode a .positions) ≡ positionAt a (positionsPlace + 24 * i) ∷ drop (suc i) (decode a .positions) = positions-from a n i m l in
-        record { inside = l; is = p .found ∙ rw (f, found-same (position bank date 0 0) (positionAt a (positionsPlace + 24 * i)) (drop (suc i) (decode a .positions)) (rw f at k)) }
-
-module _ (a : List ℕ) (n i bank date t d : ℕ) (m : Many a n) (p : PlaceOf bank date (decode a .positions) i) (x : Bool) (f : x ≡ isFirst bank date (drop i (decode a .positions))) where
+module _ (a : List ℕ) (n i : ℕ) (q : Position) (m : Many a n) (p : PlaceOf (q .key) (decode a .positions) i) (at : ℕ) (place : at ≡ positionsPlace + 24 * i) (x : Bool) (f : x ≡ isFirst (q .key) (drop i (decode a .positions))) where
   -- an open position is raised
   module _ (k : x ≡ true) where
-    here : Found a n i bank date
-    here = found a n i bank date m p (sym f ∙ k)
+    here : Found a n i (q .key)
+    here = found a n i (q .key) m p (sym f ∙ k)
 
-    new-transferred : positionOf bank date (decode a .positions) .transferred ≡ numberAt a (positionsPlace + 24 * i + 11) 6
-    new-transferred = ap (λ (y : Position). y .transferred) (here .is) ∙ transferred-at a (positionsPlace + 24 * i)
+    standing : positionAt a at ≡ positionOf (q .key) (decode a .positions)
+    standing = rw place (sym (here .is))
 
-    new-detailed : positionOf bank date (decode a .positions) .detailed ≡ numberAt a (positionsPlace + 24 * i + 17) 6
-    new-detailed = ap (λ (y : Position). y .detailed) (here .is) ∙ detailed-at a (positionsPlace + 24 * i)
+    pub raise-fits : Booking (decode a) q → Raises a at q
+    raise-fits g = record { inside = omega (arith, place, here .inside, m .few, m .long); transferred = rw standing (g .transferred); detailed = rw standing (g .detailed) }
 
-    pub raise-fits : Booking (decode a) (position bank date t d) → Raises a (positionsPlace + 24 * i) t d
-    raise-fits g = record { inside = omega (arith, here .inside, m .few, m .long); transferred = rw new-transferred at (g .transferred); detailed = rw new-detailed at (g .detailed) }
-
-    pub raise-done : {r : ℕ} {b : List ℕ} → isSome (holds a) ≡ true → Wrote (positionRecord (raisedAt a (positionsPlace + 24 * i) bank date t d)) (positionsPlace + 24 * i) a r b
-        → Positions (booked (position bank date t d) (decode a .positions)) a n b
+    pub raise-done : {r : ℕ} {b : List ℕ} → isSome (holds a) ≡ true → Wrote (positionRecord (raisedAt a at q)) at a r b → Positions (booked q (decode a .positions)) a n b
     unfolding positionPart
     raise-done {b = b} h w =
         let ps : List Position = decode a .positions in
-        let y : Position = raisedAt a (positionsPlace + 24 * i) bank date t d in
+        let y : Position = raisedAt a (positionsPlace + 24 * i) q in
         let l : i < length ps = omega (arith, here .inside, m .same) in
-        let e : booked (position bank date t d) ps ≡ replaced i y ps = p .raises t d (sym f ∙ k) ∙ rw (new-transferred, new-detailed) in
+        let e : booked q ps ≡ replaced i y ps = p .raised (q .transferred) (q .detailed) (sym f ∙ k) ∙ rw (here .is) in
         let c : b ≡ laid (section positionsRoom positionRecord (replaced i y ps)) positionsPlace a =
-        section-replaced positionRecord positionsRoom ps (each-map positionRecord position-wide ps) (omega (arith, m .same, m .few)) (positions-section (holding h)) i y (position-wide y) l w in
+        section-replaced positionRecord positionsRoom ps (each-map positionRecord position-wide ps) (omega (arith, m .same, m .few)) (positions-section (holding h)) i y (position-wide y) l (rw place at w) in
         record { count = m .same ∙ rw e (sym (replaced-length i y ps l)); bytes = rw e c }
 
   -- a missing one is put in its place
   module _ (k : x ≡ false) where
-    after-place : booked (position bank date t d) (decode a .positions) ≡ inserted i (position bank date t d) (decode a .positions)
-    after-place = p .opens t d (sym f ∙ k)
+    after-place : booked q (decode a .positions) ≡ inserted i q (decode a .positions)
+    after-place = p .opened (q .transferred) (q .detailed) (sym f ∙ k)
 
-    grown : length (booked (position bank date t d) (decode a .positions)) ≡ n + 1
-    grown = rw after-place (inserted-length i (position bank date t d) (decode a .positions) (p .within) ∙ omega (arith, m .same))
+    grown : length (booked q (decode a .positions)) ≡ n + 1
+    grown = rw after-place (inserted-length i q (decode a .positions) (p .within) ∙ omega (arith, m .same))
 
-    pub insert-fits : Booking (decode a) (position bank date t d) → Opens positionsPlace 24 n i (length a)
+    pub insert-fits : Booking (decode a) q → Opens positionsPlace 24 n i (length a)
     insert-fits g = opens positionsPlace 24 n i (length a) (omega (arith, p .within, m .same)) (omega (arith, g .few, grown, m .long))
 
-    pub insert-done : {r : ℕ} {b c : List ℕ} → isSome (holds a) ≡ true → Booking (decode a) (position bank date t d)
-        → b ≡ moved (positionsPlace + 24 * i) (positionsPlace + 24 * i + 24) (24 * (n - i)) a → Wrote (positionRecord (position bank date t d)) (positionsPlace + 24 * i) b r c
-        → Positions (booked (position bank date t d) (decode a .positions)) a (n + 1) c
+    pub insert-done : {r : ℕ} {b c : List ℕ} → isSome (holds a) ≡ true → Booking (decode a) q
+        → b ≡ moved (positionsPlace + 24 * i) (positionsPlace + 24 * i + 24) (24 * (n - i)) a → Wrote (positionRecord q) at b r c → Positions (booked q (decode a .positions)) a (n + 1) c
     unfolding positionPart
     insert-done {b = b} {c = c} h g u w =
         let ps : List Position = decode a .positions in
-        let y : Position = position bank date t d in
         let v : b ≡ moved (positionsPlace + 24 * i) (positionsPlace + 24 * i + 24) (24 * (length ps - i)) a = rw (m .same) at u in
-        let e : c ≡ laid (section positionsRoom positionRecord (inserted i y ps)) positionsPlace a =
-        section-inserted positionRecord positionsRoom ps (each-map positionRecord position-wide ps) (omega (arith, m .same, m .few)) (positions-section (holding h)) i y (position-wide y) (p .within) (omega (arith, g .few, grown, m .same)) v w in
+        let e : c ≡ laid (section positionsRoom positionRecord (inserted i q ps)) positionsPlace a =
+        section-inserted positionRecord positionsRoom ps (each-map positionRecord position-wide ps) (omega (arith, m .same, m .few)) (positions-section (holding h)) i q (position-wide q) (p .within) (omega (arith, g .few, grown, m .same)) v (rw place at w) in
         record { count = sym grown; bytes = rw after-place e }
 
 -- ---- the message

@@ -19,11 +19,11 @@ use Rattle.laws.specs.Standing.{moved}
 use Rattle.laws.specs.Writing.{Wrote}
 use Rattle.laws.specs.Moving.{Opens, opens}
 use Rattle.area.specs.References.{filed-behind, filed-here}
+use Rattle.area.specs.Records.{number-within}
 use Rattle.area.specs.Checked.{NoZero, until-before, text-in, texts-some, records-length}
 use Rattle.engine.specs.Header.{HeaderOf}
 use Rattle.engine.specs.declared.header.Header.{Header}
-use Rattle.steps.specs.Numbers.{number-within}
-use Rattle.steps.specs.Records.{read-at}
+use Rattle.engine.specs.Records.{read-at}
 
 -- a bank's reference
 abbrev pub reference : ℕ → List ℕ → Reference

@@ -3,11 +3,7 @@ pub mod Header
 pub mod Opening
 pub mod Changes
 pub mod Next
-pub mod Numbers
 pub mod Turning
-pub mod Order
-pub mod Places
-pub mod Records
 pub mod Filing
 pub mod Booking
 pub mod Sets

@@ -8,7 +8,7 @@ use native.Mathlib.Omega.{arith}
 use lib.ListN.{length, drop, length-append}
 use Rattle.rules.specs.Text.{isSome}
 use Rattle.rules.specs.Engine.{Position, Reference, Engine}
-use Rattle.rules.specs.Area.{referenceRecord, positionRecord, referenceIn, header, encode, decode, holds, areaSize, positionsPlace, positionsRoom, referencesRoom}
+use Rattle.rules.specs.Area.{referenceRecord, keyBytes, positionRecord, referenceIn, header, encode, decode, holds, areaSize, positionsPlace, positionsRoom, referencesRoom}
 use Rattle.laws.specs.Digits.{places-length}
 use Rattle.laws.specs.Laid.{laid}
 use Rattle.laws.specs.Writing.{Wrote}
@@ -32,7 +32,7 @@ holding {area} h =
 -- ---- records of 24 bytes
 
 pub position-wide : (p : Position) → length (positionRecord p) ≡ 24
-unfolding positionRecord
+unfolding positionRecord keyBytes
 position-wide p = simp (length-append, places-length)
 
 kept-each : {A : Type 0} (write : A → List ℕ) (reads : List ℕ → A) {xs : List A} → All (Kept write reads) xs → Each 24 (map write xs)

@@ -5,17 +5,14 @@ use Rattle.steps.specs.Texts.{padded-wrote}
 use Rattle.steps.specs.Header.{numbers-wrote}
 use Rattle.steps.specs.Opening.{register-room, opened-wrote, opened-whole}
 use Rattle.steps.specs.Turning.{stays-not, stays-yes, turn-done}
-use Rattle.steps.specs.Places.{passed-none}
-use Rattle.steps.specs.Records.{many, low-at, high-at, early-at, late-at, walk-end, walk-on, walk-here, first-none, first-other, first-same}
-use Rattle.steps.specs.Booking.{position-wrote, raised-wrote, raise-fits, raise-done, insert-fits, insert-done, file-fits, book-done}
+use Rattle.engine.specs.Records.{many}
+use Rattle.steps.specs.Booking.{key-wrote, position-wrote, raised-small, raised-wrote, raise-fits, raise-done, insert-fits, insert-done, file-fits, book-done}
 use Rattle.steps.specs.Filing.{sender-low, sender-high, sender-same, filing-none, today, file-end, file-on, file-here, files}
 
 pub ruleset opening = (wrote-then, wrote-length, numbers-wrote, padded-wrote, register-room, opened-wrote, opened-whole)
 
 pub ruleset turning = (wrote-length, keeping-none, keeping-keep, keeping-skip, keeping-end, lowers, stays-not, stays-yes, turn-done)
 
-pub ruleset placing = (low-at, high-at, early-at, late-at, passed-none, walk-end, walk-on, walk-here, first-none, first-other, first-same)
-
-pub ruleset booking = (wrote-then, wrote-length, many, position-wrote, raised-wrote, raise-fits, raise-done, insert-fits, insert-done, today, file-fits, book-done)
+pub ruleset booking = (wrote-then, wrote-length, many, key-wrote, position-wrote, raised-small, raised-wrote, raise-fits, raise-done, insert-fits, insert-done, today, file-fits, book-done)
 
 pub ruleset filing = (wrote-then, wrote-length, sender-low, sender-high, sender-same, filing-none, file-end, file-on, file-here, files)

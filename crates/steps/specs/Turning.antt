@@ -10,7 +10,7 @@ use Rattle.rules.specs.Text.{isSome}
 use Rattle.rules.specs.Engine.{Position, Engine, hasDetails, kept}
 use Rattle.rules.specs.Written.{correctedCount}
 use Rattle.rules.specs.Calls.{afterTurn}
-use Rattle.rules.specs.Area.{zeros, padded, joined, numberAt, positionRecord, positionIn, encode, decode, holds, areaSize, positionsPlace, positionsRoom, referencesRoom}
+use Rattle.rules.specs.Area.{zeros, padded, joined, numberAt, positionRecord, positionIn, encode, decode, holds, areaSize, positionsPlace, positionsRoom, referencesRoom, detailedOffset}
 use Rattle.laws.specs.Laid.{laid}
 use Rattle.laws.specs.Writing.{Wrote}
 use Rattle.laws.specs.Sections.{Each, Each.no-record, passing, Agree, Agree.on-none, Agree.on-more, each-map}
@@ -20,12 +20,12 @@ use Rattle.area.specs.Layout.{Kept, All, All.none, All.more}
 use Rattle.area.specs.Held.{Held, positions-kept}
 use Rattle.area.specs.Sections.{referencePart, positionPart}
 use Rattle.area.specs.Positions.{kept-length}
+use Rattle.area.specs.Records.{number-within}
 use Rattle.engine.specs.Header.{HeaderOf}
 use Rattle.engine.specs.declared.header.Header.{Header}
 use Rattle.steps.specs.Header.{numbers}
 use Rattle.steps.specs.Changes.{section-passing, section-counted}
 use Rattle.steps.specs.Next.{holding, position-wide, positions-section, Fits, assembled}
-use Rattle.steps.specs.Numbers.{number-within}
 
 -- the engine after a turn to a day, with the outgoing number at a count
 unfoldable pub turned : Engine → ℕ → ℕ → Engine
@@ -45,14 +45,14 @@ undetailed p = not (hasDetails p)
 unfoldable pub stays : List ℕ → Bool
 stays r = undetailed (positionIn r)
 
-module _ (a : List ℕ) (at v : ℕ) (e : v ≡ numberAt a (at + 17) 6) where
+module _ (a : List ℕ) (at v : ℕ) (e : v ≡ numberAt a (at + detailedOffset) 6) where
   pub stays-not : 0 < v → false ≡ stays (take 24 (drop at a))
   unfolding stays undetailed hasDetails positionIn
-  stays-not h = rw (number-within a at 24 17 6 (omega arith), ← e, le-leb 1 v h)
+  stays-not h = rw (number-within a at 24 detailedOffset 6 (omega arith), ← e, le-leb 1 v h)
 
   pub stays-yes : v ≤ 0 → true ≡ stays (take 24 (drop at a))
   unfolding stays undetailed hasDetails positionIn
-  stays-yes h = rw (number-within a at 24 17 6 (omega arith), ← e, lt-leb 1 v (omega arith))
+  stays-yes h = rw (number-within a at 24 detailedOffset 6 (omega arith), ← e, lt-leb 1 v (omega arith))
 
 passing-kept : (ps : List Position) → passing undetailed ps ≡ kept ps
 unfolding passing undetailed kept

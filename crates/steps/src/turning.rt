@@ -17,7 +17,7 @@ fn stays_at(area: &[u8], at: usize) -> bool
     requires { ⌜ at + 24 ≤ length (now area) ⌝ }
     ensures { λ r. ⌜ r ≡ stays (take 24 (drop at (now (area .entry)))) ⌝ }
 {
-    let detailed = number_at(area, at + 17, 6);
+    let detailed = number_at(area, at + 18, 6);
     if detailed > 0 {
         return false;
     }

@@ -82,7 +82,7 @@ fn say_checked(s: &[u8], r: Checked, amounts: &[u64; 16]) {
         Checked::Passed(b) => {
             say_number(0);
             say_part(s, b.reference);
-            say_number(b.date as u64);
+            say_number(b.key.date as u64);
             say_number(b.amount);
             say_details(s, amounts, first_detail(s), b.count);
         }

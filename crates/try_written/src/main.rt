@@ -1,7 +1,8 @@
 // Writes texts of worked days from their numbers: the posting lines of the listing in document 01, a turn that collects from one position and refunds another, and the rows around the
 // returned details of an MT199, of its only part and of its second one.
+use position::Key;
+use position::Position;
 use written::Book;
-use written::Position;
 
 // The output up to a place.
 fn say(out: &[u8], n: usize) {
@@ -36,14 +37,12 @@ fn try_turn() {
     let mut out = [0u8; 1024];
     let bank = text::read_be(b"ZHSRPL8S", 0, 8);
     let p = Position {
-        bank,
-        date: 40305,
+        key: Key { bank, date: 40305 },
         transferred: 0,
         detailed: 106935,
     };
     let q = Position {
-        bank,
-        date: 40508,
+        key: Key { bank, date: 40508 },
         transferred: 766367971,
         detailed: 2,
     };

@@ -1,6 +1,5 @@
 // Corrections of a turn: the posting line of one, and its MT204 or MT205.
 use crate::Book;
-use crate::Position;
 use crate::fields::put_amount_field;
 use crate::fields::put_bank_field;
 use crate::fields::put_date_field;
@@ -9,13 +8,14 @@ use crate::fields::put_reference_field;
 use crate::fields::put_text_field;
 use crate::postings::put_from_bank;
 use crate::postings::put_to_bank;
+use position::Position;
 ghost use mathlib.Core.List.{_++_};
 ghost use Rattle.rules.specs.Text.{ascii, fixed};
 ghost use Rattle.rules.specs.Amounts.{withComma, withPoint};
 ghost use Rattle.rules.specs.Engine.{bic};
 ghost use Rattle.rules.specs.Written.{reference, opened, field, field72, mt204, mt205, correctionPosting, correction};
 ghost use Rattle.laws.specs.Writing.{Wrote};
-ghost use Rattle.written.specs.Values.{positionOf};
+ghost use Rattle.position.specs.Values.{positionValue};
 
 // The first row of 72: the day and the correction's number.
 fn put_baeref(out: &mut [u8], at: usize, day: u32, n: u32) -> usize
@@ -37,10 +37,10 @@ fn put_detailed_row(out: &mut [u8], at: usize, detailed: u64) -> usize
 
 // Field 72, dated with the centralisation date, and the closing line.
 fn put_field72(out: &mut [u8], at: usize, day: u32, n: u32, p: Position) -> usize
-    ensures { λ r. ⌜ Wrote (field72 day n (positionOf p)) at (now (out .entry)) r (now (out .exit)) ⌝ }
+    ensures { λ r. ⌜ Wrote (field72 day n (positionValue p)) at (now (out .entry)) r (now (out .exit)) ⌝ }
 {
     let a = put_baeref(out, at, day, n);
-    let b = put_date_field(out, a, b"/RELREF/ERRCENTRB", p.date);
+    let b = put_date_field(out, a, b"/RELREF/ERRCENTRB", p.key.date);
     let c = put::put_bytes(out, b, b"//RAZLIKA OT CENTRALIZACIA NA BS\r\n");
     let d = put_amount_field(out, c, b"//SUMA PREZ RINGS ", b'.', p.transferred);
     put_detailed_row(out, d, p.detailed)
@@ -83,11 +83,11 @@ fn put_mt204(
     p: Position,
     v: u64,
 ) -> usize
-    ensures { λ r. ⌜ Wrote (mt204 day (now (temporary .entry)) n (positionOf p) v) at (now (out .entry)) r (now (out .exit)) ⌝ }
+    ensures { λ r. ⌜ Wrote (mt204 day (now (temporary .entry)) n (positionValue p) v) at (now (out .entry)) r (now (out .exit)) ⌝ }
 {
-    let a = put_opened204(out, at, day, n, p.bank, v);
+    let a = put_opened204(out, at, day, n, p.key.bank, v);
     let b = put_temporary204(out, a, temporary, day, n);
-    let c = put_collected204(out, b, v, p.bank);
+    let c = put_collected204(out, b, v, p.key.bank);
     put_field72(out, c, day, n, p)
 }
 
@@ -121,11 +121,11 @@ fn put_parties205(out: &mut [u8], at: usize, bank: u64) -> usize
 
 // An MT205: v is refunded.
 fn put_mt205(out: &mut [u8], at: usize, day: u32, n: u32, p: Position, v: u64) -> usize
-    ensures { λ r. ⌜ Wrote (mt205 day n (positionOf p) v) at (now (out .entry)) r (now (out .exit)) ⌝ }
+    ensures { λ r. ⌜ Wrote (mt205 day n (positionValue p) v) at (now (out .entry)) r (now (out .exit)) ⌝ }
 {
-    let a = put_opened205(out, at, day, n, p.bank);
+    let a = put_opened205(out, at, day, n, p.key.bank);
     let b = put_refunded205(out, a, day, v);
-    let c = put_parties205(out, b, p.bank);
+    let c = put_parties205(out, b, p.key.bank);
     put_field72(out, c, day, n, p)
 }
 
@@ -137,12 +137,12 @@ pub fn put_correction_posting(
     temporary: &[u8],
     p: Position,
 ) -> usize
-    ensures { λ r. ⌜ Wrote (correctionPosting day (now (temporary .entry)) (positionOf p)) at (now (out .entry)) r (now (out .exit)) ⌝ }
+    ensures { λ r. ⌜ Wrote (correctionPosting day (now (temporary .entry)) (positionValue p)) at (now (out .entry)) r (now (out .exit)) ⌝ }
 {
     let book = Book {
         day,
-        bank: p.bank,
-        date: p.date,
+        bank: p.key.bank,
+        date: p.key.date,
     };
     if p.detailed <= p.transferred {
         return put_to_bank(out, at, book, temporary, p.transferred - p.detailed);
@@ -159,7 +159,7 @@ pub fn put_correction(
     n: u32,
     p: Position,
 ) -> usize
-    ensures { λ r. ⌜ Wrote (correction day (now (temporary .entry)) n (positionOf p)) at (now (out .entry)) r (now (out .exit)) ⌝ }
+    ensures { λ r. ⌜ Wrote (correction day (now (temporary .entry)) n (positionValue p)) at (now (out .entry)) r (now (out .exit)) ⌝ }
 {
     if p.detailed <= p.transferred {
         return put_mt205(out, at, day, n, p, p.transferred - p.detailed);

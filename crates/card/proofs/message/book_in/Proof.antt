@@ -10,14 +10,11 @@ cast-book-area c = search (sending, needs)
 cast-book-area-2 : tie.Need-cast-book-area-2
 cast-book-area-2 c = search (sending, needs)
 
-transferred-by-requires : tie.Need-transferred-by-requires
-transferred-by-requires c κs = search (sending, needs)
-
-detailed-by-requires : tie.Need-detailed-by-requires
-detailed-by-requires c κs = search (sending, needs)
+added-by-requires : tie.Need-added-by-requires
+added-by-requires c κs = search (sending, needs)
 
 book-area-requires : tie.Need-book-area-requires
-book-area-requires c κs = let p = (c .before .before .before .before .before .before .before .before .pre) in (p .0, (booking-of _ _ (p .0) _ (p .1 .0) (c .before .transferred-by .ensures) (c .detailed-by .ensures) (p .1 .1 .0), (search needs, (search needs, (search needs, p .1 .0 .text)))))
+book-area-requires c κs = let p = (c .before .before .before .before .before .before .before .pre) in (p .0, (booking-of _ _ (p .0) _ (p .1 .0) (c .added-by .ensures) (p .1 .1 .0), (search needs, (search needs, (search needs, p .1 .0 .text)))))
 
 same-length : tie.Need-same-length
 same-length c = search (sending, needs)
@@ -31,8 +28,7 @@ book-in-spec =
     (tie.spec
     cast-book-area
     cast-book-area-2
-    transferred-by-requires
-    detailed-by-requires
+    added-by-requires
     book-area-requires
     same-length
     returns)

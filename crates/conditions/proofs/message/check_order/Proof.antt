@@ -19,8 +19,8 @@ order-stop-requires c κs = search (checking, needs)
 behind-requires : tie.Need-behind-requires
 behind-requires c κs = search (checking, needs)
 
-order-booking-requires : tie.Need-order-booking-requires
-order-booking-requires c κs = search (checking, needs)
+booking-of-requires : tie.Need-booking-of-requires
+booking-of-requires c κs = search (checking, needs)
 
 returns : tie.Need-returns
 returns c = search (checking, needs)
@@ -43,7 +43,7 @@ check-order-spec =
     tally-details-requires
     order-stop-requires
     behind-requires
-    order-booking-requires
+    booking-of-requires
     returns
     returns-2
     returns-3

@@ -16,8 +16,8 @@ element-copy-out-behind c = search (checking, needs)
 behind-requires : tie.Need-behind-requires
 behind-requires c κs = search (checking, needs)
 
-transfer-booking-requires : tie.Need-transfer-booking-requires
-transfer-booking-requires c κs = search (checking, needs)
+booking-of-requires : tie.Need-booking-of-requires
+booking-of-requires c κs = search (checking, needs)
 
 returns : tie.Need-returns
 returns c = search (checking, needs)
@@ -36,7 +36,7 @@ check-transfer-spec =
     transfer-stop-requires
     element-copy-out-behind
     behind-requires
-    transfer-booking-requires
+    booking-of-requires
     returns
     returns-2
     returns-3)

@@ -1,46 +1,34 @@
--- The four numbers of a record. Assumes nothing.
+-- The key of a record and its two totals. Assumes nothing.
 use Rattle.engine.specs.Positions.{position-read}
 use borrow.Author.Needs.{needs}
 use Rattle.engine.proofs.positions.position_at.Statement.{statement}
 use Rattle.engine.proofs.positions.position_at.Tie as tie
 
-number-at-requires : tie.Need-number-at-requires
-number-at-requires c κs = search needs
+key-at-requires : tie.Need-key-at-requires
+key-at-requires c κs = search needs
 
 add-number-at : tie.Need-add-number-at
 add-number-at c = search needs
 
-number-at-requires-2 : tie.Need-number-at-requires-2
-number-at-requires-2 c κs = search needs
+number-at-requires : tie.Need-number-at-requires
+number-at-requires c κs = search needs
 
 add-number-at-2 : tie.Need-add-number-at-2
 add-number-at-2 c = search needs
 
-number-at-requires-3 : tie.Need-number-at-requires-3
-number-at-requires-3 c κs = search needs
-
-add-number-at-3 : tie.Need-add-number-at-3
-add-number-at-3 c = search needs
-
-number-at-requires-4 : tie.Need-number-at-requires-4
-number-at-requires-4 c κs = search needs
-
-cast-t8 : tie.Need-cast-t8
-cast-t8 c = search needs
+number-at-requires-2 : tie.Need-number-at-requires-2
+number-at-requires-2 c κs = search needs
 
 returns : tie.Need-returns
-returns c = search (position-read, needs)
+returns c = position-read _ _ (search needs) (search needs) (search needs)
 
 pub position-at-spec : {M : Type 1} → statement M
 position-at-spec =
     tie.close
     (tie.spec
-    number-at-requires
+    key-at-requires
     add-number-at
-    number-at-requires-2
+    number-at-requires
     add-number-at-2
-    number-at-requires-3
-    add-number-at-3
-    number-at-requires-4
-    cast-t8
+    number-at-requires-2
     returns)

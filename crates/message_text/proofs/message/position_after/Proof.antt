@@ -9,18 +9,18 @@ use Rattle.message_text.proofs.message.position_after.Tie as tie
 transferred-by-requires : tie.Need-transferred-by-requires
 transferred-by-requires c κs = search needs
 
-add-t4 : tie.Need-add-t4
-add-t4 c = omega (arith, amount-part ((c .before .before .args .b .transfer)) ((c .before .before .args .b .amount)))
+add-t5 : tie.Need-add-t5
+add-t5 c = omega (arith, amount-part ((c .before .before .before .args .b .transfer)) ((c .before .before .before .args .b .amount)))
 
 detailed-by-requires : tie.Need-detailed-by-requires
 detailed-by-requires c κs = search needs
 
-add-t6 : tie.Need-add-t6
-add-t6 c = omega (arith, amount-part (not ((c .before .before .before .before .args .b .transfer))) ((c .before .before .before .before .args .b .amount)))
+add-t7 : tie.Need-add-t7
+add-t7 c = omega (arith, amount-part (not ((c .before .before .before .before .before .args .b .transfer))) ((c .before .before .before .before .before .args .b .amount)))
 
 returns : tie.Need-returns
 returns c = search needs
 
 pub position-after-spec : {M : Type 1} → statement M
 position-after-spec =
-    tie.close (tie.spec transferred-by-requires add-t4 detailed-by-requires add-t6 returns)
+    tie.close (tie.spec transferred-by-requires add-t5 detailed-by-requires add-t7 returns)

@@ -59,10 +59,10 @@ use Rattle.outgoing_number.proofs.issue as g
 use Rattle.outgoing_number.proofs.issue.Symbol as g-def
 use Rattle.outgoing_number.proofs.issue.Symbol.{name as #issue}
 use Rattle.outgoing_number.proofs.issue.Met as g-thm
-use Rattle.written.specs.Values.{positionOf}
-use Rattle.written.specs.declared.Position.{Position}
-use Rattle.written.proofs.Position as P
-use Rattle.written.proofs.Position.Laws as P′
+use Rattle.position.specs.Values.{positionValue}
+use Rattle.position.specs.declared.Position.{Position}
+use Rattle.position.proofs.Position as P
+use Rattle.position.proofs.Position.Laws as P′
 use Rattle.message_text.specs.Parts.{PartsDue, PartPut, PartsLeft, parts-start, parts-room, part-due, parts-long, parts-turn, parts-end}
 use Rattle.message_text.specs.declared.verdicts.Parting.{Parting}
 use Rattle.message_text.proofs.verdicts.Parting as C
@@ -102,7 +102,7 @@ record State (day count : ℕ) (w : From) (at : ℕ) (start : List ℕ) : Type 0
   pub o : Outgoing
   pub t : Parting
   pub out : List ℕ
-  pub todo : PartsLeft day count (positionOf (w .position)) (w .parts) (w .message .now) (w .places .now) (w .verdicts .now) (w .details) at start o t out
+  pub todo : PartsLeft day count (positionValue (w .position)) (w .parts) (w .message .now) (w .places .now) (w .verdicts .now) (w .details) at start o t out
   pub day-fits : o .day < 2 ^ 32
   pub count-fits : o .count < 2 ^ 32
   pub fit : Fits t
@@ -245,8 +245,8 @@ module _ {M : Type 1} (𝓤 : URA M) (H : Heap 𝓤) (A : Atoms 𝓤) (W : Given
         nothing ! $ nothing ! $ fjoin ! $ nothing ! $ fjoin ! $ nothing ! $ fjoin ! $ nothing ! $ fjoin ! $ nothing ! $ fjoin ! $ nothing ! $ fjoin ! $ nothing ! $ fjoin ! $ nothing ! $ fjoin ! $ nothing ! $ fjoin ! $ nothing ! $ fjoin ! $ move ! (1 ∷ 0 ∷ []) $ fjoin ! $ frame ! $
         owned ! N.the-row (Is N.the-row) (LL.makes N.the-type N′.the-plain 𝓤 H A) (answer h) _ (LL.owes N.the-type N′.the-laws (answer h) ((refl, h .fit .out), ((refl, h .count-fits), tt))) $ done !
 
-    all-left : PartsLeft day count (positionOf (w .position)) (w .parts) (w .message .now) (w .places .now) (w .verdicts .now) (w .details) at start (record { day = day; count = count }) (record { out = at; detail = 0; left = w .parts; first = 0 }) start
-    all-left = parts-start day count (positionOf (w .position)) (w .parts) (w .message .now) (w .places .now) (w .verdicts .now) (w .details) at start ok (omega (arith, fits .1))
+    all-left : PartsLeft day count (positionValue (w .position)) (w .parts) (w .message .now) (w .places .now) (w .verdicts .now) (w .details) at start (record { day = day; count = count }) (record { out = at; detail = 0; left = w .parts; first = 0 }) start
+    all-left = parts-start day count (positionValue (w .position)) (w .parts) (w .message .now) (w .places .now) (w .verdicts .now) (w .details) at start ok (omega (arith, fits .1))
 
     abbrev begins : Here
     begins = record {
@@ -324,7 +324,7 @@ module _ {M : Type 1} (𝓤 : URA M) (H : Heap 𝓤) (A : Atoms 𝓤) (W : Given
           move ! (3 ∷ 5 ∷ []) $ join ! $ use1 W (raw (Tokens 𝓤 H A p.ended (p.clauses 𝓤 H A at-mem run) (to-part (h .out) (h .t) r ν δ))) (id⊢ 𝓤 _) $
           calls-last ! (fmOf 𝓤 H (W .laws) 𝓣) p.ended (p.clauses 𝓤 H A at-mem run) puts (to-part (h .out) (h .t) r ν δ) (factI 𝓤 _ (emp 𝓤) (part-due (h .todo) left e))
           (and-then ! (load ! (from ! (stop !)) (look ! 6 refl)) (and-then ! (load ! (from ! (stop !)) (look ! 16 refl)) (and-then ! (load ! (from ! (stop !)) (look ! 14 refl)) (and-then ! (load ! (from ! (stop !)) (look ! 31 refl)) (and-then ! (load ! (from ! (stop !)) (look ! 29 refl)) (and-then ! (load ! (from ! (stop !)) (look ! 27 refl)) (and-then ! (load ! (from ! (stop !)) (look ! 25 refl)) (and-then ! (load ! (from ! (stop !)) (look ! 23 refl)) (and-then ! (load ! (from ! (stop !)) (look ! 21 refl)) (and-then ! (load ! (from ! (stop !)) (look ! 19 refl)) (no-more !)))))))))))
-          (λ t' zs. PartPut r (positionOf (w .position)) (w .parts) (w .message .now) (w .verdicts .now) (w .details) (h .t) (h .out) t' (zs .0)) (λ t' zs. id⊢ 𝓤 _) (λ v₁ t' zs y is₁.
+          (λ t' zs. PartPut r (positionValue (w .position)) (w .parts) (w .message .now) (w .verdicts .now) (w .details) (h .t) (h .out) t' (zs .0)) (λ t' zs. id⊢ 𝓤 _) (λ v₁ t' zs y is₁.
           -- [the tokens; what the result owns; the last list; shared; what is kept meanwhile; _12; _19; …]
           use1 W (‵ (flft (ν ∷ []) fullShare) ⊛ tokens) (id⊢ 𝓤 _) $ split ! $ move ! (3 ∷ []) $ fsplit ! $ fsplit ! $ move ! (1 ∷ []) $ feqL ! (λ l.
           -- [the last list; true; the lifetime; the other tokens; what the result owns; shared; what is kept meanwhile; _12; _19; …]
@@ -336,7 +336,7 @@ module _ {M : Type 1} (𝓤 : URA M) (H : Heap 𝓤) (A : Atoms 𝓤) (W : Given
           keep ! (0 ∷ 1 ∷ 3 ∷ 2 ∷ 5 ∷ 6 ∷ 7 ∷ 8 ∷ 9 ∷ 10 ∷ 11 ∷ 12 ∷ 13 ∷ 14 ∷ 15 ∷ 16 ∷ 17 ∷ 18 ∷ 4 ∷ 19 ∷ 20 ∷ 21 ∷ 22 ∷ 23 ∷ 24 ∷ 25 ∷ 26 ∷ 27 ∷ 28 ∷ 29 ∷ 30 ∷ 31 ∷ 32 ∷ 33 ∷ 34 ∷ 35 ∷ 36 ∷ 37 ∷ 38 ∷ 39 ∷ 40 ∷ 41 ∷ 42 ∷ 43 ∷ []) $
           again ! Fewer At h (next h left r o' e t' (zs .0) y (fits-of t' _ is₁)) (less h left t' (y .fewer))))))
         where
-          next : (h : Here) → 0 < h .t .left → (r : Reference) (o' : Outgoing) → Steps (h .o) r o' → (t' : Parting) (zs : List ℕ) → PartPut r (positionOf (w .position)) (w .parts) (w .message .now) (w .verdicts .now) (w .details) (h .t) (h .out) t' zs → Fits t' → Here
+          next : (h : Here) → 0 < h .t .left → (r : Reference) (o' : Outgoing) → Steps (h .o) r o' → (t' : Parting) (zs : List ℕ) → PartPut r (positionValue (w .position)) (w .parts) (w .message .now) (w .verdicts .now) (w .details) (h .t) (h .out) t' zs → Fits t' → Here
           next h left r o' e t' zs y t'-fits = record {
             o = o';
             t = t';

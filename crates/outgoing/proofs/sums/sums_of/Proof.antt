@@ -5,22 +5,22 @@ use Rattle.outgoing.proofs.sums.sums_of.Statement.{statement}
 use Rattle.outgoing.proofs.sums.sums_of.Tie as tie
 
 abbrev Inv-loop : tie.InvT-loop
-Inv-loop area n s₀ p₀ k₀ s p k = SumsLeft area p k n s
+Inv-loop area n s₀ i₀ k₀ s i k = SumsLeft area i k n s
 
 abbrev μ-loop : tie.MeasureT-loop
-μ-loop area n s₀ p₀ k₀ s p k = k
+μ-loop area n s₀ i₀ k₀ s i k = k
 
 loop-holds : tie.Need-loop-holds Inv-loop μ-loop
 loop-holds c = search (summing, needs)
 
-position-at-requires : tie.Need-position-at-requires Inv-loop μ-loop
-position-at-requires c κs = search (summing, needs)
+nth-position-requires : tie.Need-nth-position-requires Inv-loop μ-loop
+nth-position-requires c κs = search (summing, needs)
 
 with-position-requires : tie.Need-with-position-requires Inv-loop μ-loop
 with-position-requires c κs = search (summing, needs)
 
-add-p : tie.Need-add-p Inv-loop μ-loop
-add-p c = search (summing, needs)
+add-i : tie.Need-add-i Inv-loop μ-loop
+add-i c = search (summing, needs)
 
 sub-k : tie.Need-sub-k Inv-loop μ-loop
 sub-k c = search (summing, needs)
@@ -41,9 +41,9 @@ sums-of-spec =
     Inv-loop
     μ-loop
     loop-holds
-    position-at-requires
+    nth-position-requires
     with-position-requires
-    add-p
+    add-i
     sub-k
     loop-less
     loop-again

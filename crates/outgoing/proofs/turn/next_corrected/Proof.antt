@@ -1,23 +1,20 @@
--- The loop's invariant: of the positions before p none is to correct. Assumes nothing.
+-- The loop's invariant: of the positions before the i-th none is to correct. Assumes nothing.
 use borrow.Author.Needs.{needs}
 use Rattle.outgoing.specs.Turn.{Seeking, turning}
 use Rattle.outgoing.proofs.turn.next_corrected.Statement.{statement}
 use Rattle.outgoing.proofs.turn.next_corrected.Tie as tie
 
 abbrev Inv-loop : tie.InvT-loop
-Inv-loop area out from left p₀ k₀ p k = Seeking area from left p k
+Inv-loop area out from left i₀ k₀ i k = Seeking area from left i k
 
 abbrev μ-loop : tie.MeasureT-loop
-μ-loop area out from left p₀ k₀ p k = k
+μ-loop area out from left i₀ k₀ i k = k
 
 loop-holds : tie.Need-loop-holds Inv-loop μ-loop
 loop-holds c = search (turning, needs)
 
-cast-position-at : tie.Need-cast-position-at Inv-loop μ-loop
-cast-position-at c = search (turning, needs)
-
-position-at-requires : tie.Need-position-at-requires Inv-loop μ-loop
-position-at-requires c κs = search (turning, needs)
+nth-position-requires : tie.Need-nth-position-requires Inv-loop μ-loop
+nth-position-requires c κs = search (turning, needs)
 
 is-corrected-requires : tie.Need-is-corrected-requires Inv-loop μ-loop
 is-corrected-requires c κs = search (turning, needs)
@@ -25,8 +22,8 @@ is-corrected-requires c κs = search (turning, needs)
 returns : tie.Need-returns Inv-loop μ-loop
 returns c = search (turning, needs)
 
-add-p : tie.Need-add-p Inv-loop μ-loop
-add-p c = search (turning, needs)
+add-i : tie.Need-add-i Inv-loop μ-loop
+add-i c = search (turning, needs)
 
 sub-k : tie.Need-sub-k Inv-loop μ-loop
 sub-k c = search (turning, needs)
@@ -47,11 +44,10 @@ next-corrected-spec =
     Inv-loop
     μ-loop
     loop-holds
-    cast-position-at
-    position-at-requires
+    nth-position-requires
     is-corrected-requires
     returns
-    add-p
+    add-i
     sub-k
     loop-less
     loop-again

@@ -4,20 +4,11 @@ use borrow.Author.Needs.{needs}
 use Rattle.outgoing.proofs.turn.put_next.Statement.{statement}
 use Rattle.outgoing.proofs.turn.put_next.Tie as tie
 
-cast-position-at : tie.Need-cast-position-at
-cast-position-at c = search (turning, needs)
+nth-position-requires : tie.Need-nth-position-requires
+nth-position-requires c κs = search (turning, needs)
 
-position-at-requires : tie.Need-position-at-requires
-position-at-requires c κs = search (turning, needs)
-
-sub-put-correction : tie.Need-sub-put-correction
-sub-put-correction c = search (turning, needs)
-
-part-put-correction-start : tie.Need-part-put-correction-start
-part-put-correction-start c = search (turning, needs)
-
-part-put-correction-end : tie.Need-part-put-correction-end
-part-put-correction-end c = search (turning, needs)
+temporary-requires : tie.Need-temporary-requires
+temporary-requires c κs = search (turning, needs)
 
 put-correction-requires : tie.Need-put-correction-requires
 put-correction-requires c κs = search (turning, needs)
@@ -41,11 +32,8 @@ pub put-next-spec : {M : Type 1} → statement M
 put-next-spec =
     tie.close
     (tie.spec
-    cast-position-at
-    position-at-requires
-    sub-put-correction
-    part-put-correction-start
-    part-put-correction-end
+    nth-position-requires
+    temporary-requires
     put-correction-requires
     add-next-corrected
     sub-next-corrected

@@ -1,5 +1,5 @@
--- A message booked: positions, references and numbers are those of the engine then, and all else stays. Assumes nothing.
-use Rattle.steps.specs.Booking.{file-fits, book-done}
+use Rattle.steps.specs.Booking.{book-done}
+-- The position, the reference and the numbers of the header, one after the other. Assumes nothing.
 use Rattle.steps.specs.Sets.{booking}
 use borrow.Author.Needs.{needs}
 use Rattle.steps.proofs.booking.book_area.Statement.{statement}
@@ -15,7 +15,7 @@ book-position-requires : tie.Need-book-position-requires
 book-position-requires c κs = search (booking, needs)
 
 file-reference-requires : tie.Need-file-reference-requires
-file-reference-requires c κs = let p = (c .before .before .before .before .before .before .before .before .before .before .before .pre) in ((c .before .before .before .before .before .before .before .header-of .ensures .today), (file-fits _ _ _ _ _ _ _ 0 (p .0) (c .before .before .before .before .before .before .before .header-of .ensures) (p .1 .0) (c .before .before .before .before .before .reference-place .ensures) (c .before .before .before .book-position .ensures), (p .1 .1 .0, (p .1 .1 .1 .0, p .1 .1 .1 .1 .0))))
+file-reference-requires c κs = search (booking, needs)
 
 add-put-numbers : tie.Need-add-put-numbers
 add-put-numbers c = search (booking, needs)

@@ -1,5 +1,5 @@
--- An open position is raised at its place; a missing one is put there, those behind it moved up. Assumes nothing.
 use Rattle.steps.specs.Booking.{raise-fits, insert-done}
+-- An open position is raised at its place; a missing one is put there, those behind it moved up. Assumes nothing.
 use Rattle.steps.specs.Sets.{booking}
 use borrow.Author.Needs.{needs}
 use Rattle.steps.proofs.booking.book_position.Statement.{statement}
@@ -8,20 +8,14 @@ use Rattle.steps.proofs.booking.book_position.Tie as tie
 place-of-requires : tie.Need-place-of-requires
 place-of-requires c κs = search (booking, needs)
 
-mul-at : tie.Need-mul-at
-mul-at c = search (booking, needs)
-
-add-at : tie.Need-add-at
-add-at c = search (booking, needs)
-
-cast-at : tie.Need-cast-at
-cast-at c = search (booking, needs)
+position-place-requires : tie.Need-position-place-requires
+position-place-requires c κs = search (booking, needs)
 
 is-at-requires : tie.Need-is-at-requires
 is-at-requires c κs = search (booking, needs)
 
 raise-requires : tie.Need-raise-requires
-raise-requires c κs = raise-fits _ (c .before .before .before .before .before .before .before .args .n) _ _ _ _ _ (search needs) (c .before .before .before .before .place-of .ensures) _ (c .before .before .is-at .ensures) (search needs) (search needs)
+raise-requires c κs = let p = (c .before .before .before .before .before .before .before .before .pre) in raise-fits _ _ _ _ (p .1 .0) (c .before .before .before .before .before .place-of .ensures) _ (c .before .before .before .before .position-place .ensures) _ (c .before .before .is-at .ensures) (search needs) (p .1 .1)
 
 same-length : tie.Need-same-length
 same-length c = search (booking, needs)
@@ -42,16 +36,14 @@ same-length-2 : tie.Need-same-length-2
 same-length-2 c = search (booking, needs)
 
 returns-2 : tie.Need-returns-2
-returns-2 c = insert-done _ _ _ _ _ _ _ (search needs) (c .before .before .before .before .before .before .before .before .before .before .before .place-of .ensures) _ (c .before .before .before .before .before .before .before .before .before .is-at .ensures) (search needs) (search needs) (search needs) (c .before .before .before .before .before .before .open-record .ensures) (c .before .before .put-position .ensures)
+returns-2 c = let p = (c .before .before .before .before .before .before .before .before .before .before .before .before .before .before .before .pre) in insert-done _ _ _ _ (p .1 .0) (c .before .before .before .before .before .before .before .before .before .before .before .before .place-of .ensures) _ (c .before .before .before .before .before .before .before .before .before .before .before .position-place .ensures) _ (c .before .before .before .before .before .before .before .before .before .is-at .ensures) (search needs) (p .0) (p .1 .1) (c .before .before .before .before .before .before .open-record .ensures) (c .before .before .put-position .ensures)
 
 pub book-position-spec : {M : Type 1} → statement M
 book-position-spec =
     tie.close
     (tie.spec
     place-of-requires
-    mul-at
-    add-at
-    cast-at
+    position-place-requires
     is-at-requires
     raise-requires
     same-length
