@@ -69,6 +69,10 @@ _Noreturn void host_end(const char *why, int status) {
   }
 }
 
+void line_fault(void) { host_end("fault: no memory there (the stack ran over), or no such instruction\n", 3); }
+
+void host_faults_where_not_aligned(void) { *(volatile uint32_t *)0xe000ed14 |= 1u << 3; }
+
 /* The board's first timer goes down at 25 MHz, one step in 40 ns, and the emulator lets each instruction take 64 ns
  * (`-icount shift=6`), so that a step is less than an instruction: the number of instructions is exact. */
 static volatile uint32_t *const timer = (volatile uint32_t *)0x40000000;

@@ -23,6 +23,12 @@ void host_words(char *words, size_t n);
 /* Says why on the emulator's console where there is something to say, and ends it: status 0 is good. */
 _Noreturn void host_end(const char *why, int status);
 
+/* The emulated board has a Cortex-M3; from here on a word or half-word at an odd address faults, as it does on a Cortex-M0+. */
+void host_faults_where_not_aligned(void);
+
+/* Runs the function with the stack pointer at `top` (start.S). */
+void on_card_stack(void (*function)(void), void *top);
+
 /* Starts the counter, and reads how many instructions have run since. */
 void host_count_from_here(void);
 uint32_t host_counted(void);

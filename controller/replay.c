@@ -14,8 +14,6 @@
 /* The card's own RAM: the linker script places these. */
 extern uint8_t card_stack[], card_stack_top[], card_area[];
 
-void on_card_stack(void (*function)(void), void *top);
-
 /* Everything of the line card is in other memory. */
 static uint8_t input[1 << 20], output[CARD_OUTPUT], before[CARD_AREA];
 static struct command command;
@@ -114,13 +112,8 @@ static int read_words(void) {
   return *w == 'd';
 }
 
-void line_fault(void) { host_end("fault: no memory there (the stack ran over), or no such instruction\n", 3); }
-
-/* The emulated board has a Cortex-M3; this bit lets a word or half-word at an odd address fault, as it does on a Cortex-M0+. */
-static void fault_where_not_aligned(void) { *(volatile uint32_t *)0xe000ed14 |= 1u << 3; }
-
 void line_card(void) {
-  fault_where_not_aligned();
+  host_faults_where_not_aligned();
   int damaged = read_words();
   size_t size = host_read(host_open_to_read("input"), input, sizeof input), at = 0;
   output_file = host_open_to_write("output");
