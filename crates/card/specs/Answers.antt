@@ -1,10 +1,18 @@
 -- What a call answers: number, bytes written, difference, area and output equal what document 01 gives.
-use mathlib.Core.Path.{_≡_}
-use mathlib.Core.List.{List}
+use mathlib.Core.Path.{_≡_, refl}
+use mathlib.Core.Bool.{false}
+use mathlib.Core.List.{List, _++_}
+use mathlib.Core.Option.{Option, some}
 use Prim.Native.Nat.{ℕ, _<_, _^_}
-use lib.IntN.{ℤ}
+use lib.Dec.{eqb, lit<}
+use lib.IntN.{ℤ, pos}
+use lib.ListN.{length, drop}
 use lib.Signed.{mag}
-use Rattle.rules.specs.Area.{Result}
+use Rattle.rules.specs.Text.{over}
+use Rattle.rules.specs.Engine.{Engine}
+use Rattle.rules.specs.Calls.{Stop, firstOf, Answer, answered}
+use Rattle.rules.specs.Area.{Result, encode, stored, onAreas, areaSize}
+use Rattle.rule_laws.specs.Conditions.{answered-refused, answered-accepted}
 
 pub record Answers (r : Result) (k n : ℕ) (d : ℤ) (a out : List ℕ) : Type 0 where
   pub number : k ≡ r .number
@@ -13,3 +21,15 @@ pub record Answers (r : Result) (k n : ℕ) (d : ℤ) (a out : List ℕ) : Type 
   pub area : a ≡ r .area
   pub output : out ≡ r .output
   pub small : mag d < 2 ^ 63
+
+-- ---- any call, by its conditions
+
+module _ (ss : List Stop) (held : Option Engine) (a : Answer) (area out : List ℕ) where
+  pub answers-refused : (k : ℕ) → firstOf ss ≡ k → eqb k 0 ≡ false → Answers (onAreas (answered ss held a) area out) k 0 (pos 0) area out
+  unfolding onAreas
+  answers-refused k e n = rw (answered-refused ss held a k e n, n) record { number = refl; written = refl; difference = refl; area = refl; output = refl; small = lit< tt }
+
+  pub answers-accepted : {text : List ℕ} {d : ℤ} {next : Engine} → firstOf ss ≡ 0 → a ≡ record { number = 0; text = text; difference = d; next = some next } → {n : ℕ} {z : ℤ} {area' out' : List ℕ}
+      → n ≡ length text → z ≡ d → area' ≡ encode next ++ drop areaSize area → out' ≡ over text out → mag z < 2 ^ 63 → Answers (onAreas (answered ss held a) area out) 0 n z area' out'
+  unfolding onAreas stored
+  answers-accepted e f w d r o m = rw (answered-accepted ss held a e, f) record { number = refl; written = w; difference = d; area = r; output = o; small = m }

@@ -1,6 +1,5 @@
 pub mod Answers
 pub mod Minus
-pub mod Stops
 pub mod Held
 pub mod Opening
 pub mod Message

@@ -14,18 +14,19 @@ use Rattle.rules.specs.Text.{isSome, over}
 use Rattle.rules.specs.Messages.{Message, read}
 use Rattle.rules.specs.Register.{registerOf}
 use Rattle.rules.specs.Engine.{Engine, Position}
-use Rattle.rules.specs.Calls.{stop, firstOf, holdsOf, noRoom, overLimit, bankOf, added, inputStops, stateStops, messageStops, messageText, writes, after, afterMessage, messageCall, bothOf, acceptedMessage, refused}
-use Rattle.rules.specs.Area.{cardMessage, onAreas, stored, encode, decode, holds, areaSize}
+use Rattle.rules.specs.Calls.{firstOf, holdsOf, bankOf, added, formStops, inputStops, limitStops, roomStops, stateStops, messageStops, messageText, writes, after, afterMessage, messageCall, bothOf, acceptedMessage}
+use Rattle.rules.specs.Area.{cardMessage, encode, decode, holds, areaSize}
 use Rattle.laws.specs.Parts.{cut}
 use Rattle.laws.specs.Tests.{held-told}
 use Rattle.laws.specs.Writing.{wrote-over, furthest}
-use Rattle.area.specs.Facts.{Passed, passed}
-use Rattle.area.specs.Held.{held}
+use Rattle.rule_laws.specs.Conditions.{numbered, first-later, first-earlier}
+use Rattle.rule_laws.specs.Clear.{LimitClear, limit-clear}
+use Rattle.engine_laws.specs.Held.{held}
 use Rattle.engine.specs.Totals.{TotalsOf}
 use Rattle.engine.specs.Texts.{RegisterOf}
 use Rattle.engine.specs.declared.held.Totals.{Totals}
-use Rattle.steps.specs.Booking.{Booking as CanBook, booking-clear, bookedWith, booked-after}
-use Rattle.steps.specs.Filing.{reference}
+use Rattle.engine_change.specs.Booking.{Booking as CanBook, booking-clear, bookedWith, booked-after}
+use Rattle.engine_change.specs.Filing.{reference}
 use Rattle.outgoing_number.specs.declared.Numbered.{Numbered}
 use Rattle.details.specs.Message.{messageIn}
 use Rattle.details.specs.Kept.{Room}
@@ -35,14 +36,13 @@ use Rattle.conditions.specs.declared.booking.Booking.{Booking}
 use Rattle.conditions.specs.declared.message.Checked.{Checked}
 use Rattle.conditions.specs.declared.message.Checked.the-variants.{Refused}
 use Rattle.verdict.specs.Details.{VerdictsIn, JudgedIn}
-use Rattle.state.specs.Stops.{limitStops, addedBy}
+use Rattle.state_conditions.specs.Stops.{addedBy}
 use Rattle.detail_lines.specs.Returned.{ReturnedCount}
 use Rattle.message_text.specs.Message.{AfterOf, amount-part, after-is, WritesOf, Writes, writes-told, TextPut}
 use Rattle.position.specs.Values.{keyValue, positionValue}
 use Rattle.position.specs.declared.Position as P
-use Rattle.card.specs.Answers.{Answers}
+use Rattle.card.specs.Answers.{Answers, answers-refused, answers-accepted}
 use Rattle.card.specs.Minus.{difference-small}
-use Rattle.card.specs.Stops.{numbered, first-later, first-earlier}
 use Rattle.card.specs.Held.{held-decode, wrote-exact, Measured, measured, size-long, size-fits}
 
 -- the temporary account of an engine
@@ -51,8 +51,8 @@ temporaryOf e = registerOf (e .register) .temporary
 
 module _ (s area out : List ℕ) where
   refusal : (k : ℕ) → firstOf (messageStops (length out) (holds area) s) ≡ k → eqb k 0 ≡ false → Answers (cardMessage s area out) k 0 (pos 0) area out
-  unfolding cardMessage messageCall onAreas
-  refusal k e n = record { number = rw (e, n, n) refl; written = rw (e, n, n) refl; difference = rw (e, n, n) refl; area = rw (e, n, n) refl; output = rw (e, n, n) refl; small = lit< tt }
+  unfolding cardMessage messageCall
+  refusal = answers-refused (messageStops (length out) (holds area) s) (holds area) (bothOf (holds area) (read s)) area out
 
   pub message-engine : isSome (holds area) ≡ false → Answers (cardMessage s area out) 10 0 (pos 0) area out
   unfolding firstOf messageStops
@@ -64,42 +64,38 @@ module _ (s area out : List ℕ) where
     stops-are = rw h refl
 
     inputs-numbered : numbered (inputStops (temporaryOf e) s) ≡ true
-    unfolding numbered inputStops
+    unfolding numbered inputStops formStops
     inputs-numbered = refl
 
     pub message-input : (k : ℕ) → firstOf (inputStops (temporaryOf e) s) ≡ k → eqb k 0 ≡ false → Answers (cardMessage s area out) k 0 (pos 0) area out
     message-input k i n = refusal k (stops-are ∙ first-earlier _ _ k i n) n
 
     module _ (m : Message) (i : firstOf (inputStops (temporaryOf e) s) ≡ 0) (r : read s ≡ some m) where
-      state-are : firstOf (messageStops (length out) (holds area) s) ≡ firstOf (limitStops e m ++ (stop 16 (not (leb (length (messageText e m)) (length out))) ∷ []))
-      unfolding limitStops stateStops holdsOf
+      state-are : firstOf (messageStops (length out) (holds area) s) ≡ firstOf (limitStops e (some m) ++ roomStops (length out) e (some m))
+      unfolding stateStops
       state-are = stops-are ∙ first-later _ _ inputs-numbered i ∙ rw r refl
 
-      limits-numbered : numbered (limitStops e m) ≡ true
+      limits-numbered : numbered (limitStops e (some m)) ≡ true
       unfolding numbered limitStops
       limits-numbered = refl
 
-      pub message-state : (k : ℕ) → firstOf (limitStops e m) ≡ k → eqb k 0 ≡ false → Answers (cardMessage s area out) k 0 (pos 0) area out
+      pub message-state : (k : ℕ) → firstOf (limitStops e (some m)) ≡ k → eqb k 0 ≡ false → Answers (cardMessage s area out) k 0 (pos 0) area out
       message-state k l n = refusal k (state-are ∙ first-earlier _ _ k l n) n
 
-      pub message-room : firstOf (limitStops e m) ≡ 0 → length out < length (messageText e m) → Answers (cardMessage s area out) 16 0 (pos 0) area out
-      unfolding firstOf
+      pub message-room : firstOf (limitStops e (some m)) ≡ 0 → length out < length (messageText e m) → Answers (cardMessage s area out) 16 0 (pos 0) area out
+      unfolding firstOf roomStops holdsOf
       message-room l w = refusal 16 (state-are ∙ first-later _ _ limits-numbered l ∙ rw (lt-leb _ _ w) refl) refl
 
-      none-holds : firstOf (limitStops e m) ≡ 0 → length (messageText e m) ≤ length out → firstOf (messageStops (length out) (holds area) s) ≡ 0
-      unfolding firstOf
+      none-holds : firstOf (limitStops e (some m)) ≡ 0 → length (messageText e m) ≤ length out → firstOf (messageStops (length out) (holds area) s) ≡ 0
+      unfolding firstOf roomStops holdsOf
       none-holds l w = state-are ∙ first-later _ _ limits-numbered l ∙ rw (le-leb _ _ w) refl
 
-      accepted : firstOf (limitStops e m) ≡ 0 → length (messageText e m) ≤ length out → cardMessage s area out ≡ onAreas (acceptedMessage e m) area out
-      unfolding cardMessage messageCall bothOf
-      accepted l w = rw (none-holds l w, h, r) refl
-
-      pub message-accepted : {n : ℕ} {d : ℤ} {area' out' : List ℕ} → firstOf (limitStops e m) ≡ 0 → length (messageText e m) ≤ length out
+      pub message-accepted : {n : ℕ} {d : ℤ} {area' out' : List ℕ} → firstOf (limitStops e (some m)) ≡ 0 → length (messageText e m) ≤ length out
           → n ≡ length (messageText e m) → d ≡ subℕ (after e m .transferred) (after e m .detailed)
           → area' ≡ encode (afterMessage e m) ++ drop areaSize area → out' ≡ over (messageText e m) out → mag d < 2 ^ 63
           → Answers (cardMessage s area out) 0 n d area' out'
-      unfolding onAreas acceptedMessage stored
-      message-accepted l w p q a o m₁ = rw (accepted l w) record { number = refl; written = p; difference = q; area = a; output = o; small = m₁ }
+      unfolding cardMessage messageCall bothOf acceptedMessage
+      message-accepted l w p q a o m₁ = answers-accepted _ (holds area) (bothOf (holds area) (read s)) area out (none-holds l w) (rw (h, r)) p q a o m₁
 
 -- ---- as the code goes: the engine is what is read off the area, the message what is read off the bytes
 
@@ -125,7 +121,7 @@ pub record Leaves (a s : List ℕ) (p : P.Position) : Type 0 where
 pub record Ready (s a : List ℕ) (b : Booking) (p : P.Position) (parts : ℕ) (amounts places verdicts : List ℕ) : Type 0 where
   pub engine : isSome (holds a) ≡ true
   pub books : Books s (messageIn s) b
-  pub none-holds : 0 ≡ firstOf (limitStops (decode a) (messageIn s))
+  pub none-holds : 0 ≡ firstOf (limitStops (decode a) (some (messageIn s)))
   pub judged : JudgedIn (decode a .register) s amounts places verdicts (b .count)
   pub leaves : Leaves a s p
   pub parts-are : Writes (decode a) (messageIn s) parts
@@ -141,7 +137,7 @@ leaves-told a s b k x y p q = record {
 pub judged-told : (a s t : List ℕ) → RegisterOf a t → {verdicts : List ℕ} {n : ℕ} → VerdictsIn t s verdicts n → VerdictsIn (decode a .register) s verdicts n
 judged-told a s t r v = rw (r .same) at v
 
-module _ (s area : List ℕ) (h : isSome (holds area) ≡ true) (b : Booking) {amounts places : List ℕ} (k : Passes (temporaryOf (decode area)) s b amounts places) (p : P.Position) (q : Leaves area s p) (z : 0 ≡ firstOf (limitStops (decode area) (messageIn s))) where
+module _ (s area : List ℕ) (h : isSome (holds area) ≡ true) (b : Booking) {amounts places : List ℕ} (k : Passes (temporaryOf (decode area)) s b amounts places) (p : P.Position) (q : Leaves area s p) (z : 0 ≡ firstOf (limitStops (decode area) (some (messageIn s)))) where
   pub ready : {verdicts : List ℕ} → VerdictsIn (decode area .register) s verdicts (b .count) → {n : ℕ} → ReturnedCount verdicts (b .count) n → {parts : ℕ} → WritesOf b p n parts → Ready s area b p parts amounts places verdicts
   ready {verdicts} v c w =
       let j : JudgedIn (decode area .register) s amounts places verdicts (b .count) = record { lines-kept = k .lines-kept; amounts-kept = k .amounts-kept; verdicts-kept = v } in record {
@@ -167,15 +163,10 @@ module _ (s area : List ℕ) (h : isSome (holds area) ≡ true) where
       bank-is = ap (λ (x : Position). x .key .bank) position-is
 
       -- where none of 11 to 15 holds it can be booked
-      pub booking-of : 0 ≡ firstOf (limitStops (decode area) (messageIn s)) → CanBook (decode area) (positionValue p)
-      unfolding limitStops
+      pub booking-of : 0 ≡ firstOf (limitStops (decode area) (some (messageIn s))) → CanBook (decode area) (positionValue p)
       booking-of z =
-          let p11 : Passed _ _ = passed 10 _ _ (sym z) in
-          let p12 : Passed _ _ = passed 11 _ _ (p11 .others) in
-          let p13 : Passed (leb 64 (length (decode area .references))) _ = passed 12 _ _ (p12 .others) in
-          let p14 : Passed (noRoom (decode area) (messageIn s)) _ = passed 13 _ _ (p13 .others) in
-          let p15 : Passed (overLimit (decode area) (messageIn s)) _ = passed 14 _ _ (p14 .others) in
-          rw position-is (booking-clear (decode area) (messageIn s) (held area (decode area) engine .good) (leb-false 64 _ (p13 .first)) (p14 .first) (p15 .first))
+          let c : LimitClear (decode area) (messageIn s) = limit-clear (decode area) (messageIn s) (sym z) in
+          rw position-is (booking-clear (decode area) (messageIn s) (held area (decode area) engine .good) (c .counted) (c .opens) (c .under))
 
       -- the area with the message
       pub booked-done : {a' : List ℕ} {w : ℕ} → w ≡ decode area .count + writes (decode area) (messageIn s)
@@ -195,10 +186,10 @@ sent-done {s} {area} {b} {p} m l w e c = record {
 -- ---- the ways out of a message that passed 1 to 8
 
 module _ (s area : List ℕ) (h : isSome (holds area) ≡ true) (b : Booking) {amounts places : List ℕ} (k : Passes (temporaryOf (decode area)) s b amounts places) (out : List ℕ) where
-  pub sent-state : (n : ℕ) → n ≡ firstOf (limitStops (decode area) (messageIn s)) → 0 < n → Answers (cardMessage s area out) n 0 (pos 0) area out
+  pub sent-state : (n : ℕ) → n ≡ firstOf (limitStops (decode area) (some (messageIn s))) → 0 < n → Answers (cardMessage s area out) n 0 (pos 0) area out
   sent-state n e p = message-state s area out (decode area) (held-decode area h) (messageIn s) (k .none-holds) (k .read) n (sym e) (ne-eqb n 0 (λ z. omega arith))
 
-  module _ (z : 0 ≡ firstOf (limitStops (decode area) (messageIn s))) {r : ℕ} (w : Measured (messageText (decode area) (messageIn s)) r) where
+  module _ (z : 0 ≡ firstOf (limitStops (decode area) (some (messageIn s)))) {r : ℕ} (w : Measured (messageText (decode area) (messageIn s)) r) where
     pub sent-room : length out < r → Answers (cardMessage s area out) 16 0 (pos 0) area out
     sent-room m = message-room s area out (decode area) (held-decode area h) (messageIn s) (k .none-holds) (k .read) (sym z) (size-long w (length out) m)
 
@@ -207,7 +198,7 @@ module _ (s area : List ℕ) (h : isSome (holds area) ≡ true) (b : Booking) {a
         message-accepted s area out (decode area) (held-decode area h) (messageIn s) (k .none-holds) (k .read) (sym z) (size-fits w (length out) m f) (c .written) (c .difference) (c .area) (c .output) (c .small)
 
 -- none of 11 to 15 holds
-pub state-none : (s area : List ℕ) (n : ℕ) → n ≡ firstOf (limitStops (decode area) (messageIn s)) → n ≤ 0 → 0 ≡ firstOf (limitStops (decode area) (messageIn s))
+pub state-none : (s area : List ℕ) (n : ℕ) → n ≡ firstOf (limitStops (decode area) (some (messageIn s))) → n ≤ 0 → 0 ≡ firstOf (limitStops (decode area) (some (messageIn s)))
 state-none s area n e l = let z : n ≡ 0 = omega arith in sym z ∙ e
 
 -- a text that is measured within the output fits

@@ -12,16 +12,16 @@ use Rattle.rules.specs.Text.{isSome, over}
 use Rattle.rules.specs.Dates.{exists}
 use Rattle.rules.specs.Register.{register}
 use Rattle.rules.specs.Engine.{Engine}
-use Rattle.rules.specs.Calls.{firstOf, openStops, opened, openCall, refused}
-use Rattle.rules.specs.Area.{cardOpen, onAreas, stored, encode, holds, areaSize}
+use Rattle.rules.specs.Calls.{firstOf, openStops, opened, acceptedOpening, openCall}
+use Rattle.rules.specs.Area.{cardOpen, encode, holds, areaSize}
 use Rattle.laws.specs.Tests.{held-told}
-use Rattle.card.specs.Answers.{Answers}
+use Rattle.card.specs.Answers.{Answers, answers-refused, answers-accepted}
 
 -- the text, the day and the area
 module _ (text : List ℕ) (day : ℕ) (area : List ℕ) where
   refusal : (k : ℕ) → firstOf (openStops (length area) text day) ≡ k → eqb k 0 ≡ false → Answers (cardOpen text day area) k 0 (pos 0) area []
-  unfolding cardOpen openCall onAreas
-  refusal k e n = record { number = rw (e, n, n) refl; written = rw (e, n, n) refl; difference = rw (e, n, n) refl; area = rw (e, n, n) refl; output = rw (e, n, n) refl; small = lit< tt }
+  unfolding cardOpen openCall
+  refusal = answers-refused (openStops (length area) text day) (holds area) (acceptedOpening text day) area []
 
   pub open-short : (z : Bool) → z ≡ leb areaSize (length area) → not z ≡ true → Answers (cardOpen text day area) 10 0 (pos 0) area []
   unfolding firstOf openStops
@@ -44,14 +44,7 @@ module _ (text : List ℕ) (day : ℕ) (area : List ℕ) where
       open-register r = refusal 9 (rw (room, ← u, d, ← v, r) refl) refl
 
       pub open-accepted : {area' : List ℕ} → q ≡ true → area' ≡ encode (opened text day) ++ drop areaSize area → Answers (cardOpen text day area) 0 0 (pos 0) area' []
-      unfolding firstOf openStops cardOpen openCall onAreas stored over
-      open-accepted {area'} r a = record {
-        number = rw (room, ← u, d, ← v, r) refl;
-        written = rw (room, ← u, d, ← v, r) refl;
-        difference = rw (room, ← u, d, ← v, r) refl;
-        area = rw (room, ← u, d, ← v, r) a;
-        output = rw (room, ← u, d, ← v, r) refl;
-        small = lit< tt;
-      }
+      unfolding firstOf openStops cardOpen openCall acceptedOpening over
+      open-accepted {area'} r a = answers-accepted _ (holds area) (acceptedOpening text day) area [] (rw (room, ← u, d, ← v, r) refl) refl refl refl a refl (lit< tt)
 
 pub ruleset opening = (held-told, open-short, open-long, open-day, open-register, open-accepted)

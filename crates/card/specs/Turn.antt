@@ -13,25 +13,25 @@ use lib.ListN.{length, drop}
 use Rattle.rules.specs.Text.{isSome, over}
 use Rattle.rules.specs.Dates.{exists}
 use Rattle.rules.specs.Engine.{Engine}
-use Rattle.rules.specs.Calls.{firstOf, turnStops, turnText, refunded, collected, afterTurn, turnCall, acceptedTurn, refused}
-use Rattle.rules.specs.Area.{cardTurn, onAreas, stored, encode, decode, holds, areaSize}
+use Rattle.rules.specs.Calls.{firstOf, turnStops, turnText, refunded, collected, afterTurn, turnCall, acceptedTurn}
+use Rattle.rules.specs.Area.{cardTurn, encode, decode, holds, areaSize}
 use Rattle.laws.specs.Tests.{held-told}
 use Rattle.laws.specs.Writing.{wrote-over, furthest}
 use Rattle.outgoing_number.specs.declared.Numbered.{Numbered}
-use Rattle.outgoing.specs.Area.{TurnPut}
-use Rattle.outgoing.specs.Sums.{Totals}
-use Rattle.outgoing.specs.declared.sums.Sums.{Sums}
-use Rattle.steps.specs.Turning.{turned, turned-after}
+use Rattle.turn_text.specs.Area.{TurnPut}
+use Rattle.turn_text.specs.Sums.{Totals}
+use Rattle.turn_text.specs.declared.sums.Sums.{Sums}
+use Rattle.engine_change.specs.Turning.{turned, turned-after}
 use Rattle.engine.specs.Header.{HeaderOf}
 use Rattle.engine.specs.declared.header.Header.{Header}
 use Rattle.card.specs.Held.{held-decode, wrote-exact, Measured, measured, size-long, size-fits}
-use Rattle.card.specs.Answers.{Answers}
+use Rattle.card.specs.Answers.{Answers, answers-refused, answers-accepted}
 use Rattle.card.specs.Minus.{difference-small}
 
 module _ (day : ℕ) (area out : List ℕ) where
   refusal : (k : ℕ) → firstOf (turnStops (length out) (holds area) day) ≡ k → eqb k 0 ≡ false → Answers (cardTurn day area out) k 0 (pos 0) area out
-  unfolding cardTurn turnCall onAreas
-  refusal k e n = record { number = rw (e, n, n) refl; written = rw (e, n, n) refl; difference = rw (e, n, n) refl; area = rw (e, n, n) refl; output = rw (e, n, n) refl; small = lit< tt }
+  unfolding cardTurn turnCall
+  refusal = answers-refused (turnStops (length out) (holds area) day) (holds area) (acceptedTurn (holds area) day) area out
 
   pub turn-engine : isSome (holds area) ≡ false → Answers (cardTurn day area out) 10 0 (pos 0) area out
   unfolding firstOf turnStops
@@ -54,16 +54,12 @@ module _ (day : ℕ) (area out : List ℕ) where
     unfolding firstOf turnStops
     none-holds d l w = rw (h, d, lt-leb _ _ l, le-leb _ _ w) refl
 
-    accepted : exists day ≡ true → e .day < day → length (turnText e day) ≤ length out → cardTurn day area out ≡ onAreas (acceptedTurn (some e) day) area out
-    unfolding cardTurn turnCall
-    accepted d l w = rw (none-holds d l w, h) refl
-
     pub turn-accepted : {n : ℕ} {z : ℤ} {area' out' : List ℕ} → exists day ≡ true → e .day < day → length (turnText e day) ≤ length out
         → n ≡ length (turnText e day) → z ≡ subℕ (refunded (e .positions)) (collected (e .positions))
         → area' ≡ encode (afterTurn e day) ++ drop areaSize area → out' ≡ over (turnText e day) out → mag z < 2 ^ 63
         → Answers (cardTurn day area out) 0 n z area' out'
-    unfolding onAreas acceptedTurn stored
-    turn-accepted d l w p q a o m = rw (accepted d l w) record { number = refl; written = p; difference = q; area = a; output = o; small = m }
+    unfolding cardTurn turnCall acceptedTurn
+    turn-accepted d l w p q a o m = answers-accepted _ (holds area) (acceptedTurn (holds area) day) area out (none-holds d l w) (rw h) p q a o m
 
 -- ---- as the code goes: the engine is what is read off the area
 

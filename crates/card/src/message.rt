@@ -5,17 +5,17 @@ use conditions::Checked;
 use position::Position;
 ghost use mathlib.Core.Path.{_≡_};
 ghost use mathlib.Core.Bool.{true};
+ghost use mathlib.Core.Option.{some};
 ghost use Prim.Native.Nat.{_+_, _≤_};
 ghost use lib.ListN.{length};
 ghost use Rattle.rules.specs.Text.{isSome};
-ghost use Rattle.rules.specs.Calls.{firstOf, messageText, writes};
+ghost use Rattle.rules.specs.Calls.{firstOf, limitStops, messageText, writes};
 ghost use Rattle.rules.specs.Area.{holds, decode, cardMessage};
 ghost use Rattle.details.specs.Message.{messageIn};
 ghost use Rattle.details.specs.Kept.{Room, LinesIn};
 ghost use Rattle.conditions.specs.Answers.{CheckedAs, Passes};
 ghost use Rattle.conditions.specs.Books.{Books};
 ghost use Rattle.verdict.specs.Details.{VerdictsIn};
-ghost use Rattle.state.specs.Stops.{limitStops};
 ghost use Rattle.card.specs.Answers.{Answers};
 ghost use Rattle.card.specs.Held.{Measured};
 ghost use Rattle.card.specs.Message.{Sent, Booked, Leaves, Ready, temporaryOf};
@@ -73,17 +73,17 @@ fn message_size(
 fn book_in(message: &[u8], area: &mut [u8], b: Booking, count: u32)
     requires { ⌜ isSome (holds (now area)) ≡ true ⌝ }
     requires { ⌜ Books (now message) (messageIn (now message)) b ⌝ }
-    requires { ⌜ 0 ≡ firstOf (limitStops (decode (now area)) (messageIn (now message))) ⌝ }
+    requires { ⌜ 0 ≡ firstOf (limitStops (decode (now area)) (some (messageIn (now message)))) ⌝ }
     requires { ⌜ count ≡ decode (now area) .count + writes (decode (now area)) (messageIn (now message)) ⌝ }
     ensures { λ _. ⌜ Booked (now (message .entry)) (now (area .entry)) (now (area .exit)) ⌝ }
 {
     let reference = b.reference;
-    steps::book_area(
+    engine_change::book_area(
         area,
         message,
         reference.start as usize,
         reference.end as usize,
-        state::added_by(b),
+        state_conditions::added_by(b),
         count,
     );
 }
@@ -137,7 +137,7 @@ fn send_message(
 ) -> u32
     requires { ⌜ isSome (holds (now area)) ≡ true ⌝ }
     requires { ⌜ Passes (temporaryOf (decode (now area))) (now message) b (now amounts) (now places) ⌝ }
-    requires { ⌜ 0 ≡ firstOf (limitStops (decode (now area)) (messageIn (now message))) ⌝ }
+    requires { ⌜ 0 ≡ firstOf (limitStops (decode (now area)) (some (messageIn (now message)))) ⌝ }
     requires { ⌜ Leaves (now area) (now message) p ⌝ }
     ensures { λ r. ⌜ Answers (cardMessage (now (message .entry)) (now (area .entry)) (now (output .entry))) r (now (written .exit)) (now (difference .exit)) (now (area .exit)) (now (output .exit)) ⌝ }
 {
@@ -185,7 +185,7 @@ fn book_message(
     *written = 0;
     *difference = 0;
     let x = engine::totals_of(area, b.key);
-    let k = state::state_number(message, area, b, x);
+    let k = state_conditions::state_number(message, area, b, x);
     if k > 0 {
         return k;
     }
@@ -246,7 +246,7 @@ pub extern "C" fn card_message(
 ) -> u32
     ensures { λ r. ⌜ Answers (cardMessage (now (message .entry)) (now (area .entry)) (now (output .entry))) r (now (written .exit)) (now (difference .exit)) (now (area .exit)) (now (output .exit)) ⌝ }
 {
-    if limits::limits_hold(area) {
+    if engine_check::limits_hold(area) {
         return message_engine(message, area, output, written, difference);
     }
     *written = 0;

@@ -21,7 +21,7 @@ pub extern "C" fn card_open(
     }
     if calendar::exists(day) {
         if register::register_passes(text) {
-            steps::open_area(area, text, day);
+            engine_change::open_area(area, text, day);
             return 0;
         }
         return 9;

@@ -24,11 +24,11 @@ fn accept_turn(
     requires { ⌜ length (turnText (decode (now area)) day) ≤ length (now output) ⌝ }
     ensures { λ _. ⌜ Turned day (now (area .entry)) (now (output .entry)) (now (written .exit)) (now (difference .exit)) (now (area .exit)) (now (output .exit)) ⌝ }
 {
-    let text = outgoing::put_turn_text(output, 0, day, area);
+    let text = turn_text::put_turn_text(output, 0, day, area);
     *written = text.at;
-    let sums = outgoing::turn_sums(area);
+    let sums = turn_text::turn_sums(area);
     *difference = minus(sums.refunded, sums.collected);
-    steps::turn_area(area, day, text.count);
+    engine_change::turn_area(area, day, text.count);
 }
 
 // How many bytes the turn writes.
@@ -37,7 +37,7 @@ fn turn_size(day: u32, area: &[u8]) -> usize
     ensures { λ r. ⌜ Measured (turnText (decode (now (area .entry))) day) r ⌝ }
 {
     let mut nothing = [0u8; 0];
-    let text = outgoing::put_turn_text(&mut nothing, 0, day, area);
+    let text = turn_text::put_turn_text(&mut nothing, 0, day, area);
     text.at
 }
 
@@ -80,7 +80,7 @@ pub extern "C" fn card_turn(
 ) -> u32
     ensures { λ r. ⌜ Answers (cardTurn day (now (area .entry)) (now (output .entry))) r (now (written .exit)) (now (difference .exit)) (now (area .exit)) (now (output .exit)) ⌝ }
 {
-    if limits::limits_hold(area) {
+    if engine_check::limits_hold(area) {
         return turn_engine(day, area, output, written, difference);
     }
     *written = 0;

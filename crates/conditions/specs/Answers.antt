@@ -5,10 +5,9 @@ use mathlib.Core.Option.{Option, some}
 use Prim.Native.Nat.{ℕ, _≤_, _<_}
 use lib.ListN.{length, getD}
 use Rattle.rules.specs.Messages.{Message, read, detailsOf}
-use Rattle.rules.specs.Calls.{firstOf, inputStops}
+use Rattle.rules.specs.Calls.{formStops, firstOf, inputStops}
 use Rattle.details.specs.Message.{orNone, messageIn, detailAt}
 use Rattle.details.specs.Kept.{LinesAs, AmountsIn, LinesIn}
-use Rattle.conditions.specs.Stops.{formStops}
 use Rattle.conditions.specs.Books.{Books}
 use Rattle.conditions.specs.declared.booking.Booking.{Booking}
 use Rattle.conditions.specs.declared.message.Checked.{Checked}

@@ -14,7 +14,7 @@ use Rattle.rules.specs.Calls.{misdated, bankOf, keyOf}
 use Rattle.laws.specs.Parts.{cut, from, from-take, cut-length}
 use Rattle.laws.specs.Tests.{and-left, and-right}
 use Rattle.calendar.specs.Days.{exists-small}
-use Rattle.area.specs.Accepted.{Has}
+use Rattle.engine_laws.specs.Accepted.{Has}
 use Rattle.forms.specs.Spans.{spanOf, SpanIn}
 use Rattle.forms.specs.declared.rows.Span.{Span}
 use Rattle.position.specs.Values.{keyValue}

@@ -15,11 +15,11 @@ use Rattle.rules.specs.Forms.{rowed, orderRows}
 use Rattle.rules.specs.Engine.{slashed}
 use Rattle.rules.specs.Messages as M
 use Rattle.rules.specs.Messages.{Message, mt103, mt101, field20, detailsOf, referenceOf, dateOf, firstDate, sumOf, readTransfer, readOrder, read}
-use Rattle.rules.specs.Calls.{firstOf, addressed, inputStops}
+use Rattle.rules.specs.Calls.{formStops, firstOf, addressed, inputStops}
 use Rattle.laws.specs.Parts.{cut, cut-all, from, from-take}
 use Rattle.laws.specs.Tests.{and-left, and-right, answer-is, answer-not}
 use Rattle.laws.specs.Reading.{fits-length}
-use Rattle.area.specs.Accepted.{Has, transfer-has, order-has}
+use Rattle.engine_laws.specs.Accepted.{Has, transfer-has, order-has}
 use Rattle.forms.specs.Table.{table, part}
 use Rattle.forms.specs.Spans.{spanOf, noSpan, SpanIn, within-at, within-order, held, held-line}
 use Rattle.forms.specs.Fields.{Behind, behind-in, behind-bytes}
@@ -28,7 +28,7 @@ use Rattle.forms.specs.Transfers.{TransferIn, transferHeld}
 use Rattle.forms.specs.declared.rows.Span.{Span}
 use Rattle.forms.specs.declared.rows.Rows.{Rows}
 use Rattle.forms.specs.declared.transfer.Transfer as T
-use Rattle.conditions.specs.Stops.{formStops, transferStop, transfer-stops}
+use Rattle.conditions.specs.Stops.{transferStop, transfer-stops}
 use Rattle.conditions.specs.Walk.{FieldsIn, heldFrom, alike, named-twice}
 use Rattle.conditions.specs.Lowest.{lowestAny}
 use Rattle.conditions.specs.Tally.{Told, All, TallyAt, told-fields}

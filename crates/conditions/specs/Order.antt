@@ -13,10 +13,10 @@ use Rattle.rules.specs.Text.{equal, any, twice}
 use Rattle.rules.specs.Engine.{slashed}
 use Rattle.rules.specs.Messages as M
 use Rattle.rules.specs.Messages.{mt101, field20, field21, currency32B, firstDate, sumOf, referenceOf, detailsOf, dateOf}
-use Rattle.rules.specs.Calls.{firstOf, holdsOf, badReference, badSum, badAmount, foreignPayer, badAccount, manyDates}
+use Rattle.rules.specs.Calls.{formStops, firstOf, holdsOf, badReference, badSum, badAmount, foreignPayer, badAccount, manyDates}
 use Rattle.laws.specs.Tests.{pick-equal, pick-other}
 use Rattle.forms.specs.Spans.{within-at}
-use Rattle.conditions.specs.Stops.{formStops, lowest, pick-held, pick-missed}
+use Rattle.conditions.specs.Stops.{lowest, pick-held, pick-missed}
 use Rattle.conditions.specs.Walk.{alike}
 use Rattle.conditions.specs.Lowest.{pick, lowestAny}
 

@@ -13,7 +13,7 @@ use Rattle.rules.specs.Lines.{sender}
 use Rattle.rules.specs.Engine.{slashed}
 use Rattle.rules.specs.Messages as M
 use Rattle.rules.specs.Messages.{Message, mt103, field20, account103, field21, currency32B, referenceOf, detailsOf}
-use Rattle.rules.specs.Calls.{Stop, stop, firstOf, holdsOf, badReference, badSum, badAmount, foreignPayer, badAccount, manyDates}
+use Rattle.rules.specs.Calls.{formStops, firstOf, holdsOf, badReference, badSum, badAmount, foreignPayer, badAccount, manyDates}
 use Rattle.forms.specs.Spans.{spanOf, noSpan, within-at, held-line}
 use Rattle.forms.specs.Details.{detailHeld}
 use Rattle.forms.specs.Transfers.{transferHeld}
@@ -21,17 +21,6 @@ use Rattle.forms.specs.declared.rows.Span.{Span}
 use Rattle.forms.specs.declared.detail.Detail.{Detail}
 use Rattle.forms.specs.declared.transfer.Transfer.{Transfer}
 use Rattle.conditions.specs.Fields.{foreign}
-
--- 3 to 8, of what was read of a message
-unfoldable pub formStops : List ℕ → Option Message → List Stop
-formStops temporary m =
-    stop 3 (not (isSome m))
-    ∷ stop 4 (holdsOf (λ m. not (leb (length (detailsOf m)) 16)) m)
-    ∷ stop 5 (holdsOf badReference m)
-    ∷ stop 6 (holdsOf badAmount m)
-    ∷ stop 7 (holdsOf (badAccount temporary) m)
-    ∷ stop 8 (holdsOf manyDates m)
-    ∷ []
 
 -- ---- a number picked by a test, as a call answered it
 

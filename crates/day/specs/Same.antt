@@ -12,11 +12,11 @@ use lib.ListN.{length, take, drop, length-append, length-drop}
 use Rattle.rules.specs.Text.{isSome, over}
 use Rattle.rules.specs.Messages.{Message, read}
 use Rattle.rules.specs.Engine.{Engine, within}
-use Rattle.rules.specs.Calls.{Answer, refused, firstOf, openStops, opened, openCall, inputStops, messageStops, messageCall, bothOf, acceptedMessage, messageText, after, afterMessage, turnStops, turnCall, acceptedTurn, turnText, afterTurn, refunded, collected}
+use Rattle.rules.specs.Calls.{Stop, Answer, refused, answered, firstOf, openStops, acceptedOpening, openCall, messageStops, messageCall, bothOf, acceptedMessage, turnStops, turnCall, acceptedTurn}
 use Rattle.rules.specs.Area.{encode, holds, Result, stored, onAreas, cardOpen, cardMessage, cardTurn, areaSize}
-use Rattle.area.specs.Facts.{There, there, Passed, passed}
-use Rattle.area.specs.Held.{encode-length, Held, held}
-use Rattle.area.specs.Calls.{Done, done-holds, done-text, done-length, Opens, open-accepted, Takes, message-done, Turns, turn-done}
+use Rattle.rule_laws.specs.Conditions.{answered-accepted, answered-refused}
+use Rattle.engine_laws.specs.Keeps.{opened-within}
+use Rattle.engine_laws.specs.Calls.{Done, done-holds, done-text, done-length, Takes, message-there, Turns, turn-there}
 
 -- an answer, and a result over area and output
 pub record Same (a : Answer) (r : Result) (area out : List ℕ) : Type 0 where
@@ -56,104 +56,52 @@ same-done {out = out} {text = text} z l f w = record {
   fits = rw (w .written) f;
 }
 
+-- any call, by its conditions: a refusal is the same, so that its acceptance must be
+same-answered : (ss : List Stop) (a : Answer) (area out : List ℕ) → (firstOf ss ≡ 0 → Same a (onAreas a area out) area out) → Same (answered ss (holds area) a) (onAreas (answered ss (holds area) a) area out) area out
+same-answered ss a area out f = go (eqb (firstOf ss) 0) refl
+  where
+    go : (t : Bool) → eqb (firstOf ss) 0 ≡ t → Same (answered ss (holds area) a) (onAreas (answered ss (holds area) a) area out) area out
+    go true n = let z : firstOf ss ≡ 0 = eqb-true _ 0 n in rw (answered-accepted ss (holds area) a z) (f z)
+    go false n = rw (answered-refused ss (holds area) a (firstOf ss) refl n) (same-refused _ area out n)
+
 module _ (area : List ℕ) (l : areaSize ≤ length area) where
   -- opening: its output is nobody's
   module _ (text : List ℕ) (day : ℕ) where
-    sizes : firstOf (openStops areaSize text day) ≡ firstOf (openStops (length area) text day)
-    unfolding openStops firstOf
+    open-same : firstOf (openStops (length area) text day) ≡ 0 → Same (acceptedOpening text day) (onAreas (acceptedOpening text day) area []) area []
+    unfolding acceptedOpening onAreas stored over
+    open-same k = same-done refl l (omega arith) record { good = opened-within (length area) text day k; written = refl; difference = refl; area = refl; output = refl }
+
+    sizes : openStops areaSize text day ≡ openStops (length area) text day
+    unfolding openStops
     sizes = rw (le-leb _ _ l)
 
-    open-is : openCall areaSize (holds area) text day ≡ openCall (length area) (holds area) text day
-    unfolding openCall
-    open-is = rw sizes
-
-    module _ (n : eqb (firstOf (openStops (length area) text day)) 0 ≡ true) where
-      opened-is : openCall (length area) (holds area) text day ≡ record { number = 0; text = []; difference = pos 0; next = some (opened text day) }
-      unfolding openCall
-      opened-is = rw n
-
-      open-zero : cardOpen text day area .number ≡ 0
-      unfolding cardOpen
-      open-zero = on-zero _ area [] (ap (λ (a : Answer). a .number) opened-is)
-
-      open-same : Same (openCall (length area) (holds area) text day) (cardOpen text day area) area []
-      open-same = rw opened-is (same-done open-zero l (omega arith) (open-accepted text day area open-zero .done))
-
-    open-stays : eqb (firstOf (openStops (length area) text day)) 0 ≡ false → Same (openCall (length area) (holds area) text day) (cardOpen text day area) area []
-    unfolding openCall cardOpen
-    open-stays n = rw n (same-refused _ area [] n)
-
     pub same-open : Same (openCall areaSize (holds area) text day) (cardOpen text day area) area []
-    same-open = rw open-is (pick (eqb (firstOf (openStops (length area) text day)) 0) refl)
-      where
-        pick : (t : Bool) → eqb (firstOf (openStops (length area) text day)) 0 ≡ t → Same (openCall (length area) (holds area) text day) (cardOpen text day area) area []
-        pick true n = open-same n
-        pick false n = open-stays n
+    unfolding openCall cardOpen
+    same-open = rw sizes (same-answered (openStops (length area) text day) (acceptedOpening text day) area [] open-same)
 
   -- a message
   module _ (out s : List ℕ) where
-    message-there : firstOf (messageStops (length out) (holds area) s) ≡ 0 → Takes s area out
-    unfolding messageStops inputStops
-    message-there k =
-        let s10 : Passed (not (isSome (holds area))) _ = passed 9 _ _ k in
-        let s2 : Passed _ _ = passed 1 _ _ (passed 0 _ _ (s10 .others) .others) in
-        let s3 : Passed (not (isSome (read s))) _ = passed 2 _ _ (s2 .others) in
-        let e : There (holds area) = there (holds area) (not-false _ (s10 .first)) in
-        let m : There (read s) = there (read s) (not-false _ (s3 .first)) in
-        message-done s area out (e .value) (m .value) (e .is) (m .is) k
-
-    module _ (n : eqb (firstOf (messageStops (length out) (holds area) s)) 0 ≡ true) (w : Takes s area out) where
-      message-is : messageCall (length out) (holds area) s ≡ acceptedMessage (w .engine) (w .message)
-      unfolding messageCall bothOf
-      message-is = rw (n, w .holding, w .reads)
-
-      message-zero : cardMessage s area out .number ≡ 0
-      unfolding cardMessage acceptedMessage
-      message-zero = on-zero _ area out (ap (λ (a : Answer). a .number) message-is)
-
-      message-same : Same (messageCall (length out) (holds area) s) (cardMessage s area out) area out
-      unfolding acceptedMessage
-      message-same = rw message-is (same-done message-zero l (w .clear .fits) (w .done))
-
-    message-stays : eqb (firstOf (messageStops (length out) (holds area) s)) 0 ≡ false → Same (messageCall (length out) (holds area) s) (cardMessage s area out) area out
-    unfolding messageCall cardMessage
-    message-stays n = rw n (same-refused _ area out n)
+    message-same : firstOf (messageStops (length out) (holds area) s) ≡ 0 → Same (bothOf (holds area) (read s)) (onAreas (bothOf (holds area) (read s)) area out) area out
+    unfolding cardMessage messageCall bothOf acceptedMessage
+    message-same k =
+        let w : Takes s area out = message-there s area out k in
+        let e : bothOf (holds area) (read s) ≡ acceptedMessage (w .engine) (w .message) = rw (w .holding, w .reads) in
+        let r : Result = onAreas (acceptedMessage (w .engine) (w .message)) area out in
+        rw e (same-done {r = r} (on-zero (acceptedMessage (w .engine) (w .message)) area out refl) l (w .clear .fits) (rw (answered-accepted _ (holds area) (bothOf (holds area) (read s)) k, e) at (w .done)))
 
     pub same-message : Same (messageCall (length out) (holds area) s) (cardMessage s area out) area out
-    same-message = pick (eqb (firstOf (messageStops (length out) (holds area) s)) 0) refl
-      where
-        pick : (t : Bool) → eqb (firstOf (messageStops (length out) (holds area) s)) 0 ≡ t → Same (messageCall (length out) (holds area) s) (cardMessage s area out) area out
-        pick true n = message-same n (message-there (eqb-true _ 0 n))
-        pick false n = message-stays n
+    unfolding messageCall cardMessage
+    same-message = same-answered (messageStops (length out) (holds area) s) (bothOf (holds area) (read s)) area out message-same
 
   -- a turn
   module _ (out : List ℕ) (day : ℕ) where
-    turn-there : firstOf (turnStops (length out) (holds area) day) ≡ 0 → Turns day area out
-    unfolding turnStops
-    turn-there k =
-        let e : There (holds area) = there (holds area) (not-false _ (passed 9 _ _ k .first)) in
-        turn-done day area out (e .value) (e .is) k
-
-    module _ (n : eqb (firstOf (turnStops (length out) (holds area) day)) 0 ≡ true) (w : Turns day area out) where
-      turn-is : turnCall (length out) (holds area) day ≡ acceptedTurn (some (w .engine)) day
-      unfolding turnCall
-      turn-is = rw (n, w .holding)
-
-      turn-zero : cardTurn day area out .number ≡ 0
-      unfolding cardTurn acceptedTurn
-      turn-zero = on-zero _ area out (ap (λ (a : Answer). a .number) turn-is)
-
-      turn-same : Same (turnCall (length out) (holds area) day) (cardTurn day area out) area out
-      unfolding acceptedTurn
-      turn-same = rw turn-is (same-done turn-zero l (w .fits) (w .done))
-
-    turn-stays : eqb (firstOf (turnStops (length out) (holds area) day)) 0 ≡ false → Same (turnCall (length out) (holds area) day) (cardTurn day area out) area out
-    unfolding turnCall cardTurn
-    turn-stays n = rw n (same-refused _ area out n)
+    turn-same : firstOf (turnStops (length out) (holds area) day) ≡ 0 → Same (acceptedTurn (holds area) day) (onAreas (acceptedTurn (holds area) day) area out) area out
+    unfolding cardTurn turnCall acceptedTurn
+    turn-same k =
+        let w : Turns day area out = turn-there day area out k in
+        let r : Result = onAreas (acceptedTurn (some (w .engine)) day) area out in
+        rw (w .holding) (same-done {r = r} (on-zero (acceptedTurn (some (w .engine)) day) area out refl) l (w .fits) (rw (answered-accepted _ (holds area) (acceptedTurn (holds area) day) k, w .holding) at (w .done)))
 
     pub same-turn : Same (turnCall (length out) (holds area) day) (cardTurn day area out) area out
-    same-turn = pick (eqb (firstOf (turnStops (length out) (holds area) day)) 0) refl
-      where
-        pick : (t : Bool) → eqb (firstOf (turnStops (length out) (holds area) day)) 0 ≡ t → Same (turnCall (length out) (holds area) day) (cardTurn day area out) area out
-        pick true n = turn-same n (turn-there (eqb-true _ 0 n))
-        pick false n = turn-stays n
+    unfolding turnCall cardTurn
+    same-turn = same-answered (turnStops (length out) (holds area) day) (acceptedTurn (holds area) day) area out turn-same

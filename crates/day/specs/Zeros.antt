@@ -8,11 +8,11 @@ use Rattle.rules.specs.Text.{numberFrom}
 use Rattle.rules.specs.Lines.{lines}
 use Rattle.rules.specs.Register.{register, ofLines}
 use Rattle.rules.specs.Engine.{Engine, within}
-use Rattle.rules.specs.Area.{holds, decode, zeros, records, areaSize}
+use Rattle.rules.specs.Area.{holds, decode, zeros, textPlace, textAt, records, areaSize}
 use Rattle.rules.specs.Replay.{run, replayIn}
 
 zeros-hold-none : holds (zeros areaSize) ≡ none
-unfolding holds zeros decode within register lines ofLines numberFrom records
+unfolding holds zeros decode within register lines ofLines numberFrom textPlace textAt records
 zeros-hold-none = refl
 
 pub replays : (input area : List ℕ) (room : ℕ) → area ≡ zeros areaSize → run (length input) room (holds area) input ≡ replayIn room input

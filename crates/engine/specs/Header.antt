@@ -6,42 +6,38 @@ use Prim.Native.Nat.{ℕ, _≤_}
 use native.Mathlib.Omega.{arith}
 use lib.ListN.{length}
 use Rattle.rules.specs.Text.{number, isSome}
-use Rattle.rules.specs.Area.{numberAt, decode, holds, areaSize}
+use Rattle.rules.specs.Area.{numberAt, decode, holds, areaSize, referencesPlace, dayPlace, countPlace, manyPositionsPlace, manyReferencesPlace, currencyPlace}
 use Rattle.laws.specs.Parts.{cut}
-use Rattle.area.specs.Limits.{Limits}
-use Rattle.area.specs.Records.{cut-is}
-use Rattle.area.specs.Decoded.{decoded, decoded-limits, decoded-positions, decoded-references, decoded-text, decoded-short}
+use Rattle.engine_laws.specs.Limits.{Limits}
+use Rattle.engine_laws.specs.Records.{cut-is}
+use Rattle.engine_laws.specs.Decoded.{decoded, decoded-limits, decoded-positions, decoded-references}
 use Rattle.text.specs.Numbers.{NumberAt}
 use Rattle.engine.specs.declared.header.Header.{Header}
 
 -- the numbers as they stand
 pub record HeaderAt (a : List ℕ) (h : Header) : Type 0 where
-  pub day : h .day ≡ numberAt a 2 3
-  pub count : h .count ≡ numberAt a 5 2
-  pub positions : h .positions ≡ numberAt a 7 1
-  pub references : h .references ≡ numberAt a 8 1
-  pub register : h .register ≡ numberAt a 10 2
+  pub day : h .day ≡ numberAt a dayPlace 3
+  pub count : h .count ≡ numberAt a countPlace 2
+  pub positions : h .positions ≡ numberAt a manyPositionsPlace 1
+  pub references : h .references ≡ numberAt a manyReferencesPlace 1
 
-pub header-read : (a : List ℕ) (day count positions references register : ℕ) → NumberAt a 2 3 day → NumberAt a 5 2 count → NumberAt a 7 1 positions → NumberAt a 8 1 references → NumberAt a 10 2 register
-    → HeaderAt a record { day = day; count = count; positions = positions; references = references; register = register }
-header-read a day count positions references register d c p r t = record { day = d .value; count = c .value; positions = p .value; references = r .value; register = t .value }
+pub header-read : (a : List ℕ) (day count positions references : ℕ) → NumberAt a 2 3 day → NumberAt a 5 2 count → NumberAt a 7 1 positions → NumberAt a 8 1 references
+    → HeaderAt a record { day = day; count = count; positions = positions; references = references }
+header-read a day count positions references d c p r = record { day = d .value; count = c .value; positions = p .value; references = r .value }
 
 -- what is asked of a number that was read is asked of the bytes where it stands
 module _ (a : List ℕ) (x : Header) (n : HeaderAt a x) where
-  pub day-stands : x .day ≡ number (cut a 2 5)
+  pub day-stands : x .day ≡ number (cut a dayPlace countPlace)
   day-stands = n .day ∙ ap number (sym (cut-is a 2 3))
 
-  pub count-stands : x .count ≡ number (cut a 5 7)
+  pub count-stands : x .count ≡ number (cut a countPlace manyPositionsPlace)
   count-stands = n .count ∙ ap number (sym (cut-is a 5 2))
 
-  pub positions-stand : x .positions ≡ number (cut a 7 8)
+  pub positions-stand : x .positions ≡ number (cut a manyPositionsPlace manyReferencesPlace)
   positions-stand = n .positions ∙ ap number (sym (cut-is a 7 1))
 
-  pub references-stand : x .references ≡ number (cut a 8 9)
+  pub references-stand : x .references ≡ number (cut a manyReferencesPlace currencyPlace)
   references-stand = n .references ∙ ap number (sym (cut-is a 8 1))
-
-  pub register-stands : x .register ≡ number (cut a 10 12)
-  register-stands = n .register ∙ ap number (sym (cut-is a 10 2))
 
 -- the numbers of the engine that the area holds
 pub record HeaderOf (a : List ℕ) (h : Header) : Type 0 where
@@ -50,33 +46,28 @@ pub record HeaderOf (a : List ℕ) (h : Header) : Type 0 where
   pub count : h .count ≡ decode a .count
   pub positions : h .positions ≡ length (decode a .positions)
   pub references : h .references ≡ length (decode a .references)
-  pub register : h .register ≡ length (decode a .register)
   pub few : h .positions ≤ 32
   pub today : h .references ≤ 64
   pub small : h .count ≤ 1184
-  pub short : h .register ≤ 1544
 
 pub header-told : (a : List ℕ) (x : Header) → isSome (holds a) ≡ true → HeaderAt a x → HeaderOf a x
 unfolding decode
 header-told a x h n =
     let l : Limits (decode a) = decoded-limits a h in
     let p : x .positions ≡ length (decode a .positions) = n .positions ∙ decoded-positions a h in
-    let r : x .references ≡ length (decode a .references) = n .references ∙ decoded-references a h in
-    let t : x .register ≡ length (decode a .register) = n .register ∙ decoded-text a h in record {
+    let r : x .references ≡ length (decode a .references) = n .references ∙ decoded-references a h in record {
       long = decoded a h .long;
       day = n .day;
       count = n .count;
       positions = p;
       references = r;
-      register = t;
       few = omega (arith, l .few, p);
       today = omega (arith, l .today, r);
       small = omega (arith, l .numbered, l .today, n .count);
-      short = omega (arith, decoded-short a h, t);
     }
 
 -- the header is there
-pub header-room : (a : List ℕ) → isSome (holds a) ≡ true → 16 ≤ length a
+pub header-room : (a : List ℕ) → isSome (holds a) ≡ true → referencesPlace ≤ length a
 header-room a h = omega (arith, decoded a h .long)
 
 pub ruleset heading = (header-read, header-told, header-room)

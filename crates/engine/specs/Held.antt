@@ -5,8 +5,8 @@ use mathlib.Core.List.{List}
 use Prim.Native.Nat.{ℕ}
 use Rattle.rules.specs.Text.{isSome, any}
 use Rattle.rules.specs.Engine.{Reference}
-use Rattle.rules.specs.Area.{numberAt, decode, holds}
-use Rattle.area.specs.Decoded.{decoded-room, decoded-positions, decoded-references}
+use Rattle.rules.specs.Area.{numberAt, decode, holds, manyPositionsPlace, manyReferencesPlace}
+use Rattle.engine_laws.specs.Decoded.{decoded-room, decoded-positions, decoded-references}
 use Rattle.engine.specs.declared.header.Header.{Header}
 use Rattle.engine.specs.Header.{HeaderOf}
 use Rattle.engine.specs.Positions.{positionsFrom, values-are}
@@ -15,10 +15,10 @@ use Rattle.engine.specs.Totals.{found-place, totals-found, totals-missin
 use Rattle.engine.specs.References.{referencesAt}
 
 module _ (a : List ℕ) (h : isSome (holds a) ≡ true) (x : Header) (n : HeaderOf a x) where
-  many-positions : numberAt a 7 1 ≡ x .positions
+  many-positions : numberAt a manyPositionsPlace 1 ≡ x .positions
   many-positions = decoded-positions a h ∙ sym (n .positions)
 
-  many-references : numberAt a 8 1 ≡ x .references
+  many-references : numberAt a manyReferencesPlace 1 ≡ x .references
   many-references = decoded-references a h ∙ sym (n .references)
 
   pub positions-are : decode a .positions ≡ positionsFrom a 0 (x .positions)

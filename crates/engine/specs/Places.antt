@@ -12,8 +12,8 @@ use Rattle.rules.specs.Engine.{Key, Position, keyBefore, sameKey, positionOf, i
 use Rattle.laws.specs.Keys.{test-before, before-other, before-first, same-keys, gives-way}
 use Rattle.laws.specs.Sections.{inserted, replaced}
 use Rattle.laws.specs.Tests.{never}
-use Rattle.area.specs.Order.{Sorted, Sorted.empty, Sorted.next}
-use Rattle.area.specs.Positions.{Before, booked-same, booked-ahead, booked-behind, open-same, open-other, found-same, found-other, not-open, not-found, first-before}
+use Rattle.engine_laws.specs.Order.{Sorted, Sorted.empty, Sorted.next}
+use Rattle.engine_laws.specs.Positions.{Before, booked-same, booked-ahead, booked-behind, open-same, open-other, found-same, found-other, not-open, not-found, first-before}
 
 -- the position of a key, with two totals
 abbrev pub position : Key → ℕ → ℕ → Position

@@ -8,9 +8,9 @@ use lib.Dec.{lit≤}
 use lib.ListN.{drop}
 use lib.Seq.{drop-drop}
 use Rattle.rules.specs.Engine.{Position}
-use Rattle.rules.specs.Area.{keyIn, positionIn, records, positionsPlace, dateOffset, transferredOffset, detailedOffset}
-use Rattle.area.specs.Records.{number-within}
-use Rattle.area.specs.Tests.{valueAt, keyAt, positionAt}
+use Rattle.rules.specs.Area.{keyIn, positionIn, records, positionsPlace, dateOffset, transferredOffset, detailedOffset, recordSize}
+use Rattle.engine_laws.specs.Records.{number-within}
+use Rattle.engine_laws.specs.Tests.{valueAt, keyAt, positionAt}
 use Rattle.text.specs.Numbers.{NumberAt}
 use Rattle.position.specs.Values.{keyValue, positionValue}
 use Rattle.position.specs.declared.Key as K
@@ -19,10 +19,10 @@ use Rattle.position.specs.declared.Position as P
 -- what k records from the place p on say
 unfoldable pub valuesAt : {A : Type 0} → (List ℕ → A) → List ℕ → ℕ → ℕ → List A
 valuesAt reads area p zero = []
-valuesAt reads area p (suc k) = valueAt reads area p ∷ valuesAt reads area (p + 24) k
+valuesAt reads area p (suc k) = valueAt reads area p ∷ valuesAt reads area (p + recordSize) k
 
 module _ {A : Type 0} (reads : List ℕ → A) (area : List ℕ) (p : ℕ) where
-  pub values-next : (k : ℕ) → 0 < k → valuesAt reads area p k ≡ valueAt reads area p ∷ valuesAt reads area (p + 24) (k - 1)
+  pub values-next : (k : ℕ) → 0 < k → valuesAt reads area p k ≡ valueAt reads area p ∷ valuesAt reads area (p + recordSize) (k - 1)
   unfolding valuesAt
   values-next zero h = absurd (omega arith)
   values-next (suc k) h = let e : suc k - 1 ≡ k = omega arith in rw e
@@ -36,23 +36,23 @@ module _ {A : Type 0} (reads : List ℕ → A) (area : List ℕ) (p : ℕ) where
 pub values-are : {A : Type 0} (reads : List ℕ → A) (area : List ℕ) (p k : ℕ) → map reads (records k (drop p area)) ≡ valuesAt reads area p k
 unfolding valuesAt valueAt records
 values-are reads area p zero = refl
-values-are reads area p (suc k) = rw (drop-drop 24 p area, values-are reads area (p + 24) k) refl
+values-are reads area p (suc k) = rw (drop-drop recordSize p area, values-are reads area (p + recordSize) k) refl
 
 -- ---- positions by their number
 
 -- the i-th position of an area, and k of them from it on
 abbrev pub nthPosition : List ℕ → ℕ → Position
-nthPosition area i = positionAt area (positionsPlace + 24 * i)
+nthPosition area i = positionAt area (positionsPlace + recordSize * i)
 
 abbrev pub positionsFrom : List ℕ → ℕ → ℕ → List Position
-positionsFrom area i k = valuesAt positionIn area (positionsPlace + 24 * i) k
+positionsFrom area i k = valuesAt positionIn area (positionsPlace + recordSize * i) k
 
 module _ (area : List ℕ) (i k : ℕ) where
   pub positions-next : 0 < k → positionsFrom area i k ≡ nthPosition area i ∷ positionsFrom area (i + 1) (k - 1)
-  positions-next h = let e : positionsPlace + 24 * (i + 1) ≡ positionsPlace + 24 * i + 24 = omega arith in rw e (values-next positionIn area (positionsPlace + 24 * i) k h)
+  positions-next h = let e : positionsPlace + recordSize * (i + 1) ≡ positionsPlace + recordSize * i + recordSize = omega arith in rw e (values-next positionIn area (positionsPlace + recordSize * i) k h)
 
   pub positions-none : k ≤ 0 → positionsFrom area i k ≡ []
-  positions-none h = values-none positionIn area (positionsPlace + 24 * i) k h
+  positions-none h = values-none positionIn area (positionsPlace + recordSize * i) k h
 
 -- ---- a key and a position that were read
 

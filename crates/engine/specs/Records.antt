@@ -8,12 +8,12 @@ use lib.ListN.{length, getD, take, drop, drop-of-length-le}
 use lib.Seq.{drop-drop, drop-cons}
 use Rattle.rules.specs.Text.{isSome}
 use Rattle.rules.specs.Engine.{Key, Position, keyBefore, sameKey}
-use Rattle.rules.specs.Area.{numberAt, positionIn, records, decode, holds, areaSize, positionsPlace}
-use Rattle.area.specs.Checked.{records-length}
-use Rattle.area.specs.Decoded.{decoded-limits}
-use Rattle.area.specs.Order.{Sorted, ordered-sorted}
-use Rattle.area.specs.Positions.{Before, position-order}
-use Rattle.area.specs.Tests.{valueAt, keyAt, positionAt}
+use Rattle.rules.specs.Area.{numberAt, positionIn, records, decode, holds, areaSize, positionsPlace, manyPositionsPlace, recordSize}
+use Rattle.engine_laws.specs.Checked.{records-length}
+use Rattle.engine_laws.specs.Decoded.{decoded-limits}
+use Rattle.engine_laws.specs.Order.{Sorted, ordered-sorted}
+use Rattle.engine_laws.specs.Positions.{Before, position-order}
+use Rattle.engine_laws.specs.Tests.{valueAt, keyAt, positionAt}
 use Rattle.engine.specs.Header.{HeaderOf}
 use Rattle.engine.specs.declared.header.Header.{Header}
 use Rattle.engine.specs.Positions.{nthPosition}
@@ -30,19 +30,19 @@ pub many : (a : List ℕ) (x : Header) → isSome (holds a) ≡ true → HeaderO
 many a x h n = record { same = n .positions; few = n .few; long = n .long; sorted = ordered-sorted position-order (decode a .positions) (decoded-limits a h .order) }
 
 -- the i-th of n records
-pub read-at : {A : Type 0} (f : List ℕ → A) (n i : ℕ) (bs : List ℕ) (none : A) → i < n → getD (map f (records n bs)) i none ≡ f (take 24 (drop (24 * i) bs))
+pub read-at : {A : Type 0} (f : List ℕ → A) (n i : ℕ) (bs : List ℕ) (none : A) → i < n → getD (map f (records n bs)) i none ≡ f (take recordSize (drop (recordSize * i) bs))
 unfolding records
 read-at f zero i bs none h = absurd (omega arith)
 read-at f (suc n) zero bs none h = refl
 read-at f (suc n) (suc i) bs none h =
-    let e : 24 * suc i ≡ 24 + 24 * i = omega arith in
-    read-at f n i (drop 24 bs) none (omega arith) ∙ rw (e, drop-drop (24 * i) 24 bs)
+    let e : recordSize * suc i ≡ 24 + recordSize * i = omega arith in
+    read-at f n i (drop recordSize bs) none (omega arith) ∙ rw (e, drop-drop (recordSize * i) 24 bs)
 
 nth-read : (a : List ℕ) (i : ℕ) (none : Position) → i < length (decode a .positions) → getD (decode a .positions) i none ≡ nthPosition a i
 unfolding decode valueAt
 nth-read a i none h =
-    let n : length (map positionIn (records (numberAt a 7 1) (drop positionsPlace a))) ≡ numberAt a 7 1 = records-length positionIn (numberAt a 7 1) (drop positionsPlace a) in
-    read-at positionIn (numberAt a 7 1) i (drop positionsPlace a) none (rw n at h) ∙ rw (drop-drop (24 * i) positionsPlace a)
+    let n : length (map positionIn (records (numberAt a manyPositionsPlace 1) (drop positionsPlace a))) ≡ numberAt a manyPositionsPlace 1 = records-length positionIn (numberAt a manyPositionsPlace 1) (drop positionsPlace a) in
+    read-at positionIn (numberAt a manyPositionsPlace 1) i (drop positionsPlace a) none (rw n at h) ∙ rw (drop-drop (recordSize * i) positionsPlace a)
 
 module _ (a : List ℕ) (n i : ℕ) (m : Many a n) where
   pub positions-from : i < n → drop i (decode a .positions) ≡ nthPosition a i ∷ drop (suc i) (decode a .positions)
@@ -50,7 +50,7 @@ module _ (a : List ℕ) (n i : ℕ) (m : Many a n) where
       let l : i < length (decode a .positions) = omega (arith, m .same) in
       drop-cons (decode a .positions) i (nthPosition a i) l ∙ rw (nth-read a i (nthPosition a i) l)
 
-  pub inside : i < n → positionsPlace + 24 * i + 24 ≤ length a
+  pub inside : i < n → positionsPlace + recordSize * i + recordSize ≤ length a
   inside h = omega (arith, m .few, m .long)
 
   module _ (k : Key) where
@@ -59,7 +59,7 @@ module _ (a : List ℕ) (n i : ℕ) (m : Many a n) where
       pub walk-end : n ≤ i → PlaceOf k (decode a .positions) i
       walk-end h = place-end g (omega (arith, m .same))
 
-      module _ (t : Bool) (h : i < n) (p : ℕ) (w : p ≡ positionsPlace + 24 * i) (l : Key) (f : l ≡ keyAt a p) (e : t ≡ keyBefore l k) where
+      module _ (t : Bool) (h : i < n) (p : ℕ) (w : p ≡ positionsPlace + recordSize * i) (l : Key) (f : l ≡ keyAt a p) (e : t ≡ keyBefore l k) where
         here : keyBefore (getD (decode a .positions) i (position k 0 0) .key) k ≡ t
         unfolding valueAt positionIn
         here = rw (nth-read a i (position k 0 0) (omega (arith, m .same)), ← w, ← f) (sym e)
@@ -75,7 +75,7 @@ module _ (a : List ℕ) (n i : ℕ) (m : Many a n) where
     unfolding isFirst
     first-none h = let l : length (decode a .positions) ≤ i = omega (arith, m .same) in rw (drop-of-length-le (decode a .positions) l)
 
-    pub first-is : (t : Bool) → i < n → (p : ℕ) → p ≡ positionsPlace + 24 * i → (l : Key) → l ≡ keyAt a p → t ≡ sameKey l k → t ≡ isFirst k (drop i (decode a .positions))
+    pub first-is : (t : Bool) → i < n → (p : ℕ) → p ≡ positionsPlace + recordSize * i → (l : Key) → l ≡ keyAt a p → t ≡ sameKey l k → t ≡ isFirst k (drop i (decode a .positions))
     unfolding isFirst valueAt positionIn
     first-is t h p w l f e = rw (positions-from h, ← w, ← f) e
 

@@ -10,12 +10,12 @@ use lib.Dec.{leb, eqb, lit≤}
 use lib.ListN.{length, getD, take, drop}
 use Rattle.rules.specs.Text.{isText, every, equal, any}
 use Rattle.rules.specs.Engine.{Reference, sameReference}
-use Rattle.rules.specs.Area.{untilZero, referenceIn, positionsPlace}
+use Rattle.rules.specs.Area.{untilZero, referenceIn, positionsPlace, recordSize}
 use Rattle.laws.specs.Parts.{cut, cut-step, cut-done, cut-length, cut-drop, cut-take}
 use Rattle.laws.specs.Tests.{cond-left, cond-right, and-left}
-use Rattle.area.specs.Layout.{text-byte}
-use Rattle.area.specs.Records.{cut-is, number-within}
-use Rattle.area.specs.Tests.{valueAt}
+use Rattle.engine_laws.specs.Layout.{text-byte}
+use Rattle.engine_laws.specs.Records.{cut-is, number-within}
+use Rattle.engine_laws.specs.Tests.{valueAt}
 use Rattle.text.specs.Numbers.{NumberAt}
 use Rattle.engine.specs.Positions.{valuesAt, values-next, values-none}
 
@@ -86,8 +86,8 @@ module _ (area : List ℕ) (p bank : ℕ) (cs : List ℕ) where
   text-is : referenceAt area p .text ≡ untilZero (cut area (p + 8) (p + 8 + 16))
   unfolding valueAt referenceIn
   text-is =
-      let e : p + 8 + 16 ≡ p + 24 = omega arith in
-      ap untilZero (ap (λ (r : List ℕ). take 16 (drop 8 r)) (sym (cut-is area p 24)) ∙ ap (take 16) (cut-drop area p (p + 24) 8) ∙ cut-take area (p + 8) (p + 24) 16 (omega arith))
+      let e : p + 8 + 16 ≡ p + recordSize = omega arith in
+      ap untilZero (ap (λ (r : List ℕ). take 16 (drop 8 r)) (sym (cut-is area p 24)) ∙ ap (take 16) (cut-drop area p (p + recordSize) 8) ∙ cut-take area (p + 8) (p + recordSize) 16 (omega arith))
 
   sender-is : (v : ℕ) → NumberAt area p 8 v → referenceAt area p .sender ≡ v
   unfolding valueAt referenceIn
@@ -113,7 +113,7 @@ module _ (area : List ℕ) (p bank : ℕ) (cs : List ℕ) where
 -- ---- among those of an area: the k records from p on answer for all
 
 pub record Among (area : List ℕ) (p k : ℕ) (r : Reference) (x : Bool) : Type 0 where
-  pub room : p + 24 * k ≤ positionsPlace
+  pub room : p + recordSize * k ≤ positionsPlace
   pub same : any (sameReference r) (referencesAt area p k) ≡ x
 
 module _ (area : List ℕ) (r : Reference) where
@@ -130,7 +130,7 @@ module _ (area : List ℕ) (r : Reference) where
       unfolding any
       among-found d = rw (values-next referenceIn area p k h, ← u, d) at (m .same)
 
-      pub among-on : t ≡ false → Among area (p + 24) (k - 1) r x
+      pub among-on : t ≡ false → Among area (p + recordSize) (k - 1) r x
       unfolding any
       among-on d = record { room = omega (arith, m .room); same = rw (values-next referenceIn area p k h, ← u, d) at (m .same) }
 

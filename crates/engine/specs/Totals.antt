@@ -9,9 +9,9 @@ use lib.ListN.{length, drop, drop-of-length-le}
 use borrow.Author.Tests.{leb-true, leb-false}
 use Rattle.rules.specs.Engine.{Key, Position, positionOf, isOpen}
 use Rattle.rules.specs.Text.{isSome}
-use Rattle.rules.specs.Area.{decode, holds, positionsPlace}
+use Rattle.rules.specs.Area.{decode, holds, positionsPlace, recordSize}
 use Rattle.laws.specs.Tests.{never}
-use Rattle.area.specs.Positions.{found-same}
+use Rattle.engine_laws.specs.Positions.{found-same}
 use Rattle.position.specs.declared.Position as P
 use Rattle.engine.specs.declared.held.Totals.{Totals}
 use Rattle.engine.specs.declared.header.Header.{Header}
@@ -55,7 +55,7 @@ module _ (a : List ℕ) (x : Header) (i : ℕ) (k : Key) (s : isSome (holds a) �
     pub found-place : i < 32
     found-place = omega (arith, here .inside, n .few)
 
-    pub totals-found : (q : P.Position) → PositionAt a (positionsPlace + 24 * i) q → TotalsOf (decode a .positions) k (record { «is_open» = true; transferred = q .transferred; detailed = q .detailed })
+    pub totals-found : (q : P.Position) → PositionAt a (positionsPlace + recordSize * i) q → TotalsOf (decode a .positions) k (record { «is_open» = true; transferred = q .transferred; detailed = q .detailed })
     totals-found q v = record {
       opens = sym (p .opens ∙ sym e ∙ h);
       transferred = ap (λ (y : Position). y .transferred) (v .value ∙ sym (here .is));

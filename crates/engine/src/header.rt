@@ -6,16 +6,15 @@ ghost use Prim.Native.Nat.{_≤_};
 ghost use lib.Dec.{leb};
 ghost use lib.ListN.{length};
 ghost use Rattle.rules.specs.Text.{isSome};
-ghost use Rattle.rules.specs.Area.{holds, areaSize};
+ghost use Rattle.rules.specs.Area.{holds, areaSize, referencesPlace};
 ghost use Rattle.engine.specs.Header.{HeaderAt, HeaderOf};
 
-// The day, the outgoing count, how many positions and references there are, and how long the register's text is.
+// The day, the outgoing count, and how many positions and references there are.
 pub struct Header {
     pub day: u32,
     pub count: u32,
     pub positions: u32,
     pub references: u32,
-    pub register: u32,
 }
 
 // Has an area room for an engine?
@@ -27,20 +26,18 @@ pub fn has_room(area: &[u8]) -> bool
 
 // The header of any bytes that have room for one.
 pub fn header_at(area: &[u8]) -> Header
-    requires { ⌜ 16 ≤ length (now area) ⌝ }
+    requires { ⌜ referencesPlace ≤ length (now area) ⌝ }
     ensures { λ r. ⌜ HeaderAt (now (area .entry)) r ⌝ }
 {
     let day = number_at(area, 2, 3);
     let count = number_at(area, 5, 2);
     let positions = number_at(area, 7, 1);
     let references = number_at(area, 8, 1);
-    let register = number_at(area, 10, 2);
     Header {
         day: day as u32,
         count: count as u32,
         positions: positions as u32,
         references: references as u32,
-        register: register as u32,
     }
 }
 

@@ -19,5 +19,8 @@ pub use positions::key_at;
 pub use positions::nth_position;
 pub use positions::position_at;
 pub use positions::position_place;
+pub use texts::length_at;
 pub use texts::register_text;
 pub use texts::temporary;
+pub use texts::text_at;
+pub use texts::text_place;

@@ -8,7 +8,7 @@ ghost use lib.Dec.{eqb};
 ghost use lib.ListN.{length};
 ghost use Rattle.rules.specs.Text.{isText, every, equal, any};
 ghost use Rattle.rules.specs.Engine.{sameReference};
-ghost use Rattle.rules.specs.Area.{untilZero, positionsPlace};
+ghost use Rattle.rules.specs.Area.{untilZero, positionsPlace, recordSize};
 ghost use Rattle.laws.specs.Parts.{cut};
 ghost use Rattle.engine.specs.References.{ofBank, referenceAt, referencesAt};
 
@@ -63,7 +63,7 @@ fn same_reference(area: &[u8], p: usize, bank: u64, s: &[u8], a: usize, b: usize
     requires { ⌜ a ≤ b ⌝ }
     requires { ⌜ b ≤ length (now s) ⌝ }
     requires { ⌜ b - a ≤ 16 ⌝ }
-    requires { ⌜ p + 24 ≤ length (now area) ⌝ }
+    requires { ⌜ p + recordSize ≤ length (now area) ⌝ }
     requires { ⌜ every isText (cut (now s) a b) ≡ true ⌝ }
     ensures { λ r. ⌜ r ≡ sameReference (ofBank bank (cut (now (s .entry)) a b)) (referenceAt (now (area .entry)) p) ⌝ }
 {

@@ -150,17 +150,21 @@ joined-record i xs h = ap joined (drop-cons xs i [] h)
 
 -- ---- a section
 
+-- element i, w bytes long, behind the k bytes of those before it
+pub section-part : (n i : ℕ) (xs : List (List ℕ)) (q : List ℕ) (k w : ℕ) → i < length xs → length (joined (take i xs)) ≡ k → length (getD xs i []) ≡ w
+    → take w (drop k (padded n (joined xs) ++ q)) ≡ getD xs i []
+unfolding padded
+section-part n i xs q k w h f g =
+    let Z : List ℕ = zeros (n - length (joined xs)) in
+    let e : joined xs ++ Z ++ q ≡ joined (take i xs) ++ (getD xs i [] ++ (joined (drop (suc i) xs) ++ (Z ++ q))) =
+    rw (joined-split i xs, joined-record i xs h) (simp append-assoc) in
+    ap (λ (l : List ℕ). take w (drop k l)) e
+    ∙ rw (drop-at (joined (take i xs)) (getD xs i [] ++ (joined (drop (suc i) xs) ++ (Z ++ q))) k f)
+    (take-at (getD xs i []) (joined (drop (suc i) xs) ++ (Z ++ q)) w g)
+
 module _ {w : ℕ} {xs : List (List ℕ)} (n i : ℕ) (s : Each w xs) where
   pub section-record : (q : List ℕ) → i < length xs → take w (drop (w * i) (padded n (joined xs) ++ q)) ≡ getD xs i []
-  unfolding padded
-  section-record q h =
-      let f : length (joined (take i xs)) ≡ w * i = joined-front i s (omega arith) in
-      let Z : List ℕ = zeros (n - length (joined xs)) in
-      let e : joined xs ++ Z ++ q ≡ joined (take i xs) ++ (getD xs i [] ++ (joined (drop (suc i) xs) ++ (Z ++ q))) =
-      rw (joined-split i xs, joined-record i xs h) (simp append-assoc) in
-      ap (λ (l : List ℕ). take w (drop (w * i) l)) e
-      ∙ rw (drop-at (joined (take i xs)) (getD xs i [] ++ (joined (drop (suc i) xs) ++ (Z ++ q))) (w * i) f)
-      (take-at (getD xs i []) (joined (drop (suc i) xs) ++ (Z ++ q)) w (each-get i s h))
+  section-record q h = section-part n i xs q (w * i) w h (joined-front i s (omega arith)) (each-get i s h)
 
   module _ (r : List ℕ) (e : length r ≡ w) where
     pub section-replaced : i < length xs → laid r (w * i) (padded n (joined xs)) ≡ padded n (joined (replaced i r xs))

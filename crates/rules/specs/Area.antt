@@ -11,10 +11,29 @@ use Rattle.rules.specs.Engine.{Key, Position, Reference, Engine, within}
 use Rattle.rules.specs.Calls.{Answer, openCall, messageCall, turnCall}
 
 -- ---- layout: numbers are big-endian, unused room is zero
---   0  mark (2), day (3), outgoing count (2), positions (1), references (1), currency (1), lengths of three texts (2 each)
+--   0  mark (2), day (3), outgoing count (2), positions (1), references (1), currency (1), lengths of at most three texts (2 each)
 --   16  64 references of 24 bytes: sender (8), reference (16)
 --   1,552  32 positions of 24 bytes: key (12), that is bank (8), date (3) and block (1), transferred (6), detailed (6)
---   2,320  texts, 3,824 bytes: the register
+--   2,320  texts one behind the other, 3,824 bytes: the register
+
+-- where the header's numbers stand: day, outgoing count, how many positions and references, currency, lengths of texts
+abbrev pub dayPlace : ℕ
+dayPlace = 2
+
+abbrev pub countPlace : ℕ
+countPlace = 5
+
+abbrev pub manyPositionsPlace : ℕ
+manyPositionsPlace = 7
+
+abbrev pub manyReferencesPlace : ℕ
+manyReferencesPlace = 8
+
+abbrev pub currencyPlace : ℕ
+currencyPlace = 9
+
+abbrev pub lengthsPlace : ℕ
+lengthsPlace = 10
 
 -- where the sections begin: references, positions, texts; and where the area ends
 abbrev pub referencesPlace : ℕ
@@ -29,7 +48,10 @@ textsPlace = 2320
 abbrev pub areaSize : ℕ
 areaSize = 6144
 
--- the room of each, and of a record
+-- the room of the lengths, of each section, and of a record
+abbrev pub lengthsRoom : ℕ
+lengthsRoom = 6
+
 abbrev pub referencesRoom : ℕ
 referencesRoom = 1536
 
@@ -80,15 +102,27 @@ keyBytes k = bytes 8 (k .bank) ++ bytes 3 (k .date) ++ bytes 1 0
 unfoldable pub positionRecord : Position → List ℕ
 positionRecord p = keyBytes (p .key) ++ bytes 6 (p .transferred) ++ bytes 6 (p .detailed)
 
+-- the texts of an engine, in the order in which they stand: the register
+unfoldable pub textsOf : Engine → List (List ℕ)
+textsOf e = e .register ∷ []
+
+-- the length of a text
+unfoldable pub lengthRecord : List ℕ → List ℕ
+lengthRecord t = bytes 2 (length t)
+
+-- the lengths of some texts, in room for three
+unfoldable pub lengthsOf : List (List ℕ) → List ℕ
+lengthsOf ts = padded lengthsRoom (joined (map lengthRecord ts))
+
 -- the mark of an area that holds an engine: "zeros hold no engine"
 abbrev pub mark : List ℕ
 mark = ascii "RC"
 
--- day, outgoing number and the numbers of positions and references, behind the mark
+-- day, outgoing number and the numbers of positions and references, behind the mark; currency and lengths
 unfoldable pub header : Engine → List ℕ
 header e =
     (mark ++ bytes 3 (e .day) ++ bytes 2 (e .count) ++ bytes 1 (length (e .positions)) ++ bytes 1 (length (e .references)))
-    ++ (bytes 1 0 ++ bytes 2 (length (e .register)) ++ bytes 4 0)
+    ++ (bytes 1 0 ++ lengthsOf (textsOf e))
 
 -- "An engine is the register, day, open positions, references .., and outgoing number.": as it stands in 6,144 bytes
 unfoldable pub encode : Engine → List ℕ
@@ -96,7 +130,7 @@ encode e =
     header e
     ++ padded referencesRoom (joined (map referenceRecord (e .references)))
     ++ padded positionsRoom (joined (map positionRecord (e .positions)))
-    ++ padded textsRoom (e .register)
+    ++ padded textsRoom (joined (textsOf e))
 
 -- ---- reading an area
 
@@ -121,6 +155,19 @@ keyIn r = record { bank = numberAt r 0 8; date = numberAt r dateOffset 3 }
 unfoldable pub positionIn : List ℕ → Position
 positionIn r = record { key = keyIn r; transferred = numberAt r transferredOffset 6; detailed = numberAt r detailedOffset 6 }
 
+-- the length of text k
+abbrev pub lengthAt : List ℕ → ℕ → ℕ
+lengthAt a k = numberAt a (lengthsPlace + 2 * k) 2
+
+-- where text k begins: behind those before it
+unfoldable pub textPlace : List ℕ → ℕ → ℕ
+textPlace a zero = textsPlace
+textPlace a (suc k) = textPlace a k + lengthAt a k
+
+-- text k
+unfoldable pub textAt : List ℕ → ℕ → List ℕ
+textAt a k = take (lengthAt a k) (drop (textPlace a k) a)
+
 -- n records
 unfoldable pub records : ℕ → List ℕ → List (List ℕ)
 records zero cs = []
@@ -129,11 +176,11 @@ records (suc n) cs = take recordSize cs ∷ records n (drop recordSize cs)
 -- the engine that the bytes say, within the limits or not
 unfoldable pub decode : List ℕ → Engine
 decode a = record {
-  register = take (numberAt a 10 2) (drop textsPlace a);
-  day = numberAt a 2 3;
-  positions = map positionIn (records (numberAt a 7 1) (drop positionsPlace a));
-  references = map referenceIn (records (numberAt a 8 1) (drop referencesPlace a));
-  count = numberAt a 5 2;
+  register = textAt a 0;
+  day = numberAt a dayPlace 3;
+  positions = map positionIn (records (numberAt a manyPositionsPlace 1) (drop positionsPlace a));
+  references = map referenceIn (records (numberAt a manyReferencesPlace 1) (drop referencesPlace a));
+  count = numberAt a countPlace 2;
 }
 
 -- the engine that an area holds; none falls under 10: "the engine area is shorter than 6,144 bytes or .. holds no engine within the limits above"

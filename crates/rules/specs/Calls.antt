@@ -43,6 +43,10 @@ pub record Answer : Type 0 where
 abbrev pub refused : ℕ → Option Engine → Answer
 refused k held = record { number = k; text = []; difference = pos 0; next = held }
 
+-- a call: accepted where no condition holds, and else refused by the first
+unfoldable pub answered : List Stop → Option Engine → Answer → Answer
+answered stops held accepted = let k = firstOf stops in cond (eqb k 0) accepted (refused k held)
+
 -- a test on what is there
 unfoldable pub holdsOf : {A : Type 0} → (A → Bool) → Option A → Bool
 holdsOf p none = false
@@ -62,11 +66,13 @@ openStops size text day =
 unfoldable pub opened : List ℕ → ℕ → Engine
 opened text day = record { register = text; day = day; positions = []; references = []; count = 0 }
 
--- opening: accepted where no condition holds, and else refused by the first
+-- accepted, it writes nothing
+unfoldable pub acceptedOpening : List ℕ → ℕ → Answer
+acceptedOpening text day = record { number = 0; text = []; difference = pos 0; next = some (opened text day) }
+
+-- an opening of an area that is lent with a size
 unfoldable pub openCall : ℕ → Option Engine → List ℕ → ℕ → Answer
-openCall size held text day =
-    let k = firstOf (openStops size text day) in
-    cond (eqb k 0) (record { number = 0; text = []; difference = pos 0; next = some (opened text day) }) (refused k held)
+openCall size held text day = answered (openStops size text day) held (acceptedOpening text day)
 
 -- ---- message: conditions
 
@@ -191,13 +197,10 @@ afterMessage e m = record {
   count = e .count + writes e m;
 }
 
--- "Stopped by the input": 1 to 8, of a message's bytes and the temporary account
-unfoldable pub inputStops : List ℕ → List ℕ → List Stop
-inputStops temporary s =
-    let m = read s in
-    stop 1 (not (framed s))
-    ∷ stop 2 (not (addressed s))
-    ∷ stop 3 (not (isSome m))
+-- 3 to 8, of what was read of a message
+unfoldable pub formStops : List ℕ → Option Message → List Stop
+formStops temporary m =
+    stop 3 (not (isSome m))
     ∷ stop 4 (holdsOf (λ m. not (leb (length (detailsOf m)) 16)) m)
     ∷ stop 5 (holdsOf badReference m)
     ∷ stop 6 (holdsOf badAmount m)
@@ -205,18 +208,29 @@ inputStops temporary s =
     ∷ stop 8 (holdsOf manyDates m)
     ∷ []
 
--- "Stopped by the state": 11 to 16; room is the output's
-unfoldable pub stateStops : ℕ → Engine → Option Message → List Stop
-stateStops room e m =
+-- "Stopped by the input": 1 to 8, of a message's bytes and the temporary account
+unfoldable pub inputStops : List ℕ → List ℕ → List Stop
+inputStops temporary s = stop 1 (not (framed s)) ∷ stop 2 (not (addressed s)) ∷ formStops temporary (read s)
+
+-- 11 to 15, of the engine
+unfoldable pub limitStops : Engine → Option Message → List Stop
+limitStops e m =
     stop 11 (holdsOf (misdated (e .day)) m)
     ∷ stop 12 (holdsOf (λ m. any (sameReference (ownReference m)) (e .references)) m)
     ∷ stop 13 (leb 64 (length (e .references)))
     ∷ stop 14 (holdsOf (noRoom e) m)
     ∷ stop 15 (holdsOf (overLimit e) m)
-    ∷ stop 16 (holdsOf (λ m. not (leb (length (messageText e m)) room)) m)
     ∷ []
 
--- "10, tested before all others"
+-- 16, of the output's room
+unfoldable pub roomStops : ℕ → Engine → Option Message → List Stop
+roomStops room e m = stop 16 (holdsOf (λ m. not (leb (length (messageText e m)) room)) m) ∷ []
+
+-- "Stopped by the state": 11 to 16
+unfoldable pub stateStops : ℕ → Engine → Option Message → List Stop
+stateStops room e m = limitStops e m ++ roomStops room e m
+
+-- "10, tested before all others"; behind it, where no engine is held, nothing is tested of any
 unfoldable pub messageStops : ℕ → Option Engine → List ℕ → List Stop
 messageStops room held s =
     let e = Option·getD held (opened [] 0) in
@@ -239,9 +253,9 @@ bothOf none m = refused 10 none
 bothOf (some e) none = refused 3 (some e)
 bothOf (some e) (some m) = acceptedMessage e m
 
--- a message: accepted where no condition holds, and else refused by the first
+-- a message
 unfoldable pub messageCall : ℕ → Option Engine → List ℕ → Answer
-messageCall room held s = let k = firstOf (messageStops room held s) in cond (eqb k 0) (bothOf held (read s)) (refused k held)
+messageCall room held s = answered (messageStops room held s) held (bothOf held (read s))
 
 -- ---- turn: "A turn tests 10, 3, 11, then 16"
 
@@ -291,6 +305,6 @@ acceptedTurn (some e) day = record {
   next = some (afterTurn e day);
 }
 
--- a turn: accepted where no condition holds, and else refused by the first
+-- a turn to a day
 unfoldable pub turnCall : ℕ → Option Engine → ℕ → Answer
-turnCall room held day = let k = firstOf (turnStops room held day) in cond (eqb k 0) (acceptedTurn held day) (refused k held)
+turnCall room held day = answered (turnStops room held day) held (acceptedTurn held day)

@@ -1,0 +1,52 @@
+-- What is known of an accepted message: its posting lines can be read back, it is dated as 11 asks, and its details are worth something. Assumes nothing.
+use mathlib.Core.Path.{_≡_}
+use mathlib.Core.Bool.{true, false, not}
+use mathlib.Core.List.{List, [], _∷_}
+use mathlib.Core.Option.{some}
+use Prim.Native.Nat.{ℕ, _+_, _^_, _≤_, _<_}
+use native.Mathlib.Omega.{arith}
+use lib.Dec.{leb, eqb}
+use lib.ListN.{length}
+use borrow.Author.Tests.{eqb-true, eqb-false, leb-true, not-false}
+use Rattle.rules.specs.Text.{ascii, any, equal}
+use Rattle.rules.specs.Messages.{Message, mt103, mt101, Detail, currency32B, read, sumOf}
+use Rattle.rules.specs.Engine.{Engine, limit, isBank}
+use Rattle.rules.specs.Calls.{bankOf, misdated, badSum, badAmount, overLimit, after}
+use Rattle.laws.specs.Tests.{and-right}
+use Rattle.engine_laws.specs.Facts.{or-left, or-right, any-left}
+use Rattle.engine_laws.specs.Limits.{Limits, bank-small}
+use Rattle.engine_laws.specs.Accepted.{Has, read-has, sender-bank}
+use Rattle.rule_laws.specs.Clear.{Clear}
+use Rattle.balance_laws.specs.Details.{Details, Details.transfer, Details.order, read-details}
+use Rattle.balance_laws.specs.Accounts.{temporary-shape}
+use Rattle.balance_laws.specs.Message.{bookOf, Postable}
+use Rattle.balance_laws.specs.Untouched.{Admitted, Admitted.transfer, Admitted.order}
+
+small-sum : (v w : ℕ) → leb (v + w) limit ≡ true → w < 10 ^ 20
+small-sum v w h = omega (arith, leb-true (v + w) limit h)
+
+pub postable : (room : ℕ) (e : Engine) (s : List ℕ) (m : Message) → Limits e → read s ≡ some m → Clear room e s m → Postable e m
+unfolding bookOf isBank overLimit after
+postable room e s m l r c =
+    let a : Has s m = read-has s m r in
+    let b : isBank (bankOf m) ≡ true = rw (a .sent) (sender-bank s (c .frame)) in record {
+      book = record {
+        known = and-right (leb (bankOf m) 18446744073709551615) _ b;
+        small = omega (arith, bank-small (bankOf m) b);
+        account = temporary-shape (e .register) (l .register);
+      };
+      details = read-details s m r;
+      transferred = small-sum _ _ (not-false _ (or-left _ _ (c .under)));
+      detailed = small-sum _ _ (not-false _ (or-right (not (leb (after e m .transferred) limit)) _ (c .under)));
+    }
+
+pub admitted : (room : ℕ) (e : Engine) (s : List ℕ) (m : Message) → Details m → Clear room e s m → Admitted (e .day) m
+unfolding misdated badAmount badSum any sumOf
+admitted room e s (mt103 t) transfer c = transfer (eqb-true _ _ (not-false _ (c .today)))
+admitted room e s (mt101 o) (order l) c = order (leb-true _ _ (not-false _ (c .today))) (go (o .details) (l .some) (c .amounts))
+  where
+    go : (ds : List Detail) → 1 ≤ length ds → any (λ (d : Detail). badSum (currency32B d) (d .amount)) ds ≡ false → 1 ≤ sumOf ds
+    go [] n h = n
+    go (d ∷ ds) n h =
+        let z : d .amount ≡ 0 → ⊥ = eqb-false (d .amount) 0 (or-right (not (equal (currency32B d) (ascii "BGN"))) (eqb (d .amount) 0) (any-left (badSum (currency32B d) (d .amount)) (any (λ (d : Detail). badSum (currency32B d) (d .amount)) ds) h)) in
+        omega arith

@@ -1,0 +1,151 @@
+-- The details of a message in form: what an MT199 repeats of them is short, and there is one at least. A row of a form is a line of the message, which holds no CR or LF, or is
+-- left out. Assumes nothing.
+use mathlib.Core.Path.{_≡_, refl}
+use mathlib.Core.Bool.{Bool, true, false, cond}
+use mathlib.Core.List.{List, [], _∷_}
+use mathlib.Core.Option.{Option, none, some, Option·map}
+use Prim.Native.Nat.{ℕ, zero, suc, _≤_, _<_}
+use native.Mathlib.Omega.{arith}
+use lib.Dec.{eqb, lit<}
+use lib.ListN.{length, getD, take, drop, length-take}
+use lib.Seq.{drop-nil}
+use Rattle.rules.specs.Text.{ascii, every, run, equal, fits}
+use Rattle.rules.specs.Dates.{date}
+use Rattle.rules.specs.Amounts.{amount}
+use Rattle.rules.specs.Lines.{Line, Taken, line, lead, closing, type, sender, body}
+use Rattle.rules.specs.Forms.{Row, Rowed, nothing, account, fitsRest, fitsRow, leadRows, rowed, transferRows, orderRows, detailRows}
+use Rattle.rules.specs.Messages.{Message, mt103, mt101, Transfer, Order, Detail, lineOf, detailOf, detailed, details, readTransfer, readOrder, read, transferOf}
+use Rattle.laws.specs.Tests.{and-left, and-right, between-high}
+use Rattle.engine_laws.specs.Facts.{Came, came, gave, some-is}
+use Rattle.engine_laws.specs.Layout.{All, All.none, All.more}
+use Rattle.laws.specs.Every.{every-take, every-drop}
+use Rattle.balance_laws.specs.Texts.{no-some, inLine}
+use Rattle.balance_laws.specs.Told.{Short}
+use Rattle.balance_laws.specs.Mute.{Sent}
+
+-- ---- a line holds no CR or LF
+
+pub line-plain : (cs : List ℕ) (t : Taken) → line cs ≡ some t → every inLine (t .line) ≡ true
+unfolding line lead every inLine
+line-plain [] t h = no-some h
+line-plain (c ∷ []) t h = no-some h
+line-plain (c ∷ d ∷ cs) t h = go (eqb c 13) (eqb d 10) (eqb c 10) (line (d ∷ cs)) refl refl (line-plain (d ∷ cs)) h
+  where
+    go : (x y z : Bool) (o : Option Taken) → eqb c 13 ≡ x → eqb c 10 ≡ z → ((u : Taken) → o ≡ some u → every inLine (u .line) ≡ true)
+        → cond x (cond y (some record { line = []; others = cs }) none) (cond z none (lead (c ∷ []) o)) ≡ some t → every inLine (t .line) ≡ true
+    go true true z o e f g k = let q : record { line = []; others = cs } ≡ t = cc in rw (← q)
+    go true false z o e f g k = no-some k
+    go false y true o e f g k = no-some k
+    go false y false none e f g k = no-some k
+    go false y false (some u) e f g k = let q : record { line = c ∷ u .line; others = u .others } ≡ t = cc in rw (← q, e, f) (g u refl)
+
+-- ---- rows
+
+-- a line in its row, or none
+pub data Stands (r : Row) : Line → Type 0 where
+  out : Stands r []
+  here : {l : Line} → fitsRow r l ≡ true → every inLine l ≡ true → Stands r l
+
+pub data Rows : List Row → List Line → Type 0 where
+  end : Rows [] []
+  row : {r : Row} {l : Line} {rs : List Row} {ls : List Line} → Stands r l → Rows rs ls → Rows (r ∷ rs) (l ∷ ls)
+
+pub rowed-rows : (rs : List Row) (cs : List ℕ) (x : Rowed) → rowed rs cs ≡ some x → Rows rs (x .rows)
+unfolding rowed leadRows
+rowed-rows [] cs x h = let q : record { rows = []; others = cs } ≡ x = cc in rw (← q) end
+rowed-rows (r ∷ rs) cs x h =
+    let t : Came (line cs) _ x = came _ _ h in
+    go (t .value .line) (rowed rs (t .value .others)) (rowed rs cs) (fitsRow r (t .value .line)) (r .may) refl (line-plain cs (t .value) (t .is))
+    (rowed-rows rs (t .value .others)) (rowed-rows rs cs) (t .gives)
+  where
+    go : (l : Line) (o u : Option Rowed) (b c : Bool) → fitsRow r l ≡ b → every inLine l ≡ true → ((y : Rowed) → o ≡ some y → Rows rs (y .rows)) → ((y : Rowed) → u ≡ some y → Rows rs (y .rows))
+        → cond b (leadRows (l ∷ []) o) (cond c (leadRows ([] ∷ []) u) none) ≡ some x → Rows (r ∷ rs) (x .rows)
+    go l none u true c e p f g k = no-some k
+    go l (some y) u true c e p f g k = let q : record { rows = l ∷ y .rows; others = y .others } ≡ x = cc in rw (← q) (row (here e p) (f y refl))
+    go l o none false true e p f g k = no-some k
+    go l o (some y) false true e p f g k = let q : record { rows = [] ∷ y .rows; others = y .others } ≡ x = cc in rw (← q) (row out (g y refl))
+    go l o u false false e p f g k = no-some k
+
+pub row-at : (d : Row) {rs : List Row} {ls : List Line} → Rows rs ls → (i : ℕ) → i < length rs → Stands (getD rs i d) (lineOf ls i)
+row-at d end i h = absurd (omega arith)
+row-at d (row s t) zero h = s
+row-at d (row s t) (suc i) h = row-at d t i (omega arith)
+
+-- ---- a detail
+
+stands-plain : {r : Row} {l : Line} → Stands r l → every inLine l ≡ true
+unfolding every
+stands-plain out = refl
+stands-plain (here h p) = p
+
+-- a part of a line
+short-part : (n i : ℕ) {r : Row} {l : Line} → Stands r l → Short n (take n (drop i l))
+short-part n i {l = l} s = record { plain = every-take inLine n _ (every-drop inLine i l (stands-plain s)); size = rw length-take (omega arith) }
+
+-- what stands behind a head
+short-rest : (n : ℕ) {r : Row} {l : Line} → ((cs : List ℕ) → fitsRest (r .rest) cs ≡ true → length cs ≤ n) → Stands r l → Short n (drop (length (r .head)) l)
+unfolding fitsRow
+short-rest n {r} {l} f s = record { plain = every-drop inLine (length (r .head)) l (stands-plain s); size = few s }
+  where
+    few : {m : Line} → Stands r m → length (drop (length (r .head)) m) ≤ n
+    few out = rw (drop-nil (length (r .head))) (omega arith)
+    few (here {l = m} h p) = f (drop (length (r .head)) m) (and-right (fits (r .head) (take (length (r .head)) m)) _ h)
+
+detail-sent : (ls : List Line) (d : Detail) → Rows detailRows ls → detailOf ls ≡ some d → Sent d
+unfolding detailOf fitsRest run
+detail-sent ls d s h =
+    let a : Came (amount (drop 8 (lineOf ls 1))) _ d = came _ _ h in
+    let b : Came (date (take 6 (drop 10 (lineOf ls 13)))) _ d = came _ _ (a .gives) in
+    let c : Came (date (take 6 (drop 6 (lineOf ls 14)))) _ d = came _ _ (b .gives) in
+    let e : record { rows = ls; date = b .value; amount = a .value } ≡ d = some-is (c .gives) in
+    rw (← e) record {
+      code = short-part 8 5 (row-at none-row s 7 (lit< tt));
+      dated = short-part 6 6 (row-at none-row s 14 (lit< tt));
+      named = short-rest 12 (λ cs k. between-high 1 12 (length cs) (and-left _ _ k)) (row-at none-row s 14 (lit< tt));
+      account = short-rest 34 (λ cs k. between-high 1 34 (length cs) (and-left _ _ k)) (row-at none-row s 9 (lit< tt));
+    }
+  where
+    none-row : Row
+    none-row = record { head = []; rest = nothing; may = true }
+
+-- "one or more details"
+pub record Listed (ds : List Detail) : Type 0 where
+  pub sent : All Sent ds
+  pub some : 1 ≤ length ds
+
+details-listed : (k : ℕ) (cs : List ℕ) (ds : List Detail) → details k cs ≡ some ds → Listed ds
+unfolding details detailed
+details-listed zero cs ds h = no-some h
+details-listed (suc k) cs ds h =
+    let d : Came (detailed cs) _ ds = came _ _ h in
+    let r : Came (rowed detailRows cs) _ (d .value) = came _ _ (d .is) in
+    let x : Came (detailOf (r .value .rows)) _ (d .value) = came _ _ (r .gives) in
+    let e : record { detail = x .value; others = r .value .others } ≡ d .value = some-is (x .gives) in
+    let f : Sent (d .value .detail) = rw (← e) (detail-sent (r .value .rows) (x .value) (rowed-rows detailRows cs (r .value) (r .is)) (x .is)) in
+    go (d .value .detail) (closing (d .value .others)) (details k (d .value .others)) f (details-listed k (d .value .others)) (d .gives)
+  where
+    go : (x : Detail) (t : Bool) (y : Option (List Detail)) → Sent x → ((ys : List Detail) → y ≡ some ys → Listed ys) → cond t (some (x ∷ [])) (Option·map (λ (ds : List Detail). x ∷ ds) y) ≡ some ds → Listed ds
+    go x true y f g k = let q : x ∷ [] ≡ ds = cc in rw (← q) record { sent = more f none; some = omega arith }
+    go x false none f g k = no-some k
+    go x false (some y) f g k = let q : x ∷ y ≡ ds = cc in rw (← q) record { sent = more f (g y refl .sent); some = omega arith }
+
+-- the details of a message, where it is an MT101
+pub data Details : Message → Type 0 where
+  transfer : {t : Transfer} → Details (mt103 t)
+  order : {o : Order} → Listed (o .details) → Details (mt101 o)
+
+pub read-details : (s : List ℕ) (m : Message) → read s ≡ some m → Details m
+unfolding read readTransfer readOrder
+read-details s m h = go (equal (type s) (ascii "103")) h
+  where
+    go : (t : Bool) → cond t (readTransfer s) (readOrder s) ≡ some m → Details m
+    go true k =
+        let r : Came (rowed transferRows (body s)) _ m = came _ _ k in
+        let t : Came (transferOf (sender s) (r .value .rows)) _ m = came _ _ (r .gives) in
+        let e : mt103 (t .value) ≡ m = gave (closing (r .value .others)) (mt103 (t .value)) (t .gives) .is in
+        rw (← e) transfer
+    go false k =
+        let r : Came (rowed orderRows (body s)) _ m = came _ _ k in
+        let d : Came (details 4096 (r .value .others)) _ m = came _ _ (r .gives) in
+        let e : mt101 record { sender = sender s; rows = r .value .rows; details = d .value } ≡ m = some-is (d .gives) in
+        rw (← e) (order (details-listed 4096 (r .value .others) (d .value) (d .is)))

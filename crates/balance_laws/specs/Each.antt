@@ -1,0 +1,24 @@
+-- What holds of each of a list holds of each of a part of it, of one more, and of a list to which it is handed on. Assumes nothing.
+use mathlib.Core.List.{List, [], _∷_, _++_}
+use Prim.Native.Nat.{ℕ, zero, suc}
+use lib.ListN.{take, drop}
+use Rattle.engine_laws.specs.Layout.{All, All.none, All.more}
+
+module _ {A : Type 0} {P : A → Type 0} where
+  pub all-take : (n : ℕ) {xs : List A} → All P xs → All P (take n xs)
+  all-take zero s = none
+  all-take (suc n) none = none
+  all-take (suc n) (more p s) = more p (all-take n s)
+
+  pub all-drop : (n : ℕ) {xs : List A} → All P xs → All P (drop n xs)
+  all-drop zero s = s
+  all-drop (suc n) none = none
+  all-drop (suc n) (more p s) = all-drop n s
+
+  pub all-last : {xs : List A} {x : A} → All P xs → P x → All P (xs ++ x ∷ [])
+  all-last none p = more p none
+  all-last (more q s) p = more q (all-last s p)
+
+  pub all-wider : {Q : A → Type 0} → ((x : A) → P x → Q x) → {xs : List A} → All P xs → All Q xs
+  all-wider f none = none
+  all-wider f (more {x} p s) = more (f x p) (all-wider f s)

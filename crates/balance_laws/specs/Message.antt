@@ -1,0 +1,110 @@
+-- What the lines of an accepted message tell: in comes what it transfers, out goes what it details, credited and returned both. Assumes nothing.
+use mathlib.Core.Path.{_≡_, refl, sym}
+use mathlib.Core.Bool.{Bool, true, false, cond}
+use mathlib.Core.List.{List, [], _∷_}
+use mathlib.Core.Option.{none}
+use Prim.Native.Nat.{ℕ, _+_, _^_, _<_}
+use native.Mathlib.Omega.{arith}
+use Rattle.rules.specs.Messages.{Message, mt103, mt101, Detail, account59, detailsOf, dateOf, transferredBy, detailedBy, sumOf}
+use Rattle.rules.specs.Register.{Register, register, registerOf}
+use Rattle.rules.specs.Verdict.{Verdict, credited, returned, isReturned, accountAt}
+use Rattle.rules.specs.Engine.{Engine, bic}
+use Rattle.rules.specs.Written.{Book, posting, verdicts}
+use Rattle.rules.specs.Calls.{bankOf, verdictOf, returnedOf, detailPosting, detailPostings, postings, judged, after, messageText}
+use Rattle.rules.specs.Ledger.{Kind, Fed, isParty}
+use Rattle.engine_laws.specs.Layout.{All, All.none, All.more}
+use Rattle.balance_laws.specs.Told.{Tells, tells-none, tells-join, tells-same, tells-mute, Mute, mute-none}
+use Rattle.balance_laws.specs.Mute.{Sent, mute-verdicts}
+use Rattle.balance_laws.specs.Details.{Details, Details.transfer, Details.order}
+use Rattle.balance_laws.specs.Accounts.{credited-shape}
+use Rattle.balance_laws.specs.Kinds.{comesIn, goesOut, Readable, mine, mine-none, mine-adds, bank-party, iban-party, in-from, out-from, in-paid, out-paid}
+
+-- ---- the posting lines of details
+
+-- whom a verdict pays: the register's account, or the bank
+unfoldable pub payee : Register → Book → Verdict → List ℕ
+payee r b (credited i) = accountAt r i .iban
+payee r b (returned c) = bic (b .bank)
+
+paid : (r : Register) (b : Book) (d : Detail) (v : Verdict) → detailPosting r b d v ≡ posting b (b .temporary) (payee r b v) (d .amount)
+unfolding detailPosting payee
+paid r b d (credited i) = refl
+paid r b d (returned c) = refl
+
+payee-party : (r : Register) (b : Book) (d : Detail) → Readable b → isParty (payee r b (verdictOf r d)) ≡ true
+unfolding payee
+payee-party r b d k = go (verdictOf r d) refl
+  where
+    go : (v : Verdict) → verdictOf r d ≡ v → isParty (payee r b v) ≡ true
+    go (credited i) e = iban-party (accountAt r i .iban) (credited-shape r (account59 d) i e)
+    go (returned c) e = bank-party b k
+
+-- a kind that counts each line from the temporary account by g counts all details by it
+module _ (kind : Kind) (f : Fed) (r : Register) (b : Book) (k : Readable b) (g : ℕ → ℕ) (none : g 0 ≡ 0) (adds : (v w : ℕ) → g (v + w) ≡ g v + g w)
+    (counts : (credit : List ℕ) (v : ℕ) → isParty credit ≡ true → v < 10 ^ 20 → Tells kind f (posting b (b .temporary) credit v) (g v)) where
+  tells-details : (ds : List Detail) → sumOf ds < 10 ^ 20 → Tells kind f (detailPostings r b ds) (g (sumOf ds))
+  unfolding detailPostings sumOf
+  tells-details [] h = tells-same tells-none (sym none)
+  tells-details (d ∷ ds) h =
+      let v : Verdict = verdictOf r d in
+      let one : Tells kind f (detailPosting r b d v) (g (d .amount)) = rw (paid r b d v) (counts (payee r b v) (d .amount) (payee-party r b d k) (omega arith)) in
+      tells-same (tells-join one (tells-details ds (omega arith))) (sym (adds (d .amount) (sumOf ds)))
+
+returned-sent : (r : Register) {ds : List Detail} → All Sent ds → All Sent (returnedOf r ds)
+unfolding returnedOf
+returned-sent r none = none
+returned-sent r (more {x = d} {xs = ds} s t) = go (isReturned (verdictOf r d)) (returned-sent r t)
+  where
+    go : (b : Bool) → All Sent (returnedOf r ds) → All Sent (cond b (d ∷ returnedOf r ds) (returnedOf r ds))
+    go true u = more s u
+    go false u = u
+
+-- ---- the posting lines of a message
+
+module _ (bank : ℕ) (f : Fed) (s : bank < 2 ^ 64) (r : Register) (b : Book) (k : Readable b) where
+  postings-in : (m : Message) → transferredBy m < 10 ^ 20 → detailedBy m < 10 ^ 20 → Tells (comesIn bank) f (postings r b m) (mine bank (b .bank) (transferredBy m))
+  unfolding postings transferredBy detailedBy detailsOf
+  postings-in (mt103 t) h l = in-from b bank (t .amount) k s h
+  postings-in (mt101 o) h l =
+      tells-same (tells-details (comesIn bank) f r b k (λ v. 0) refl (λ v w. refl) (λ credit v p l. in-paid b bank v k s l credit p) (o .details) l) (sym (mine-none bank (b .bank)))
+
+  postings-out : (m : Message) → transferredBy m < 10 ^ 20 → detailedBy m < 10 ^ 20 → Tells (goesOut (b .temporary) bank) f (postings r b m) (mine bank (b .bank) (detailedBy m))
+  unfolding postings transferredBy detailedBy detailsOf sumOf
+  postings-out (mt103 t) h l = tells-same (out-from b bank (t .amount) k s h) (sym (mine-none bank (b .bank)))
+  postings-out (mt101 o) h l =
+      tells-details (goesOut (b .temporary) bank) f r b k (mine bank (b .bank)) (mine-none bank (b .bank)) (mine-adds bank (b .bank)) (λ credit v p l. out-paid b bank v k s l credit p) (o .details) l
+
+-- ---- a message
+
+-- the book of a message's posting lines
+unfoldable pub bookOf : Engine → Message → Book
+bookOf e m = record { day = e .day; temporary = registerOf (e .register) .temporary; bank = bankOf m; date = dateOf m }
+
+-- what the lines of an accepted message need
+pub record Postable (e : Engine) (m : Message) : Type 0 where
+  pub book : Readable (bookOf e m)
+  pub details : Details m
+  pub transferred : transferredBy m < 10 ^ 20
+  pub detailed : detailedBy m < 10 ^ 20
+
+module _ (e : Engine) (m : Message) (w : Postable e m) where
+  -- the verdicts that follow tell nothing
+  mute-judged : Mute (cond (judged m (after e m)) (verdicts (e .day) (e .count) (after e m) (returnedOf (registerOf (e .register)) (detailsOf m))) [])
+  unfolding bookOf after detailsOf
+  mute-judged = go (judged m (after e m)) (w .details)
+    where
+      go : (t : Bool) {n : Message} → Details n → Mute (cond t (verdicts (e .day) (e .count) (after e m) (returnedOf (registerOf (e .register)) (detailsOf n))) [])
+      go true transfer = mute-verdicts (e .day) (e .count) (after e m) (w .book .known) (returned-sent (registerOf (e .register)) none)
+      go true (order l) = mute-verdicts (e .day) (e .count) (after e m) (w .book .known) (returned-sent (registerOf (e .register)) (l .sent))
+      go false d = mute-none
+
+  module _ (bank : ℕ) (f : Fed) (s : bank < 2 ^ 64) where
+    pub message-in : Tells (comesIn bank) f (messageText e m) (mine bank (bankOf m) (transferredBy m))
+    unfolding messageText bookOf
+    message-in =
+        tells-same (tells-join (postings-in bank f s (registerOf (e .register)) (bookOf e m) (w .book) m (w .transferred) (w .detailed)) (tells-mute mute-judged)) (omega arith)
+
+    pub message-out : Tells (goesOut (registerOf (e .register) .temporary) bank) f (messageText e m) (mine bank (bankOf m) (detailedBy m))
+    unfolding messageText bookOf
+    message-out =
+        tells-same (tells-join (postings-out bank f s (registerOf (e .register)) (bookOf e m) (w .book) m (w .transferred) (w .detailed)) (tells-mute mute-judged)) (omega arith)

@@ -1,0 +1,145 @@
+-- Written messages are mute: no line of an MT199, MT204 or MT205 is long enough for a posting line. Assumes nothing.
+use mathlib.Core.Path.{_≡_, refl, subst}
+use mathlib.Core.Bool.{Bool, true, false, cond}
+use mathlib.Core.List.{List, [], _++_, append-assoc}
+use Prim.Native.Nat.{ℕ, zero, suc, _+_, _/_, _%_, _≤_}
+use native.Mathlib.Omega.{arith}
+use lib.Dec.{leb}
+use lib.ListN.{length}
+use Rattle.rules.specs.Text.{ascii, every, decimal}
+use Rattle.rules.specs.Amounts.{written, withComma, withPoint}
+use Rattle.rules.specs.Accounts.{isBic, ibanShape}
+use Rattle.rules.specs.Messages.{Detail, branch, account59, baerefDate, baerefName}
+use Rattle.rules.specs.Engine.{Position, bic, limit}
+use Rattle.rules.specs.Written.{reference, opened, field, size, returnedRows, allReturned, linked, position79, closed79, mt199, partsOf, mt199s, verdicts, field72, mt204, mt205}
+use Rattle.laws.specs.Digits.{places-length, width-bound, width-most}
+use Rattle.engine_laws.specs.Layout.{All, All.none, All.more}
+use Rattle.balance_laws.specs.Each.{all-take, all-drop}
+use Rattle.balance_laws.specs.Texts.{inLine}
+use Rattle.balance_laws.specs.Told.{Short, short-join, short-text, Mute, mute-none, mute-line, mute-join}
+use Rattle.balance_laws.specs.Signs.{short-fixed, short-decimal, short-written, short-bic, short-iban}
+
+infixl 65 _⊕_
+_⊕_ : {m n : ℕ} {a b : List ℕ} → Short m a → Short n b → Short (m + n) (a ++ b)
+s ⊕ t = short-join s t
+
+infixl 60 _▹_
+_▹_ : {a b : List ℕ} → Mute a → Mute b → Mute (a ++ b)
+s ▹ t = mute-join s t
+
+-- ---- parts of all messages
+
+short-reference : (day n : ℕ) → Short 14 (reference day n)
+unfolding reference every inLine
+short-reference day n = short-fixed 6 day ⊕ short-text (ascii "GA") refl ⊕ short-fixed 6 n
+
+mute-field : {m n : ℕ} {tag value : List ℕ} → Short m tag → Short n value → leb (m + n) 41 ≡ true → Mute (field tag value)
+unfolding field
+mute-field s t h = mute-line (s ⊕ t) h
+
+mute-opened : (bank : ℕ) (type : List ℕ) → Short 3 type → isBic (bic bank) ≡ true → Mute (opened type bank)
+unfolding opened every inLine
+mute-opened bank type s h = mute-line (s ⊕ short-text (ascii ",BNBGBGSD,") refl ⊕ short-bic (bic bank) h) refl
+
+-- ---- MT199
+
+-- what an accepted message's detail gives two rows for
+pub record Sent (d : Detail) : Type 0 where
+  pub code : Short 8 (branch d)
+  pub dated : Short 6 (baerefDate d)
+  pub named : Short 12 (baerefName d)
+  pub account : Short 34 (account59 d)
+
+mute-returned : {ds : List Detail} → All Sent ds → Mute (allReturned ds)
+unfolding allReturned returnedRows every inLine
+mute-returned none = mute-none
+mute-returned (more d s) =
+    mute-line (d .code ⊕ short-text (ascii "/") refl ⊕ d .dated ⊕ short-text (ascii "/") refl ⊕ d .named) refl
+    ▹ mute-line (d .account) refl
+    ▹ mute-returned s
+
+mute-linked : (day n part : ℕ) → Mute (linked day n part)
+unfolding linked every inLine
+mute-linked day n part = go (leb 2 part)
+  where
+    go : (t : Bool) → Mute (cond t (field (ascii ":21:") (reference day (n + 1))) [])
+    go true = mute-field (short-text (ascii ":21:") refl) (short-reference day (n + 1)) refl
+    go false = mute-none
+
+short-comma : (v : ℕ) → Short 23 (withComma v)
+unfolding every inLine
+short-comma v = short-written v (short-text (ascii ",") refl)
+
+mute-position : (date transferred detailed : ℕ) → Mute (position79 date transferred detailed)
+unfolding position79 every inLine
+mute-position date transferred detailed =
+    mute-field (short-text (ascii ":79:/CENTRB/") refl) (short-fixed 6 date) refl
+    ▹ mute-field (short-text [] refl) (short-comma transferred) refl
+    ▹ mute-field (short-text [] refl) (short-comma detailed) refl
+    ▹ mute-field (short-text [] refl) (short-comma (size transferred detailed)) refl
+    ▹ mute-line (short-text (ascii "NEKOREKTNI SMETKI") refl) refl
+
+mute-closed : (part parts : ℕ) → Mute (closed79 part parts)
+unfolding closed79 every inLine
+mute-closed part parts =
+    subst Mute (append-assoc (decimal part ++ ascii "/" ++ decimal parts) (ascii "\r\n") (ascii "-\r\n"))
+    (mute-line (short-decimal part ⊕ short-text (ascii "/") refl ⊕ short-decimal parts) refl ▹ mute-line (short-text (ascii "-") refl) refl)
+
+mute-199 : (day n : ℕ) (p : Position) (part parts : ℕ) {ds : List Detail} → isBic (bic (p .key .bank)) ≡ true → All Sent ds → Mute (mt199 day n p part parts ds)
+unfolding mt199 every inLine
+mute-199 day n p part parts h s =
+    (mute-opened (p .key .bank) (ascii "199") (short-text (ascii "199") refl) h ▹ mute-field (short-text (ascii ":20:") refl) (short-reference day (n + part)) refl ▹ mute-linked day n part)
+    ▹ mute-position (p .key .date) (p .transferred) (p .detailed)
+    ▹ mute-returned s
+    ▹ mute-closed part parts
+
+mute-199s : (k day n : ℕ) (p : Position) (part parts : ℕ) {ds : List Detail} → isBic (bic (p .key .bank)) ≡ true → All Sent ds → Mute (mt199s k day n p part parts ds)
+unfolding mt199s
+mute-199s zero day n p part parts h s = mute-none
+mute-199s (suc k) day n p part parts h s = mute-199 day n p part parts h (all-take 14 s) ▹ mute-199s k day n p (part + 1) parts h (all-drop 14 s)
+
+pub mute-verdicts : (day n : ℕ) (p : Position) {ds : List Detail} → isBic (bic (p .key .bank)) ≡ true → All Sent ds → Mute (verdicts day n p ds)
+unfolding verdicts
+mute-verdicts day n p {ds} h s = mute-199s (partsOf (length ds)) day n p 1 (partsOf (length ds)) h s
+
+-- ---- corrections
+
+-- a sum within the limit has a digit less than the longest number
+short-point : (v : ℕ) → v ≤ limit → Short 22 (withPoint v)
+unfolding every inLine written
+short-point v h = levs ⊕ short-text (ascii ".") refl ⊕ short-fixed 2 (v % 100)
+  where
+    levs : Short 19 (decimal (v / 100))
+    levs = record { plain = short-decimal (v / 100) .plain; size = rw (places-length, width-bound 18 (v / 100) (omega arith)) (width-most 18 (v / 100)) }
+
+mute-72 : (day n : ℕ) (p : Position) → p .detailed ≤ limit → Mute (field72 day n p)
+unfolding field72 every inLine
+mute-72 day n p h =
+    mute-line (short-text (ascii ":72:/BAEREF/") refl ⊕ short-fixed 6 day ⊕ short-fixed 6 n) refl
+    ▹ mute-field (short-text (ascii "/RELREF/ERRCENTRB") refl) (short-fixed 6 (p .key .date)) refl
+    ▹ mute-line (short-text (ascii "//RAZLIKA OT CENTRALIZACIA NA BS") refl) refl
+    ▹ mute-field (short-text (ascii "//SUMA PREZ RINGS ") refl) (short-written (p .transferred) (short-text (ascii ".") refl)) refl
+    ▹ (mute-field (short-text (ascii "//SUMA PREZ BISERA ") refl) (short-point (p .detailed) h) refl ▹ mute-line (short-text (ascii "-") refl) refl)
+
+pub mute-204 : (day : ℕ) (temporary : List ℕ) (n : ℕ) (p : Position) (v : ℕ) → isBic (bic (p .key .bank)) ≡ true → ibanShape temporary ≡ true → p .detailed ≤ limit → Mute (mt204 day temporary n p v)
+unfolding mt204 every inLine
+mute-204 day temporary n p v h t l =
+    (mute-opened (p .key .bank) (ascii "204") (short-text (ascii "204") refl) h
+    ▹ mute-field (short-text (ascii ":20:") refl) (short-reference day n) refl
+    ▹ mute-field (short-text (ascii ":19:") refl) (short-comma v) refl
+    ▹ mute-field (short-text (ascii ":30:") refl) (short-fixed 6 day) refl)
+    ▹ (mute-field (short-text (ascii ":58D:/") refl) (short-iban temporary t) refl
+    ▹ mute-line (short-text (ascii "SMETKA ZA RAZPREDELENIE NA PREVODI") refl) refl
+    ▹ mute-field (short-text (ascii ":20:") refl) (short-reference day n) refl)
+    ▹ (mute-field (short-text (ascii ":32B:BGN") refl) (short-comma v) refl ▹ mute-field (short-text (ascii ":53A:") refl) (short-bic (bic (p .key .bank)) h) refl)
+    ▹ mute-72 day n p l
+
+pub mute-205 : (day n : ℕ) (p : Position) (v : ℕ) → isBic (bic (p .key .bank)) ≡ true → p .detailed ≤ limit → Mute (mt205 day n p v)
+unfolding mt205 every inLine
+mute-205 day n p v h l =
+    (mute-opened (p .key .bank) (ascii "205") (short-text (ascii "205") refl) h
+    ▹ mute-field (short-text (ascii ":20:") refl) (short-reference day n) refl
+    ▹ mute-field (short-text (ascii ":21:") refl) (short-reference day n) refl)
+    ▹ mute-line (short-text (ascii ":32A:") refl ⊕ short-fixed 6 day ⊕ short-text (ascii "BGN") refl ⊕ short-comma v) refl
+    ▹ (mute-line (short-text (ascii ":52A:BNBGBGSD") refl) refl ▹ mute-field (short-text (ascii ":58A:") refl) (short-bic (bic (p .key .bank)) h) refl)
+    ▹ mute-72 day n p l

@@ -1,0 +1,167 @@
+-- One call of the list: the card that runs stays as the ledger and the messages accepted so far say, and what the call wrote settles with what it changed of the ledger.
+-- Assumes nothing.
+use mathlib.Core.Path.{_≡_, refl, sym, _∙_, subst}
+use mathlib.Core.Bool.{Bool, true, false, and-false}
+use mathlib.Core.List.{List, [], _∷_, _++_, append-nil}
+use mathlib.Core.Option.{none, some}
+use Prim.Native.Nat.{ℕ, _^_, _≤_, _<_}
+use native.Mathlib.Omega.{arith}
+use lib.Dec.{eqb}
+use lib.ListN.{length, take}
+use borrow.Author.Tests.{ne-eqb, eqb-true, eqb-false}
+use Rattle.rules.specs.Messages.{Message, dateOf, transferredBy, detailedBy}
+use Rattle.rules.specs.Register.{registerOf}
+use Rattle.rules.specs.Text.{ordered}
+use Rattle.rules.specs.Engine.{Position, Engine, earlier, sameKey}
+use Rattle.rules.specs.Calls.{bankOf, added, afterMessage, afterTurn as laterEngine}
+use Rattle.rules.specs.Area.{Result, cardMessage, cardTurn, holds}
+use Rattle.rules.specs.Ledger.{Fed, message, turn, Event, fedWith, enteredBy, ledgerFrom, isTurn, afterTurn, listed, messageOf, accepted, sumOf}
+use Rattle.rules.specs.Demand3.{result}
+use Rattle.engine_laws.specs.Facts.{never, some-is}
+use Rattle.engine_laws.specs.Layout.{All, All.none, All.more}
+use Rattle.engine_laws.specs.Limits.{Limits, limits}
+use Rattle.engine_laws.specs.Held.{held}
+use Rattle.engine_laws.specs.Order.{ordered-sorted}
+use Rattle.engine_laws.specs.Positions.{Good, all-good, position-order}
+use Rattle.engine_laws.specs.Calls.{Stays, done-holds, done-text, Takes, message-accepted, message-refused, Turns, turn-accepted, turn-refused}
+use Rattle.balance_laws.specs.Told.{Tells, tells-none, told}
+use Rattle.balance_laws.specs.Tally.{Measure, tally, Same, only, like, bare, one, kept-bare, same-kept}
+use Rattle.balance_laws.specs.Booking.{many, many-past, keyed, sorted-many, entered-same}
+use Rattle.balance_laws.specs.Details.{read-details}
+use Rattle.balance_laws.specs.Kinds.{comesIn, goesOut, mine}
+use Rattle.balance_laws.specs.Message.{Postable, message-in, message-out}
+use Rattle.balance_laws.specs.Turn.{closed, nothing, turn-in, turn-out}
+use Rattle.balance_laws.specs.Admission.{postable, admitted}
+use Rattle.balance_laws.specs.Settled.{Settles, settles-none, message-settles, settles-turn}
+use Rattle.balance_laws.specs.Untouched.{History, history-message, history-turn}
+
+-- ---- the card between calls
+
+-- an engine's positions are the ledger's, its temporary account is that of the opening, its day and the ledger are as the accepted messages say,
+-- and behind a turn no entry has details
+pub record Agrees (temporary : List ℕ) (ledger : List Position) (sent : List Message) (turned : Bool) (e : Engine) : Type 0 where
+  pub account : registerOf (e .register) .temporary ≡ temporary
+  pub same : Same (e .positions) ledger
+  pub history : History (e .day) ledger sent
+  pub settled : turned ≡ true → (g : Measure) → tally g ledger ≡ tally (only bare g) ledger
+
+-- the area holds such an engine
+pub record Running (temporary area : List ℕ) (ledger : List Position) (sent : List Message) (turned : Bool) : Type 0 where
+  pub engine : Engine
+  pub holding : holds area ≡ some engine
+  pub agrees : Agrees temporary ledger sent turned engine
+
+-- the event of a call
+unfoldable pub event : Fed → Result → Event
+event f r = record { fed = f; number = r .number; bytes = take (r .written) (r .output) }
+
+-- what a call leaves, and that it settles
+pub record Stepped (temporary : List ℕ) (ledger : List Position) (sent : List Message) (turned : Bool) (e : Event) (area : List ℕ) : Type 0 where
+  pub next : Running temporary area (ledgerFrom ledger (e ∷ [])) (sent ++ accepted (e ∷ [])) (afterTurn turned (e ∷ []))
+  pub settles : (bank : ℕ) → bank < 2 ^ 64 → Settles bank (sumOf (comesIn bank) (e ∷ [])) (sumOf (goesOut temporary bank) (e ∷ [])) ledger (ledgerFrom ledger (e ∷ []))
+
+-- an entry of the ledger stands there once
+once : {ps ledger : List Position} → ordered earlier ps ≡ true → Same ps ledger → (bank date : ℕ) → many (keyed bank date) ledger ≤ 1
+unfolding many
+once {ps} h s bank date = rw (← s .sums (only (like (keyed bank date)) one)) (sorted-many (keyed bank date) (ordered-sorted position-order ps h))
+
+-- no entry is dated after the day
+unmet : {day : ℕ} {ps ledger : List Position} → All (Good day) ps → Same ps ledger → (bank next : ℕ) → day < next → many (keyed bank next) ledger ≡ 0
+unfolding many tally sameKey keyed
+unmet {day} {ps} a s bank next l = rw (← s .sums (only (like (keyed bank next)) one)) (go a)
+  where
+    go : {qs : List Position} → All (Good day) qs → many (keyed bank next) qs ≡ 0
+    go none = refl
+    go (more {x = p} {xs = qs} g t) =
+        many-past (keyed bank next) p qs (rw (ne-eqb (p .key .date) next (λ e. omega (arith, g .past)), and-false)) ∙ go t
+
+-- from what the bytes of an event tell
+told-settles : (bank : ℕ) (temporary : List ℕ) (e : Event) {v u : ℕ} {ledger next : List Position} → Tells (comesIn bank) (e .fed) (e .bytes) v → Tells (goesOut temporary bank) (e .fed) (e .bytes) u
+    → Settles bank v u ledger next → Settles bank (sumOf (comesIn bank) (e ∷ [])) (sumOf (goesOut temporary bank) (e ∷ [])) ledger next
+unfolding sumOf
+told-settles bank temporary e s t b = record { balance = omega (arith, told s, told t, b .balance) }
+
+module _ (temporary area : List ℕ) (ledger : List Position) (sent : List Message) (turned : Bool) (w : Running temporary area ledger sent turned) where
+  agrees-at : (e : Engine) → holds area ≡ some e → Agrees temporary ledger sent turned e
+  agrees-at e h = subst (Agrees temporary ledger sent turned) (some-is (sym (w .holding) ∙ h)) (w .agrees)
+
+  -- refused
+  step-refused : (f : Fed) (out : List ℕ) (r : Result) → (r .number ≡ 0 → ⊥) → Stays r area out → Stepped temporary ledger sent turned (event f r) (r .area)
+  unfolding event ledgerFrom accepted afterTurn
+  step-refused f out r n s = record {
+    next = rw (ne-eqb (r .number) 0 n, append-nil, s .area) w;
+    settles = λ bank l.
+        let i : Tells (comesIn bank) f (take (r .written) (r .output)) 0 = rw (s .written) tells-none in
+        let o : Tells (goesOut temporary bank) f (take (r .written) (r .output)) 0 = rw (s .written) tells-none in
+        told-settles bank temporary (event f r) i o (rw (ne-eqb (r .number) 0 n) (settles-none bank ledger));
+  }
+
+  -- an accepted message
+  step-message : (s out : List ℕ) → cardMessage s area out .number ≡ 0 → Stepped temporary ledger sent turned (event (message s) (cardMessage s area out)) (cardMessage s area out .area)
+  unfolding event ledgerFrom accepted afterTurn fedWith enteredBy messageOf listed isTurn afterMessage
+  step-message s out a =
+      let t : Takes s area out = message-accepted s area out a in
+      let e : Engine = t .engine in
+      let m : Message = t .message in
+      let g : Agrees temporary ledger sent turned e = agrees-at e (t .holding) in
+      let l : Limits e = limits e (held area e (t .holding) .good) in
+      let p : Postable e m = postable (length out) e s m l (t .reads) (t .clear) in
+      record {
+        next = rw (a, t .reads) record {
+          engine = afterMessage e m;
+          holding = done-holds (t .done);
+          agrees = record {
+            account = g .account;
+            same = entered-same (added m) (e .positions) ledger (l .order) (g .same);
+            history = history-message (g .history) m (admitted (length out) e s m (read-details s m (t .reads)) (t .clear)) (once (l .order) (g .same) (bankOf m) (dateOf m));
+            settled = λ f. never (sym f);
+          };
+        };
+        settles = λ bank n.
+            let i : Tells (comesIn bank) (message s) (take (cardMessage s area out .written) (cardMessage s area out .output)) (mine bank (bankOf m) (transferredBy m)) =
+            rw (done-text (t .done)) (message-in e m p bank (message s) n) in
+            let o : Tells (goesOut temporary bank) (message s) (take (cardMessage s area out .written) (cardMessage s area out .output)) (mine bank (bankOf m) (detailedBy m)) =
+            rw (done-text (t .done), ← g .account) (message-out e m p bank (message s) n) in
+            told-settles bank temporary (event (message s) (cardMessage s area out)) i o (rw (a, t .reads) (message-settles bank m ledger));
+      }
+
+  -- an accepted turn
+  step-turn : (day : ℕ) (out : List ℕ) → cardTurn day area out .number ≡ 0 → Stepped temporary ledger sent turned (event (turn day) (cardTurn day area out)) (cardTurn day area out .area)
+  unfolding event ledgerFrom accepted afterTurn fedWith messageOf isTurn laterEngine
+  step-turn day out a =
+      let t : Turns day area out = turn-accepted day area out a in
+      let e : Engine = t .engine in
+      let g : Agrees temporary ledger sent turned e = agrees-at e (t .holding) in
+      let l : Limits e = limits e (held area e (t .holding) .good) in
+      record {
+        next = rw (a, append-nil sent) record {
+          engine = laterEngine e day;
+          holding = done-holds (t .done);
+          agrees = record {
+            account = g .account;
+            same = same-kept (e .positions) ledger (g .same);
+            history = history-turn (g .history) day (t .later) (λ bank. unmet (all-good (e .day) (e .positions) (l .good)) (g .same) bank day (t .later));
+            settled = λ f m. kept-bare m ledger;
+          };
+        };
+        settles = λ bank n.
+            let i : Tells (comesIn bank) (turn day) (take (cardTurn day area out .written) (cardTurn day area out .output)) (tally (closed nothing (mine bank)) (e .positions)) =
+            rw (done-text (t .done)) (turn-in e l day bank (turn day) n) in
+            let o : Tells (goesOut temporary bank) (turn day) (take (cardTurn day area out .written) (cardTurn day area out .output)) (tally (closed (mine bank) nothing) (e .positions)) =
+            rw (done-text (t .done), ← g .account) (turn-out e l day bank (turn day) n) in
+            told-settles bank temporary (event (turn day) (cardTurn day area out)) i o (rw a (settles-turn bank (e .positions) ledger (g .same)));
+      }
+
+  -- any call
+  pub stepped : (f : Fed) (out : List ℕ) → Stepped temporary ledger sent turned (event f (result f area out)) (result f area out .area)
+  unfolding result
+  stepped (message s) out = go (eqb (cardMessage s area out .number) 0) refl
+    where
+      go : (b : Bool) → eqb (cardMessage s area out .number) 0 ≡ b → Stepped temporary ledger sent turned (event (message s) (cardMessage s area out)) (cardMessage s area out .area)
+      go true e = step-message s out (eqb-true _ _ e)
+      go false e = step-refused (message s) out (cardMessage s area out) (eqb-false _ _ e) (message-refused s area out (eqb-false _ _ e))
+  stepped (turn day) out = go (eqb (cardTurn day area out .number) 0) refl
+    where
+      go : (b : Bool) → eqb (cardTurn day area out .number) 0 ≡ b → Stepped temporary ledger sent turned (event (turn day) (cardTurn day area out)) (cardTurn day area out .area)
+      go true e = step-turn day out (eqb-true _ _ e)
+      go false e = step-refused (turn day) out (cardTurn day area out) (eqb-false _ _ e) (turn-refused day area out (eqb-false _ _ e))

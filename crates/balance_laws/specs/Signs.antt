@@ -1,0 +1,130 @@
+-- Letters and digits: what dates, amounts, banks and accounts are made of, so that they stand in a line and hold no comma. Assumes nothing.
+use mathlib.Core.Path.{_≡_, refl, sym}
+use mathlib.Core.Bool.{Bool, true, false, _||_, cond}
+use mathlib.Core.List.{List, [], _∷_}
+use Prim.Native.Nat.{ℕ, zero, suc, _+_, _/_, _%_, _^_, _≤_, _<_}
+use native.Mathlib.Nat.{mod-lt}
+use native.Mathlib.Omega.{arith}
+use lib.Dec.{eqb, lit<}
+use lib.ListN.{length, replicate}
+use borrow.Author.Tests.{eqb-true, le-leb, ne-eqb}
+use Rattle.rules.specs.Text.{ascii, isDigit, isLetter, isAlnum, every, fits, fitsSign, places, width, fixed, decimal}
+use Rattle.rules.specs.Amounts.{written}
+use Rattle.rules.specs.Accounts.{isBic, ibanShape}
+use Rattle.laws.specs.Reading.{fits-length}
+use Rattle.laws.specs.Digits.{places-length, width-most}
+use Rattle.laws.specs.Tests.{cond-right, between-low}
+use Rattle.engine_laws.specs.Facts.{cond-left, cond-both, never}
+use Rattle.laws.specs.Every.{every-wider}
+use Rattle.balance_laws.specs.Texts.{inLine}
+use Rattle.balance_laws.specs.Told.{Short, short-join}
+
+-- ---- a letter or digit
+
+alnum-low : (c : ℕ) → isAlnum c ≡ true → 48 ≤ c
+unfolding isAlnum isDigit isLetter
+alnum-low c h = go (isDigit c) refl h
+  where
+    go : (t : Bool) → isDigit c ≡ t → (t || isLetter c) ≡ true → 48 ≤ c
+    go true e k = between-low 48 57 c e
+    go false e k = omega (arith, between-low 65 90 c k)
+
+-- no comma, CR or LF
+pub alnum-other : (k c : ℕ) → k < 48 → isAlnum c ≡ true → eqb c k ≡ false
+alnum-other k c l h = let m : 48 ≤ c = alnum-low c h in ne-eqb c k (omega arith)
+
+alnum-in-line : (c : ℕ) → isAlnum c ≡ true → inLine c ≡ true
+unfolding inLine
+alnum-in-line c h = rw (alnum-other 13 c (lit< tt) h, alnum-other 10 c (lit< tt) h)
+
+pub plain-alnum : (cs : List ℕ) → every isAlnum cs ≡ true → every inLine cs ≡ true
+plain-alnum = every-wider isAlnum inLine alnum-in-line
+
+-- ---- bytes that fit a pattern of letters and digits
+
+isSign : ℕ → Bool
+isSign p = eqb p 110 || eqb p 97 || eqb p 99 || isAlnum p
+
+digit-alnum : (c : ℕ) → isDigit c ≡ true → isAlnum c ≡ true
+unfolding isAlnum
+digit-alnum c h = rw h
+
+letter-alnum : (c : ℕ) → isLetter c ≡ true → isAlnum c ≡ true
+unfolding isAlnum
+letter-alnum c h = go (isDigit c)
+  where
+    go : (t : Bool) → (t || isLetter c) ≡ true
+    go true = refl
+    go false = h
+
+sign-alnum : (p c : ℕ) → isSign p ≡ true → fitsSign p c ≡ true → isAlnum c ≡ true
+unfolding isSign fitsSign
+sign-alnum p c s h = go (eqb p 110) (eqb p 97) (eqb p 99) s h
+  where
+    go : (x y z : Bool) → (x || y || z || isAlnum p) ≡ true → cond x (isDigit c) (cond y (isLetter c) (cond z (isAlnum c) (eqb p c))) ≡ true → isAlnum c ≡ true
+    go true y z s h = digit-alnum c h
+    go false true z s h = letter-alnum c h
+    go false false true s h = h
+    go false false false s h = rw (eqb-true p c h) at s
+
+fits-alnum : (ps cs : List ℕ) → every isSign ps ≡ true → fits ps cs ≡ true → every isAlnum cs ≡ true
+unfolding every fits
+fits-alnum [] [] s h = refl
+fits-alnum [] (c ∷ cs) s h = never (sym h)
+fits-alnum (p ∷ ps) [] s h = refl
+fits-alnum (p ∷ ps) (c ∷ cs) s h =
+    cond-both (isAlnum c) (every isAlnum cs) (sign-alnum p c (cond-left _ _ s) (cond-left _ _ h))
+    (fits-alnum ps cs (cond-right (isSign p) _ s) (cond-right (fitsSign p c) _ h))
+
+pub bic-alnum : (cs : List ℕ) → isBic cs ≡ true → every isAlnum cs ≡ true
+unfolding isBic every isSign
+bic-alnum cs h = fits-alnum (ascii "aaaaaacc") cs refl h
+
+pub iban-alnum : (cs : List ℕ) → ibanShape cs ≡ true → every isAlnum cs ≡ true
+unfolding ibanShape every isSign isAlnum isDigit isLetter
+iban-alnum cs h = fits-alnum (ascii "BGnnaaaannnnnncccccccc") cs refl h
+
+-- ---- digits
+
+place-digit : (v k : ℕ) → isDigit (48 + v / 10 ^ k % 10) ≡ true
+unfolding isDigit
+place-digit v k = let l : v / 10 ^ k % 10 < 10 = mod-lt (v / 10 ^ k) (lit< tt) in rw (le-leb 48 (48 + v / 10 ^ k % 10) (omega arith), le-leb (48 + v / 10 ^ k % 10) 57 (omega arith))
+
+pub fixed-fits : (k v : ℕ) → fits (replicate k 110) (fixed k v) ≡ true
+unfolding fits places fitsSign
+fixed-fits zero v = refl
+fixed-fits (suc k) v = rw (place-digit v k) (fixed-fits k v)
+
+pub fixed-alnum : (k v : ℕ) → every isAlnum (fixed k v) ≡ true
+unfolding every isSign
+fixed-alnum k v = fits-alnum (replicate k 110) (fixed k v) (signs k) (fixed-fits k v)
+  where
+    signs : (k : ℕ) → every isSign (replicate k 110) ≡ true
+    signs zero = refl
+    signs (suc k) = signs k
+
+-- ---- how long they are
+
+pub short-fixed : (k v : ℕ) → Short k (fixed k v)
+short-fixed k v = record { plain = plain-alnum _ (fixed-alnum k v); size = rw places-length (omega arith) }
+
+pub short-decimal : (v : ℕ) → Short 20 (decimal v)
+short-decimal v = record { plain = plain-alnum _ (fixed-alnum (width 19 v) v); size = rw places-length (width-most 19 v) }
+
+pub short-written : {n : ℕ} {mark : List ℕ} (v : ℕ) → Short n mark → Short (20 + n + 2) (written mark v)
+unfolding written
+short-written v s = short-join (short-join (short-decimal (v / 100)) s) (short-fixed 2 (v % 100))
+
+pub bic-length : (cs : List ℕ) → isBic cs ≡ true → length cs ≡ 8
+unfolding isBic
+bic-length cs h = sym (fits-length (ascii "aaaaaacc") cs h)
+
+pub iban-length : (cs : List ℕ) → ibanShape cs ≡ true → length cs ≡ 22
+unfolding ibanShape
+iban-length cs h = sym (fits-length (ascii "BGnnaaaannnnnncccccccc") cs h)
+
+pub short-bic : (cs : List ℕ) → isBic cs ≡ true → Short 8 cs
+short-bic cs h = record { plain = plain-alnum cs (bic-alnum cs h); size = omega (arith, bic-length cs h) }
+
+pub short-iban : (cs : List ℕ) → ibanShape cs ≡ true → Short 22 cs
+short-iban cs h = record { plain = plain-alnum cs (iban-alnum cs h); size = omega (arith, iban-length cs h) }

@@ -1,0 +1,175 @@
+-- The three calls on areas: an acceptance leaves an area that holds the next engine and writes its text, a refusal leaves all as it was. Assumes nothing.
+use mathlib.Core.Path.{_≡_, refl, sym, _∙_}
+use mathlib.Core.Bool.{Bool, true, false, not, cond}
+use mathlib.Core.List.{List, [], _++_}
+use mathlib.Core.Option.{none, some}
+use Prim.Native.Nat.{ℕ, _≤_, _<_}
+use native.Mathlib.Omega.{arith}
+use lib.Dec.{leb, eqb}
+use lib.IntN.{ℤ, pos, subℕ}
+use lib.ListN.{length, take, drop, length-append, length-drop}
+use lib.Seq.{take-at, drop-at}
+use borrow.Author.Tests.{leb-true, leb-false, eqb-true, not-false}
+use Rattle.rules.specs.Text.{isSome, over}
+use Rattle.rules.specs.Dates.{exists}
+use Rattle.rules.specs.Messages.{Message, read}
+use Rattle.rules.specs.Engine.{Engine, within}
+use Rattle.rules.specs.Calls.{Answer, firstOf, openStops, opened, acceptedOpening, openCall, messageStops, messageText, after, afterMessage, acceptedMessage, bothOf, messageCall, turnText, turnStops, refunded, collected, afterTurn, acceptedTurn, turnCall}
+use Rattle.rules.specs.Area.{encode, holds, Result, stored, onAreas, cardOpen, cardMessage, cardTurn, areaSize}
+use Rattle.rule_laws.specs.Conditions.{answered-accepted, answered-zero}
+use Rattle.rule_laws.specs.Clear.{OpenClear, open-clear, Clear, clear, message-engine, message-read, TurnClear, turn-clear, turn-engine}
+use Rattle.engine_laws.specs.Facts.{There, there}
+use Rattle.engine_laws.specs.Held.{encode-length, holds-encode, held}
+use Rattle.engine_laws.specs.Keeps.{opened-within, message-within, turn-within}
+
+-- ---- what a call does to area and output
+
+-- accepted: the text and the difference, and the next engine, within its limits
+pub record Done (r : Result) (old out text : List ℕ) (d : ℤ) (next : Engine) : Type 0 where
+  pub good : within next ≡ true
+  pub written : r .written ≡ length text
+  pub difference : r .difference ≡ d
+  pub area : r .area ≡ encode next ++ drop areaSize old
+  pub output : r .output ≡ over text out
+
+-- refused: "difference, bytes and all else 0", and "a refusal changes no byte of output or area"
+pub record Stays (r : Result) (old out : List ℕ) : Type 0 where
+  pub written : r .written ≡ 0
+  pub difference : r .difference ≡ pos 0
+  pub area : r .area ≡ old
+  pub output : r .output ≡ out
+
+-- the next engine is what the area then holds
+pub done-holds : {r : Result} {area out text : List ℕ} {d : ℤ} {next : Engine} → Done r area out text d next → holds (r .area) ≡ some next
+done-holds {area = area} {next = next} w = rw (w .area) (holds-encode next (w .good) (drop areaSize area))
+
+-- "those behind are not touched", and the area is as long as it was
+pub done-behind : {r : Result} {area out text : List ℕ} {d : ℤ} {next : Engine} → Done r area out text d next → drop areaSize (r .area) ≡ drop areaSize area
+done-behind {area = area} {next = next} w = rw (w .area) (drop-at (encode next) (drop areaSize area) areaSize (encode-length next (w .good)))
+
+pub done-length : {r : Result} {area out text : List ℕ} {d : ℤ} {next : Engine} → Done r area out text d next → areaSize ≤ length area → length (r .area) ≡ length area
+done-length {area = area} {next = next} w h = rw (w .area, length-append, encode-length next (w .good), length-drop) (omega arith)
+
+-- the bytes written are the text
+pub done-text : {r : Result} {area out text : List ℕ} {d : ℤ} {next : Engine} → Done r area out text d next → take (r .written) (r .output) ≡ text
+unfolding over
+done-text {out = out} {text = text} w = rw (w .written, w .output) (take-at text (drop (length text) out) (length text) refl)
+
+-- ---- an answer laid into areas
+
+module _ (a : Answer) (area out : List ℕ) where
+  on-zero : onAreas a area out .number ≡ 0 → a .number ≡ 0
+  unfolding onAreas
+  on-zero h = go (eqb (a .number) 0) refl
+    where
+      go : (t : Bool) → eqb (a .number) 0 ≡ t → a .number ≡ 0
+      go true e = eqb-true (a .number) 0 e
+      go false e = rw e at h
+
+  on-stays : (onAreas a area out .number ≡ 0 → ⊥) → Stays (onAreas a area out) area out
+  unfolding onAreas
+  on-stays h = go (eqb (a .number) 0) refl
+    where
+      go : (t : Bool) → eqb (a .number) 0 ≡ t → Stays (onAreas a area out) area out
+      go true e = absurd (h (rw e))
+      go false e = record { written = rw e; difference = rw e; area = rw e; output = rw e }
+
+on-done : (text : List ℕ) (d : ℤ) (next : Engine) (area out : List ℕ) → within next ≡ true → Done (onAreas record { number = 0; text = text; difference = d; next = some next } area out) area out text d next
+unfolding onAreas stored
+on-done text d next area out w = record { good = w; written = refl; difference = refl; area = refl; output = refl }
+
+-- ---- opening
+
+module _ (text : List ℕ) (day : ℕ) (area : List ℕ) where
+  pub record Opens : Type 0 where
+    pub none : firstOf (openStops (length area) text day) ≡ 0
+    pub long : areaSize ≤ length area
+    pub done : Done (cardOpen text day area) area [] [] (pos 0) (opened text day)
+
+  pub open-accepted : cardOpen text day area .number ≡ 0 → Opens
+  unfolding cardOpen openCall acceptedOpening
+  open-accepted h =
+      let k : firstOf (openStops (length area) text day) ≡ 0 = answered-zero _ (holds area) _ (on-zero _ area [] h) in record {
+        none = k;
+        long = open-clear (length area) text day k .long;
+        done = rw (answered-accepted _ (holds area) (acceptedOpening text day) k) (on-done [] (pos 0) (opened text day) area [] (opened-within (length area) text day k));
+      }
+
+  pub open-refused : (cardOpen text day area .number ≡ 0 → ⊥) → Stays (cardOpen text day area) area []
+  unfolding cardOpen
+  open-refused h = on-stays _ area [] h
+
+-- ---- message
+
+module _ (s area out : List ℕ) where
+  pub record Takes : Type 0 where
+    pub engine : Engine
+    pub message : Message
+    pub holding : holds area ≡ some engine
+    pub reads : read s ≡ some message
+    pub clear : Clear (length out) engine s message
+    pub done : Done (cardMessage s area out) area out (messageText engine message) (subℕ (after engine message .transferred) (after engine message .detailed)) (afterMessage engine message)
+
+  -- where there are an engine and a message and no condition holds
+  pub message-done : (e : Engine) (m : Message) → holds area ≡ some e → read s ≡ some m → firstOf (messageStops (length out) (holds area) s) ≡ 0 → Takes
+  unfolding cardMessage messageCall bothOf acceptedMessage
+  message-done e m h r k =
+      let z : firstOf (messageStops (length out) (some e) s) ≡ 0 = rw h at k in record {
+        engine = e;
+        message = m;
+        holding = h;
+        reads = r;
+        clear = clear (length out) e s m r z;
+        done = rw (answered-accepted _ (holds area) (bothOf (holds area) (read s)) k, h, r) (on-done _ _ (afterMessage e m) area out (message-within (length out) e s m (held area e h .good) r z));
+      }
+
+  -- where no condition holds there are both
+  pub message-there : firstOf (messageStops (length out) (holds area) s) ≡ 0 → Takes
+  message-there k =
+      let e : There (holds area) = there (holds area) (message-engine (length out) (holds area) s k) in
+      let m : There (read s) = there (read s) (message-read (length out) (holds area) s k) in
+      message-done (e .value) (m .value) (e .is) (m .is) k
+
+  pub message-accepted : cardMessage s area out .number ≡ 0 → Takes
+  unfolding cardMessage messageCall
+  message-accepted h = message-there (answered-zero _ (holds area) _ (on-zero _ area out h))
+
+  pub message-refused : (cardMessage s area out .number ≡ 0 → ⊥) → Stays (cardMessage s area out) area out
+  unfolding cardMessage
+  message-refused h = on-stays _ area out h
+
+-- ---- turn
+
+module _ (day : ℕ) (area out : List ℕ) where
+  pub record Turns : Type 0 where
+    pub engine : Engine
+    pub holding : holds area ≡ some engine
+    pub exist : exists day ≡ true
+    pub later : engine .day < day
+    pub fits : length (turnText engine day) ≤ length out
+    pub done : Done (cardTurn day area out) area out (turnText engine day) (subℕ (refunded (engine .positions)) (collected (engine .positions))) (afterTurn engine day)
+
+  -- where there is an engine and no condition holds
+  pub turn-done : (e : Engine) → holds area ≡ some e → firstOf (turnStops (length out) (holds area) day) ≡ 0 → Turns
+  unfolding cardTurn turnCall acceptedTurn
+  turn-done e h k =
+      let z : firstOf (turnStops (length out) (some e) day) ≡ 0 = rw h at k in
+      let c : TurnClear (length out) e day = turn-clear (length out) e day z in record {
+        engine = e;
+        holding = h;
+        exist = c .date;
+        later = c .later;
+        fits = c .fits;
+        done = rw (answered-accepted _ (holds area) (acceptedTurn (holds area) day) k, h) (on-done _ _ (afterTurn e day) area out (turn-within (length out) e day (held area e h .good) z));
+      }
+
+  pub turn-there : firstOf (turnStops (length out) (holds area) day) ≡ 0 → Turns
+  turn-there k = let e : There (holds area) = there (holds area) (turn-engine (length out) (holds area) day k) in turn-done (e .value) (e .is) k
+
+  pub turn-accepted : cardTurn day area out .number ≡ 0 → Turns
+  unfolding cardTurn turnCall
+  turn-accepted h = turn-there (answered-zero _ (holds area) _ (on-zero _ area out h))
+
+  pub turn-refused : (cardTurn day area out .number ≡ 0 → ⊥) → Stays (cardTurn day area out) area out
+  unfolding cardTurn
+  turn-refused h = on-stays _ area out h

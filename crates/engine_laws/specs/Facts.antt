@@ -1,0 +1,93 @@
+-- What a test that holds tells of its parts, and what an option that is there tells of how it was made. Assumes nothing.
+use mathlib.Core.Path.{_≡_, refl, sym}
+use mathlib.Core.Bool.{Bool, true, false, _&&_, _||_, cond}
+use mathlib.Core.List.{List, [], _∷_}
+use mathlib.Core.Option.{Option, none, some}
+use Prim.Native.Nat.{ℕ, suc}
+use native.Mathlib.Omega.{arith}
+use lib.Dec.{eqb}
+use borrow.Author.Tests.{eq-eqb}
+use Rattle.rules.specs.Text.{equal, then, given, isSome}
+pub use Rattle.laws.specs.Equal.{equal-true}
+pub use Rattle.laws.specs.Tests.{cond-left}
+
+-- ---- tests
+
+-- true is not false
+pub never : {A : Type 0} → true ≡ false → A
+never h = absurd (let z : _≡_ {A = ℕ} 0 1 = cc in omega arith)
+
+pub cond-both : (a b : Bool) → a ≡ true → b ≡ true → cond a b false ≡ true
+cond-both a b h k = rw (h, k)
+
+pub and-both : (a b : Bool) → a ≡ true → b ≡ true → (a && b) ≡ true
+and-both a b h k = rw (h, k)
+
+pub or-left : (a b : Bool) → (a || b) ≡ false → a ≡ false
+or-left true b h = h
+or-left false b h = refl
+
+pub or-right : (a b : Bool) → (a || b) ≡ false → b ≡ false
+or-right true b h = never h
+or-right false b h = h
+
+-- as `any` and its like join tests
+pub any-left : (a b : Bool) → cond a true b ≡ false → a ≡ false
+any-left true b h = h
+any-left false b h = refl
+
+pub any-right : (a b : Bool) → cond a true b ≡ false → b ≡ false
+any-right true b h = never h
+any-right false b h = h
+
+pub any-neither : (a b : Bool) → a ≡ false → b ≡ false → cond a true b ≡ false
+any-neither a b h k = rw (h, k)
+
+-- two tests that hold together
+pub either : (s t : Bool) → (s ≡ true → t ≡ true) → (t ≡ true → s ≡ true) → s ≡ t
+either true t f g = sym (f refl)
+either false true f g = g refl
+either false false f g = refl
+
+-- ---- equal bytes
+
+pub equal-same : (a : List ℕ) → equal a a ≡ true
+unfolding equal
+equal-same [] = refl
+equal-same (c ∷ cs) = cond-both (eqb c c) (equal cs cs) (eq-eqb c c refl) (equal-same cs)
+
+-- ---- options
+
+pub isSome-is : {A : Type 0} (x : Option A) (a : A) → x ≡ some a → isSome x ≡ true
+isSome-is x a h = rw h
+
+-- there is one
+pub record There {A : Type 0} (x : Option A) : Type 0 where
+  pub value : A
+  pub is : x ≡ some value
+
+pub there : {A : Type 0} (x : Option A) → isSome x ≡ true → There x
+there none h = never (sym h)
+there (some a) h = record { value = a; is = refl }
+
+pub some-is : {A : Type 0} {a b : A} → some a ≡ some b → a ≡ b
+some-is h = cc
+
+-- what came of x by f came of a value that is there
+pub record Came {A B : Type 0} (x : Option A) (f : A → Option B) (b : B) : Type 0 where
+  pub value : A
+  pub is : x ≡ some value
+  pub gives : f value ≡ some b
+
+pub came : {A B : Type 0} {b : B} (x : Option A) (f : A → Option B) → then x f ≡ some b → Came x f b
+came none f h = absurd (let z : _≡_ {A = ℕ} 0 1 = cc in omega arith)
+came (some a) f h = record { value = a; is = refl; gives = h }
+
+-- a value that is given passed its test
+pub record Gave {A : Type 0} (t : Bool) (a b : A) : Type 0 where
+  pub test : t ≡ true
+  pub is : a ≡ b
+
+pub gave : {A : Type 0} {b : A} (t : Bool) (a : A) → given t a ≡ some b → Gave t a b
+gave true a h = record { test = refl; is = cc }
+gave false a h = absurd (let z : _≡_ {A = ℕ} 0 1 = cc in omega arith)

@@ -1,0 +1,130 @@
+-- Accepted calls keep the engine within its limits: an opening, a message and a turn. Assumes nothing.
+use mathlib.Core.Path.{_≡_, refl}
+use mathlib.Core.Bool.{Bool, true, false, not, cond}
+use mathlib.Core.List.{List, [], _∷_}
+use mathlib.Core.Option.{some}
+use Prim.Native.Nat.{ℕ, suc, _+_, _/_, _≤_, _<_}
+use native.Mathlib.Omega.{arith}
+use lib.Dec.{leb, eqb}
+use lib.ListN.{length, length-append}
+use borrow.Author.Tests.{leb-true, leb-false, eqb-true, not-false}
+use Rattle.rules.specs.Text.{any, ordered}
+use Rattle.rules.specs.Lines.{framed}
+use Rattle.rules.specs.Messages.{Message, mt103, mt101, Detail, read, detailsOf, dateOf, referenceOf}
+use Rattle.rules.specs.Register.{Register, register, registerOf}
+use Rattle.rules.specs.Verdict.{isReturned}
+use Rattle.rules.specs.Engine.{Position, Engine, limit, slashed, isBank, goodPositions, sameReference, goodReference, goodReferences, within}
+use Rattle.rules.specs.Written.{partsOf}
+use Rattle.rules.specs.Calls.{firstOf, holdsOf, openStops, opened, addressed, badReference, badAmount, badAccount, manyDates, misdated, messageText, bankOf, ownReference, added, after, noRoom, overLimit, verdictOf, returnedOf, judged, writes, afterMessage, inputStops, stateStops, messageStops, turnStops, afterTurn}
+use Rattle.rule_laws.specs.Clear.{OpenClear, open-clear, Clear, clear, TurnClear, turn-clear}
+use Rattle.engine_laws.specs.Facts.{or-left, or-right}
+use Rattle.engine_laws.specs.Limits.{Limits, limits, limits-within}
+use Rattle.engine_laws.specs.Positions.{Before, position-order, booked-sorted, booked-few, Passes, booked-good, all-good, good-all, kept-sorted, kept-good, kept-length, corrected-length}
+use Rattle.engine_laws.specs.Order.{Sorted, ordered-sorted, sorted-ordered}
+use Rattle.engine_laws.specs.References.{reference-order, filed-length, filed-good, filed-sorted}
+use Rattle.engine_laws.specs.Accepted.{Has, read-has, sender-bank}
+
+-- ---- opening
+
+pub opened-within : (size : ℕ) (text : List ℕ) (day : ℕ) → firstOf (openStops size text day) ≡ 0 → within (opened text day) ≡ true
+unfolding opened goodPositions ordered goodReferences
+opened-within size text day h =
+    let c : OpenClear size text day = open-clear size text day h in
+    limits-within (opened text day) record {
+      register = c .accounts;
+      day = c .date;
+      few = omega arith;
+      good = refl;
+      order = refl;
+      today = omega arith;
+      forms = refl;
+      filed = refl;
+      numbered = omega arith;
+    }
+
+-- ---- message
+
+returned-few : (r : Register) (ds : List Detail) → length (returnedOf r ds) ≤ length ds
+unfolding returnedOf
+returned-few r [] = omega arith
+returned-few r (d ∷ ds) = go (isReturned (verdictOf r d)) (returned-few r ds)
+  where
+    go : (t : Bool) → length (returnedOf r ds) ≤ length ds → length (cond t (d ∷ returnedOf r ds) (returnedOf r ds)) ≤ suc (length ds)
+    go true i = omega arith
+    go false i = omega arith
+
+parts-few : (n : ℕ) → n ≤ 16 → partsOf n ≤ 2
+unfolding partsOf
+parts-few n h = go (eqb n 0)
+  where
+    go : (t : Bool) → cond t 1 ((n + 13) / 14) ≤ 2
+    go true = omega arith
+    go false = omega arith
+
+-- a message writes at most two parts of an MT199
+pub writes-few : (e : Engine) (m : Message) → length (detailsOf m) ≤ 16 → writes e m ≤ 2
+unfolding writes
+writes-few e m h = go (judged m (after e m))
+  where
+    n : ℕ
+    n = length (returnedOf (registerOf (e .register)) (detailsOf m))
+
+    go : (t : Bool) → cond t (partsOf n) 0 ≤ 2
+    go true = parts-few n (omega (arith, returned-few (registerOf (e .register)) (detailsOf m)))
+    go false = omega arith
+
+dated : (day : ℕ) (m : Message) → misdated day m ≡ false → dateOf m ≤ day
+unfolding misdated dateOf
+dated day (mt103 t) h = let e : t .date ≡ day = eqb-true _ _ (not-false _ h) in omega arith
+dated day (mt101 o) h = leb-true _ _ (not-false _ h)
+
+own-good : (s : List ℕ) (m : Message) → Has s m → framed s ≡ true → badReference m ≡ false → goodReference (ownReference m) ≡ true
+unfolding goodReference badReference
+own-good s m a f b =
+    let k : isBank (bankOf m) ≡ true = rw (a .sent) (sender-bank s f) in
+    let n : slashed (referenceOf m) ≡ false = or-left _ _ (or-left _ _ b) in
+    rw (k, a .reference, n)
+
+pub message-within : (room : ℕ) (e : Engine) (s : List ℕ) (m : Message) → within e ≡ true → read s ≡ some m → firstOf (messageStops room (some e) s) ≡ 0 → within (afterMessage e m) ≡ true
+unfolding afterMessage noRoom overLimit after
+message-within room e s m w r h =
+    let l : Limits e = limits e w in
+    let c : Clear room e s m = clear room e s m r h in
+    let a : Has s m = read-has s m r in
+    let q : Position = added m in
+    let sorted : Sorted Before (e .positions) = ordered-sorted position-order (e .positions) (l .order) in
+    let passes : Passes q (e .positions) = record {
+      transferred = leb-true _ _ (not-false _ (or-left _ _ (c .under)));
+      detailed = leb-true _ _ (not-false _ (or-right (not (leb (after e m .transferred) limit)) _ (c .under)));
+    } in
+    limits-within (afterMessage e m) record {
+      register = l .register;
+      day = l .day;
+      few = booked-few q sorted (l .few) (c .opens);
+      good = good-all (booked-good q (rw (a .sent) (sender-bank s (c .frame))) (a .date) (dated (e .day) m (c .today)) passes (all-good (e .day) (e .positions) (l .good)));
+      order = sorted-ordered position-order (booked-sorted q sorted);
+      today = rw (filed-length (ownReference m) (e .references)) (omega (arith, c .counted));
+      forms = filed-good (e .references) (ownReference m) (l .forms) (own-good s m a (c .frame) (c .references));
+      filed = sorted-ordered reference-order (filed-sorted (ownReference m) (ordered-sorted reference-order (e .references) (l .filed)) (c .new));
+      numbered = rw (filed-length (ownReference m) (e .references)) (omega (arith, l .numbered, writes-few e m (c .details)));
+    }
+
+-- ---- turn
+
+pub turn-within : (room : ℕ) (e : Engine) (day : ℕ) → within e ≡ true → firstOf (turnStops room (some e) day) ≡ 0 → within (afterTurn e day) ≡ true
+unfolding afterTurn goodReferences ordered
+turn-within room e day w h =
+    let l : Limits e = limits e w in
+    let c : TurnClear room e day = turn-clear room e day h in
+    let later : e .day < day = c .later in
+    limits-within (afterTurn e day) record {
+      register = l .register;
+      day = c .date;
+      few = omega (arith, kept-length (e .positions), l .few);
+      good = good-all (kept-good {day = e .day} (omega arith) (all-good (e .day) (e .positions) (l .good)));
+      order = sorted-ordered position-order (kept-sorted (ordered-sorted position-order (e .positions) (l .order)));
+      today = omega arith;
+      forms = refl;
+      filed = refl;
+      numbered = omega (arith, corrected-length (e .positions), l .few);
+    }

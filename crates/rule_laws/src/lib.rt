@@ -1,0 +1,1 @@
+// Laws about the definitions of `rules`; there is no code.
