@@ -116,6 +116,7 @@ void line_card(void) {
   host_faults_where_not_aligned();
   int damaged = read_words();
   size_t size = host_read(host_open_to_read("input"), input, sizeof input), at = 0;
+  if (size == sizeof input) host_end("more input than the line card has room for\n", 2);
   output_file = host_open_to_write("output");
   figures_file = host_open_to_write("figures");
   memset(card_area, 0, CARD_AREA);

@@ -14,14 +14,13 @@ static int six_digits(const uint8_t *s, uint32_t *day) {
   return 1;
 }
 
-/* One or more digits that are a length. */
-static int length_of(const uint8_t *s, size_t n, size_t *length) {
+int read_number(const uint8_t *s, size_t n, size_t limit, size_t *number) {
   if (n == 0) return 0;
-  *length = 0;
+  *number = 0;
   for (size_t i = 0; i < n; i++) {
     if (s[i] < '0' || s[i] > '9') return 0;
-    *length = *length * 10 + (size_t)(s[i] - '0');
-    if (*length > LONGEST) return 0;
+    *number = *number * 10 + (size_t)(s[i] - '0');
+    if (*number > limit) return 0;
   }
   return 1;
 }
@@ -46,10 +45,10 @@ int next_command(const uint8_t *input, size_t size, size_t *at, struct command *
     if (n != 8 || !six_digits(s + 2, &command->day)) return 0;
     command->kind = COMMAND_TURN;
   } else if (n >= 2 && memcmp(s, "M,", 2) == 0) {
-    if (!length_of(s + 2, n - 2, &length)) return 0;
+    if (!read_number(s + 2, n - 2, LONGEST, &length)) return 0;
     command->kind = COMMAND_MESSAGE;
   } else if (n >= 9 && memcmp(s, "O,", 2) == 0 && s[8] == ',') {
-    if (!six_digits(s + 2, &command->day) || !length_of(s + 9, n - 9, &length)) return 0;
+    if (!six_digits(s + 2, &command->day) || !read_number(s + 9, n - 9, LONGEST, &length)) return 0;
     command->kind = COMMAND_OPEN;
   } else {
     return 0;

@@ -14,6 +14,9 @@ struct command {
   size_t length;
 };
 
+/* One or more digits as a number; 0 where they are none or it is above the limit. */
+int read_number(const uint8_t *s, size_t n, size_t limit, size_t *number);
+
 /* The command at `*at`, behind which `*at` then stands; 0 where the input is outside the form. */
 int next_command(const uint8_t *input, size_t size, size_t *at, struct command *command);
 

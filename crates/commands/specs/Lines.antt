@@ -110,7 +110,7 @@ module _ (s : List ℕ) (at e : ℕ) (q : Num) (u : numOf q ≡ sixDigits (cut s
 
 -- ---- `O,day,length`
 
-no-comma : (l : List ℕ) → length l ≡ 0 → equal (take 1 l) (ascii ",") ≡ false
+pub no-comma : (l : List ℕ) → length l ≡ 0 → equal (take 1 l) (ascii ",") ≡ false
 unfolding equal
 no-comma [] h = refl
 no-comma (x ∷ l) h = absurd (omega arith)

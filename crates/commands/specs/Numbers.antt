@@ -1,6 +1,6 @@
 -- Laws of days and lengths in command lines.
 use mathlib.Core.Path.{_≡_, refl, sym, ap, _∙_}
-use mathlib.Core.Bool.{Bool, true, false, cond}
+use mathlib.Core.Bool.{Bool, true, false, _&&_, cond}
 use mathlib.Core.List.{List, [], _∷_}
 use mathlib.Core.Option.{Option, none, some}
 use Prim.Native.Nat.{ℕ, zero, suc, _+_, _-_, _*_, _≤_, _<_}
@@ -27,7 +27,7 @@ unfoldable pub limited : ℕ → List ℕ → Option ℕ
 limited v cs = then (digitsFrom v cs) (λ n. given (leb n 8192) n)
 
 -- a larger number stays too large
-limited-large : (v : ℕ) (cs : List ℕ) → 8192 < v → none ≡ limited v cs
+pub limited-large : (v : ℕ) (cs : List ℕ) → 8192 < v → none ≡ limited v cs
 unfolding limited digitsFrom
 limited-large v [] h = rw (lt-leb _ _ h) refl
 limited-large v (c ∷ cs) h = go (isDigit c) (limited-large (v * 10 + (c - 48)) cs (omega arith))
@@ -100,6 +100,21 @@ module _ (s : List ℕ) (a b : ℕ) where
           pick false = refl
       go (some v) z = rw (digits-fit (cut s a b) 6 0 v (cut-length s a b l ∙ n) z) refl
 
+-- a number within a limit
+given-within : (o : Option ℕ) (limit n : ℕ) → then o (λ m. given (leb m limit) m) ≡ some n → n ≤ limit
+given-within none limit n e = absurd (let z : _≡_ {A = ℕ} 0 1 = cc in omega arith)
+given-within (some m) limit n e = go (leb m limit) refl e
+  where
+    go : (t : Bool) → leb m limit ≡ t → given t m ≡ some n → n ≤ limit
+    go true h k = let u : m ≡ n = cc in rw (← u) (leb-true m limit h)
+    go false h k = absurd (let z : _≡_ {A = ℕ} 0 1 = cc in omega arith)
+
+-- a length is at most 8,192
+pub length-limit : (l : List ℕ) (n : ℕ) → lengthOf l ≡ some n → n ≤ 8192
+unfolding lengthOf
+length-limit [] n e = absurd (let z : _≡_ {A = ℕ} 0 1 = cc in omega arith)
+length-limit (c ∷ cs) n e = given-within (digits (c ∷ cs)) 8192 n e
+
 -- as they were read, they fit their machine numbers
 module _ (s : List ℕ) (a b : ℕ) (q : Num) (n : ℕ) (w : q ≡ Value n) where
   pub six-small : numOf q ≡ sixDigits (cut s a b) → Fits w32 n
@@ -111,24 +126,47 @@ module _ (s : List ℕ) (a b : ℕ) (q : Num) (n : ℕ) (w : q ≡ Value n) wher
       go false z e = absurd (let y : _≡_ {A = ℕ} 0 1 = cc in omega arith)
 
   pub length-small : numOf q ≡ lengthOf (cut s a b) → n ≤ 8192
-  unfolding lengthOf
-  length-small u = go (cut s a b) (sym u ∙ ap numOf w)
-    where
-      under : (d : Option ℕ) → then d (λ m. given (leb m 8192) m) ≡ some n → n ≤ 8192
-      under none e = absurd (let y : _≡_ {A = ℕ} 0 1 = cc in omega arith)
-      under (some m) e = pick (leb m 8192) refl e
-        where
-          pick : (t : Bool) → leb m 8192 ≡ t → given t m ≡ some n → n ≤ 8192
-          pick true z k = let y : m ≡ n = cc in rw (← y) (leb-true m 8192 z)
-          pick false z k = absurd (let y : _≡_ {A = ℕ} 0 1 = cc in omega arith)
+  length-small u = length-limit (cut s a b) n (sym u ∙ ap numOf w)
 
-      go : (cs : List ℕ) → lengthOf cs ≡ some n → n ≤ 8192
-      go [] e = absurd (let y : _≡_ {A = ℕ} 0 1 = cc in omega arith)
-      go (x ∷ cs) e = under (digits (x ∷ cs)) e
+-- a room of the output, as the program is told it: one to seven digits, at most 1,048,576
+unfoldable pub roomOf : List ℕ → Option ℕ
+roomOf cs = cond (leb 1 (length cs) && leb (length cs) 7) (then (digits cs) (λ n. given (leb n 1048576) n)) none
+
+module _ (s : List ℕ) (a b : ℕ) (l : b ≤ length s) where
+  pub room-empty : a ≡ b → none ≡ roomOf (cut s a b)
+  unfolding roomOf
+  room-empty e = rw (cut-done s a b (omega arith) (omega arith))
+
+  pub room-long : 7 < b - a → none ≡ roomOf (cut s a b)
+  unfolding roomOf
+  room-long h = rw (cut-length s a b l, lt-leb _ _ h, le-leb 1 (b - a) (omega arith))
+
+  module _ (h : a ≤ b) (n : (a ≡ b → ⊥)) (k : b - a ≤ 7) (q : Num) (u : numOf q ≡ digits (cut s a b)) where
+    room-is : roomOf (cut s a b) ≡ then (numOf q) (λ n. given (leb n 1048576) n)
+    unfolding roomOf
+    room-is = rw (u, cut-length s a b l, le-leb _ _ k, le-leb 1 (b - a) (omega arith))
+
+    pub room-bad : q ≡ Bad → none ≡ roomOf (cut s a b)
+    room-bad w = sym (room-is ∙ rw w)
+
+    module _ (v : ℕ) (w : q ≡ Value v) where
+      pub room-large : 1048576 < v → none ≡ roomOf (cut s a b)
+      room-large m = sym (room-is ∙ rw (w, lt-leb _ _ m))
+
+      pub room-read : v ≤ 1048576 → some v ≡ roomOf (cut s a b)
+      room-read m = sym (room-is ∙ rw (w, le-leb _ _ m))
+
+pub room-small : (cs : List ℕ) (q : Num) (v : ℕ) → numOf q ≡ roomOf cs → q ≡ Value v → v ≤ 1048576
+unfolding roomOf
+room-small cs q v u w = go (leb 1 (length cs) && leb (length cs) 7) (sym u ∙ ap numOf w)
+  where
+    go : (t : Bool) → cond t (then (digits cs) (λ n. given (leb n 1048576) n)) none ≡ some v → v ≤ 1048576
+    go true k = given-within (digits cs) 1048576 v k
+    go false k = absurd (let z : _≡_ {A = ℕ} 0 1 = cc in omega arith)
 
 -- a number that is no larger takes a further digit
 pub length-room : (v : ℕ) → v ≤ 8192 → v < power 10 17
 unfolding power
 length-room v h = lt-of-le-of-lt h (lit< tt)
 
-pub ruleset numbers = (held-told, length-room, length-empty, length-starts, length-large, length-more, length-bad, length-end, six-other, six-read)
+pub ruleset numbers = (held-told, length-room, length-empty, length-starts, length-large, length-more, length-bad, length-end, six-other, six-read, room-empty, room-long, room-bad, room-large, room-read)

@@ -21,7 +21,7 @@ pub enum Command {
 }
 
 // Does the line begin with the letter and a comma?
-fn begins(s: &[u8], at: usize, e: usize, c: u8) -> bool
+pub fn begins(s: &[u8], at: usize, e: usize, c: u8) -> bool
     requires { ⌜ (at ≤ e) × (e ≤ length (now s)) ⌝ }
     ensures { λ r. ⌜ r ≡ equal (take 2 (cut (now (s .entry)) at e)) (c ∷ 44 ∷ []) ⌝ }
 {

@@ -2,7 +2,10 @@
 mod command;
 mod number;
 mod print;
+mod window;
 
 pub use command::Command;
 pub use command::read_command;
+pub use number::read_room;
 pub use print::put_signed;
+pub use window::make_room;

@@ -1,24 +1,26 @@
 -- The replay of a day: the commands from a place of the input on, carried out one after the other. Assumes nothing.
-use mathlib.Core.Path.{_≡_, refl, sym, ap, _∙_, subst}
-use mathlib.Core.List.{List, [], _∷_, _++_}
+use mathlib.Core.Path.{_≡_, refl, sym, _∙_, subst}
+use mathlib.Core.List.{List, _++_}
 use mathlib.Core.Option.{Option, none, some}
 use mathlib.Core.Bool.{Bool, true, false}
-use Prim.Native.Nat.{ℕ, zero, suc, _+_, _-_, _≤_, _<_, _^_}
+use Prim.Native.Nat.{ℕ, _+_, _-_, _≤_, _<_, _^_}
 use native.Mathlib.Omega.{arith}
-use lib.Signed.{mag}
 use lib.ListN.{length}
 use Rattle.rules.specs.Engine.{Engine}
 use Rattle.rules.specs.Calls.{Answer, openCall, messageCall, turnCall}
 use Rattle.rules.specs.Area.{holds, areaSize}
 use Rattle.rules.specs.Replay as R
-use Rattle.rules.specs.Replay.{Commanded, command, called, printed, run, onward}
+use Rattle.rules.specs.Replay.{Commanded, command, called, printed, run}
 use Rattle.laws.specs.Parts.{cut, from, from-all}
 use Rattle.laws.specs.Writing.{Wrote, wrote-length, Left, left-turn, left-none}
 use Rattle.commands.specs.Answers.{commandedOf, Placed, Commanding}
 use Rattle.commands.specs.declared.command.Command.{Command}
 use Rattle.commands.specs.declared.command.Command.the-variants.{Opens, Sends, Turns, End}
 use Rattle.day.specs.declared.call.Outcome.{Outcome}
-use Rattle.day.specs.Told.{Told, answerText, answer-printed}
+use Rattle.day.specs.declared.replay.Step.{Step}
+use Rattle.day.specs.declared.replay.Step.the-variants.{Done, Nothing}
+use Rattle.day.specs.Runs.{run-ends, run-goes}
+use Rattle.day.specs.Told.{Told, answerText, answer-printed, answer-size}
 
 -- ---- one command
 
@@ -42,41 +44,91 @@ answerTo s (Sends a b) room held = messageCall room held (cut s a b)
 answerTo s (Turns day n) room held = turnCall room held day
 answerTo s End room held = turnCall room held 0
 
-module _ (s : List ℕ) (at k room : ℕ) (held : Option Engine) (h : 0 < k) where
-  run-next : run k room held (from s at) ≡ onward (command (from s at)) (λ c. printed (called room held (c .command)) ++ run (k - 1) room (called room held (c .command) .next) (c .others))
-  unfolding run
-  run-next = go k h
-    where
-      go : (k : ℕ) → 0 < k → run k room held (from s at) ≡ onward (command (from s at)) (λ c. printed (called room held (c .command)) ++ run (k - 1) room (called room held (c .command) .next) (c .others))
-      go zero l = absurd (omega arith)
-      go (suc k) l = let e : suc k - 1 ≡ k = omega arith in rw e refl
-
-  -- where there is none
-  run-ends : command (from s at) ≡ none → run k room held (from s at) ≡ []
-  unfolding onward
-  run-ends e = run-next ∙ rw e refl
-
-  -- where there is one
-  run-goes : (c : Command) → Commanding s (command (from s at)) c → isEnd c ≡ false → run k room held (from s at) ≡ printed (answerTo s c room held) ++ run (k - 1) room (answerTo s c room held .next) (from s (nextOf c))
-  unfolding onward isEnd answerTo nextOf commandedOf called
-  run-goes (Opens day a b) w e = run-next ∙ rw (← w .same) refl
-  run-goes (Sends a b) w e = run-next ∙ rw (← w .same) refl
-  run-goes (Turns day n) w e = run-next ∙ rw (← w .same) refl
-  run-goes End w e = absurd (let z : _≡_ {A = ℕ} 0 1 = cc in omega arith)
-
-  run-stops : (c : Command) → Commanding s (command (from s at)) c → isEnd c ≡ true → run k room held (from s at) ≡ []
-  unfolding isEnd commandedOf
-  run-stops (Opens day a b) w e = absurd (let z : _≡_ {A = ℕ} 0 1 = cc in omega arith)
-  run-stops (Sends a b) w e = absurd (let z : _≡_ {A = ℕ} 0 1 = cc in omega arith)
-  run-stops (Turns day n) w e = absurd (let z : _≡_ {A = ℕ} 0 1 = cc in omega arith)
-  run-stops End w e = run-ends (sym (w .same))
-
 pub next-within : (s : List ℕ) (x : Option Commanded) (c : Command) → Commanding s x c → nextOf c ≤ length s
 unfolding nextOf Placed
 next-within s x (Opens day a b) w = w .places .1
 next-within s x (Sends a b) w = w .places .1
 next-within s x (Turns day n) w = w .places
 next-within s x End w = omega arith
+
+-- a command that was read, in the paper's words
+record Found (s : List ℕ) (x : Option Commanded) (c : Command) (room : ℕ) (held : Option Engine) : Type 0 where
+  found : Commanded
+  stands : x ≡ some found
+  others : from s (nextOf c) ≡ found .others
+  answers : called room held (found .command) ≡ answerTo s c room held
+
+found-by : (s : List ℕ) (x : Option Commanded) (c : Command) (room : ℕ) (held : Option Engine) → Commanding s x c → isEnd c ≡ false → Found s x c room held
+unfolding isEnd answerTo nextOf commandedOf called
+found-by s x (Opens day a b) room held w e = record { found = record { command = R.opens day (cut s a b); others = from s b }; stands = sym (w .same); others = refl; answers = refl }
+found-by s x (Sends a b) room held w e = record { found = record { command = R.sends (cut s a b); others = from s b }; stands = sym (w .same); others = refl; answers = refl }
+found-by s x (Turns day n) room held w e = record { found = record { command = R.turns day; others = from s n }; stands = sym (w .same); others = refl; answers = refl }
+found-by s x End room held w e = absurd (let z : _≡_ {A = ℕ} 0 1 = cc in omega arith)
+
+-- ---- one step
+
+-- a command stands at a place of the input; it was carried out and its answer printed at o; next and o' are the places behind them
+pub record Moved (s : List ℕ) (at next : ℕ) (area area' out out' shown : List ℕ) (o o' : ℕ) (shown' : List ℕ) : Type 0 where
+  pub found : Commanded
+  pub stands : command (from s at) ≡ some found
+  pub others : from s next ≡ found .others
+  pub within : next ≤ length s
+  pub wrote : Wrote (printed (called (length out) (holds area) (found .command))) o shown o' shown'
+  pub short : length (printed (called (length out) (holds area) (found .command))) ≤ length out + 64
+  pub leaves : holds area' ≡ called (length out) (holds area) (found .command) .next
+  pub size : length area' ≡ length area
+  pub room : length out' ≡ length out
+
+-- no command stands there, and nothing changed
+pub record Stayed (s : List ℕ) (at : ℕ) (area area' out out' shown shown' : List ℕ) : Type 0 where
+  pub stands : command (from s at) ≡ none
+  pub left : area' ≡ area
+  pub lent : out' ≡ out
+  pub shows : shown' ≡ shown
+
+abbrev StepTold : List ℕ → ℕ → List ℕ → List ℕ → List ℕ → List ℕ → List ℕ → ℕ → List ℕ → Step → Type 0
+StepTold s at area area' out out' shown o shown' (Done next o') = Moved s at next area area' out out' shown o o' shown'
+StepTold s at area area' out out' shown o shown' Nothing = Stayed s at area area' out out' shown shown'
+
+pub record Stepped (s : List ℕ) (at : ℕ) (area area' out out' shown : List ℕ) (o : ℕ) (shown' : List ℕ) (r : Step) : Type 0 where
+  pub told : StepTold s at area area' out out' shown o shown' r
+
+module _ {s : List ℕ} {at o : ℕ} {area area' out out' shown shown' : List ℕ} {r : Step} (w : Stepped s at area area' out out' shown o shown' r) where
+  pub step-moved : (next o' : ℕ) → r ≡ Done next o' → Moved s at next area area' out out' shown o o' shown'
+  step-moved next o' e = subst (StepTold s at area area' out out' shown o shown') e (w .told)
+
+  pub step-stayed : r ≡ Nothing → Stayed s at area area' out out' shown shown'
+  step-stayed e = subst (StepTold s at area area' out out' shown o shown') e (w .told)
+
+-- by the command read
+module _ (s : List ℕ) (at : ℕ) (c : Command) (w : Commanding s (command (from s at)) c) (t : Bool) (u : t ≡ isEnd c) where
+  nothing : (c : Command) → Commanding s (command (from s at)) c → isEnd c ≡ true → command (from s at) ≡ none
+  unfolding isEnd commandedOf
+  nothing (Opens day a b) v e = absurd (let z : _≡_ {A = ℕ} 0 1 = cc in omega arith)
+  nothing (Sends a b) v e = absurd (let z : _≡_ {A = ℕ} 0 1 = cc in omega arith)
+  nothing (Turns day n) v e = absurd (let z : _≡_ {A = ℕ} 0 1 = cc in omega arith)
+  nothing End v e = sym (v .same)
+
+  pub step-none : {area out shown : List ℕ} {o : ℕ} → t ≡ true → Stepped s at area area out out shown o shown Nothing
+  step-none d = record { told = record { stands = nothing c w (sym u ∙ d); left = refl; lent = refl; shows = refl } }
+
+  pub step-done : {r : Outcome} {area area' out out' shown shown' : List ℕ} {o o' n : ℕ} → t ≡ false → Told (answerTo s c (length out) (holds area)) r area area' out out'
+      → Wrote (answerText r out') o shown o' shown' → n ≡ nextOf c → Stepped s at area area' out out' shown o shown' (Done n o')
+  step-done {r} {area} {area'} {out} {out'} d a v e =
+      let f : Found s (command (from s at)) c (length out) (holds area) = found-by s (command (from s at)) c (length out) (holds area) w (sym u ∙ d) in
+      let p : answerText r out' ≡ printed (called (length out) (holds area) (f .found .command)) = answer-printed a ∙ rw (f .answers) in record {
+        told = record {
+          found = f .found;
+          stands = f .stands;
+          others = rw e (f .others);
+          within = rw e (next-within s _ c w);
+          wrote = rw (← p) v;
+          short = rw (← p, ← a .room) (answer-size r out');
+          leaves = rw (f .answers) (a .next);
+          size = a .size;
+          room = a .room;
+        };
+      }
 
 -- ---- the loop
 
@@ -97,21 +149,21 @@ module _ {s area out shown whole start : List ℕ} {at k o room span : ℕ} (m :
   unfolding run
   replay-out h = let e : k ≡ 0 = omega arith in left-none (rw e at (m .left))
 
-  module _ (h : 0 < k) (c : Command) (w : Commanding s (command (from s at)) c) where
-    pub replay-ends : isEnd c ≡ true → Wrote whole 0 start o shown
-    replay-ends e = left-none (rw (run-stops s at k room (holds area) h c w e) at (m .left))
+  module _ (h : 0 < k) {area' out' shown' : List ℕ} {r : Step} (w : Stepped s at area area' out out' shown o shown' r) where
+    pub replay-ends : r ≡ Nothing → Wrote whole 0 start o shown'
+    replay-ends e = let t : Stayed s at area area' out out' shown shown' = step-stayed w e in rw (t .shows) (left-none (rw (run-ends (from s at) k room (holds area) (t .stands)) at (m .left)))
 
-    pub replay-goes : {r : Outcome} {area' out' shown' : List ℕ} {o' : ℕ} → isEnd c ≡ false → Told (answerTo s c (length out) (holds area)) r area area' out out'
-        → Wrote (answerText r out') o shown o' shown' → Replaying s (nextOf c) (k - 1) o' room span area' out' shown' whole start
-    replay-goes {r} {area'} {out'} e t v =
-        let b : Left (answerText r out' ++ run (k - 1) room (holds area') (from s (nextOf c))) o shown whole 0 start =
-        rw (answer-printed t, t .next, m .size) (rw (run-goes s at k room (holds area) h c w e) at (m .left)) in record {
-          within = next-within s _ c w;
+    pub replay-goes : (next o' : ℕ) → r ≡ Done next o' → Replaying s next (k - 1) o' room span area' out' shown' whole start
+    replay-goes next o' e =
+        let t : Moved s at next area area' out out' shown o o' shown' = step-moved w next o' e in
+        let b : Left (printed (called (length out) (holds area) (t .found .command)) ++ run (k - 1) room (holds area') (from s next)) o shown whole 0 start =
+        rw (t .leaves, t .others, m .size) (rw (run-goes (from s at) k room (holds area) h (t .found) (t .stands)) at (m .left)) in record {
+          within = t .within;
           long = rw (t .size) (m .long);
           lent = t .size ∙ m .lent;
           size = t .room ∙ m .size;
-          shows = wrote-length v ∙ m .shows;
-          left = left-turn b v;
+          shows = wrote-length (t .wrote) ∙ m .shows;
+          left = left-turn b (t .wrote);
         }
 
 -- ---- by the case of a command
@@ -183,13 +235,4 @@ module _ (c : Command) where
   unfolding nextOf
   next-end e = rw e refl
 
--- a loop's command that is told apart
-module _ {s area out shown whole start : List ℕ} {at k o room span : ℕ} (m : Replaying s at k o room span area out shown whole start) (h : 0 < k) (c : Command) (w : Commanding s (command (from s at)) c) (t : Bool) (u : t ≡ isEnd c) where
-  pub loop-ends : t ≡ true → Wrote whole 0 start o shown
-  loop-ends d = replay-ends m h c w (sym u ∙ d)
-
-  pub loop-goes : {r : Outcome} {area' out' shown' : List ℕ} {o' n : ℕ} → t ≡ false → Told (answerTo s c (length out) (holds area)) r area area' out out'
-      → Wrote (answerText r out') o shown o' shown' → n ≡ nextOf c → Replaying s n (k - 1) o' room span area' out' shown' whole start
-  loop-goes d a v e = rw e (replay-goes m h c w (sym u ∙ d) a v)
-
-pub ruleset replaying = (perform-open, perform-message, perform-turn, perform-end, opens-order, opens-room, sends-order, sends-room, end-opens, end-sends, end-turns, end-end, next-opens, next-sends, next-turns, next-end, replay-starts, replay-out, loop-ends, loop-goes)
+pub ruleset replaying = (perform-open, perform-message, perform-turn, perform-end, opens-order, opens-room, sends-order, sends-room, end-opens, end-sends, end-turns, end-end, next-opens, next-sends, next-turns, next-end, step-none, step-done, replay-starts, replay-out, replay-ends, replay-goes)

@@ -1,19 +1,22 @@
 -- What the card answered to a command, as document 01's calls on an engine say it, and how it is printed. Assumes nothing.
 use mathlib.Core.Path.{_≡_, refl, sym, ap, _∙_}
+use mathlib.Core.Bool.{Bool, true, false, cond}
 use mathlib.Core.List.{List, [], _∷_, _++_}
-use Prim.Native.Nat.{ℕ, _+_, _-_, _≤_, _<_, _^_}
+use Prim.Native.Nat.{ℕ, zero, suc, _+_, _-_, _/_, _≤_, _<_, _^_}
 use native.Mathlib.Omega.{arith}
-use lib.IntN.{ℤ}
+use lib.Dec.{leb}
+use lib.IntN.{ℤ, pos, negsuc}
 use lib.Signed.{mag}
-use lib.ListN.{length, take, drop}
+use lib.ListN.{length, take, drop, length-append, length-take}
 use mir.Val.{SFits, toZ, ofZ}
 use mir.Syntax.{w64}
 use mir.Facts.{toZ-ofZ}
-use Rattle.rules.specs.Text.{ascii, decimal}
+use Rattle.rules.specs.Text.{ascii, decimal, width}
 use Rattle.rules.specs.Calls.{Answer, openCall, messageCall, turnCall}
 use Rattle.rules.specs.Replay.{signed, printed}
 use Rattle.rules.specs.Area.{holds, Result, cardOpen, cardMessage, cardTurn, areaSize}
 use Rattle.laws.specs.Parts.{cut, from, from-take}
+use Rattle.laws.specs.Digits.{places-length}
 use Rattle.laws.specs.Writing.{Wrote, wrote-then}
 use Rattle.card.specs.Answers.{Answers}
 use Rattle.day.specs.Same.{Same, same-open, same-message, same-turn}
@@ -37,6 +40,28 @@ answerText o out = decimal (o .number) ++ ascii "," ++ signed (o .difference) ++
 pub answer-printed : {a : Answer} {o : Outcome} {area area' out out' : List ℕ} → Told a o area area' out out' → answerText o out' ≡ printed a
 unfolding answerText printed
 answer-printed t = rw (t .number, t .difference, t .text) refl
+
+-- how long it is at most
+width-bound : (k v : ℕ) → width k v ≤ k + 1
+unfolding width
+width-bound zero v = omega arith
+width-bound (suc k) v = go (leb v 9) (width-bound k (v / 10))
+  where
+    go : (t : Bool) → width k (v / 10) ≤ k + 1 → cond t 1 (suc (width k (v / 10))) ≤ suc k + 1
+    go true h = omega arith
+    go false h = omega arith
+
+decimal-bound : (v : ℕ) → length (decimal v) ≤ 20
+decimal-bound v = rw (places-length 10 48 (width 19 v) v) (width-bound 19 v)
+
+signed-bound : (z : ℤ) → length (signed z) ≤ 21
+unfolding signed
+signed-bound (pos n) = omega (arith, decimal-bound n)
+signed-bound (negsuc n) = omega (arith, decimal-bound (suc n))
+
+pub answer-size : (o : Outcome) (out : List ℕ) → length (answerText o out) ≤ length out + 64
+unfolding answerText
+answer-size o out = rw (length-append, length-append, length-append, length-append, length-take) (omega (arith, decimal-bound (o .number), signed-bound (o .difference)))
 
 pub answer-wrote : (a : Outcome) (out : List ℕ) → mag (a .difference) < 2 ^ 63 → {at m₁ m₂ m₃ m₄ r : ℕ} {o o₁ o₂ o₃ o₄ o₅ : List ℕ} → Wrote (decimal (a .number)) at o m₁ o₁ → Wrote (44 ∷ []) m₁ o₁ m₂ o₂
     → Wrote (signed (toZ w64 (ofZ w64 (a .difference)))) m₂ o₂ m₃ o₃ → Wrote (ascii "\r\n") m₃ o₃ m₄ o₄ → Wrote (cut out 0 (a .written)) m₄ o₄ r o₅ → Wrote (answerText a out) at o r o₅

@@ -9,7 +9,7 @@ ghost use lib.ListN.{length};
 ghost use Rattle.rules.specs.Replay.{run};
 ghost use Rattle.rules.specs.Area.{holds, areaSize};
 ghost use Rattle.laws.specs.Writing.{Wrote};
-ghost use Rattle.day.specs.Replaying.{isEnd, nextOf};
+ghost use Rattle.day.specs.Replaying.{isEnd, nextOf, Stepped};
 
 // Is there no command?
 fn is_end(c: Command) -> bool
@@ -35,6 +35,34 @@ fn next_of(c: Command) -> usize
     }
 }
 
+// What was done at a place of the input: a command was carried out, with the place behind it and the place behind its answer, or there is none.
+pub enum Step {
+    Done(usize, usize),
+    Nothing,
+}
+
+// Carries out the command at a place of the input and prints its answer at o.
+pub fn carry_out(
+    input: &[u8],
+    at: usize,
+    area: &mut [u8],
+    out: &mut [u8],
+    printed: &mut [u8],
+    o: usize,
+) -> Step
+    requires { ⌜ at ≤ length (now input) ⌝ }
+    requires { ⌜ areaSize ≤ length (now area) ⌝ }
+    ensures { λ r. ⌜ Stepped (now (input .entry)) at (now (area .entry)) (now (area .exit)) (now (out .entry)) (now (out .exit)) (now (printed .entry)) o (now (printed .exit)) r ⌝ }
+{
+    let c = read_command(input, at);
+    if is_end(c) {
+        return Step::Nothing;
+    }
+    let a = perform(input, c, area, out);
+    let p = put_answer(printed, o, a, out);
+    Step::Done(next_of(c), p)
+}
+
 // Carries out the commands of the input one after the other and prints their answers, as far as `printed` reaches; answers how many bytes they are.
 pub fn replay_day(input: &[u8], area: &mut [u8], out: &mut [u8], printed: &mut [u8]) -> usize
     requires { ⌜ areaSize ≤ length (now area) ⌝ }
@@ -44,14 +72,14 @@ pub fn replay_day(input: &[u8], area: &mut [u8], out: &mut [u8], printed: &mut [
     let mut o: usize = 0;
     let mut k = input.len();
     while k > 0 {
-        let c = read_command(input, at);
-        if is_end(c) {
-            return o;
+        match carry_out(input, at, area, out, printed, o) {
+            Step::Done(next, p) => {
+                at = next;
+                o = p;
+                k -= 1;
+            }
+            Step::Nothing => return o,
         }
-        let a = perform(input, c, area, out);
-        o = put_answer(printed, o, a, out);
-        at = next_of(c);
-        k -= 1;
     }
     o
 }

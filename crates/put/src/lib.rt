@@ -3,12 +3,15 @@
 mod amount;
 mod digits;
 mod groups;
+mod moves;
 mod parts;
 
 pub use amount::put_amount;
 pub use digits::put_be;
 pub use digits::put_decimal;
 pub use digits::put_fixed;
+pub use moves::move_down;
+pub use moves::move_up;
 pub use parts::put_byte;
 pub use parts::put_bytes;
 pub use parts::put_end;

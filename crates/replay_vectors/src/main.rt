@@ -21,20 +21,6 @@ fn print_room() -> [u8; 65536]
     [0; 65536]
 }
 
-// The card's output.
-fn output_room() -> [u8; 32768]
-    ensures { λ r. ⌜ 32768 ≡ length r ⌝ }
-{
-    [0; 32768]
-}
-
-// The engine area, zeros.
-fn area_room() -> [u8; 6144]
-    ensures { λ r. ⌜ 6144 ≡ length r ⌝ }
-{
-    [0; 6144]
-}
-
 // The file that an argument names, as much of it as the buffer takes.
 fn read_file(i: usize, buf: &mut [u8]) -> usize
     ensures { λ r. ⌜ Counts r (now (buf .exit)) ⌝ }
@@ -50,26 +36,24 @@ fn read_file(i: usize, buf: &mut [u8]) -> usize
     got
 }
 
-// The number that an argument is, at most 32,768.
+// The room that an argument is.
 fn room_of(i: usize) -> usize
-    ensures { λ r. ⌜ r ≤ 32768 ⌝ }
+    ensures { λ r. ⌜ r ≤ 1048576 ⌝ }
 {
     let mut word = [0u8; 16];
     let n = os::arg(i, &mut word);
-    if let Num::Value(v) = text::read_digits(&word, 0, n) {
-        if v <= 32768 {
-            return v as usize;
-        }
-    }
-    32768
+    let Num::Value(room) = commands::read_room(&word, 0, n) else {
+        return 32768;
+    };
+    room as usize
 }
 
 // Replays the input with so many bytes of output; answers how many bytes were printed.
 fn replay_with(input: &[u8], room: usize, printed: &mut [u8]) -> usize
-    requires { ⌜ room ≤ 32768 ⌝ }
+    requires { ⌜ room ≤ 1048576 ⌝ }
 {
-    let mut area = area_room();
-    let mut output = output_room();
+    let mut area = day::area_room();
+    let mut output = day::output_room();
     day::replay_day(input, &mut area, &mut output[0..room], printed)
 }
 

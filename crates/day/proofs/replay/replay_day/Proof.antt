@@ -1,10 +1,9 @@
 -- What is left to carry out and to print is the run from the place reached. Assumes nothing.
 use native.Mathlib.Omega.{arith}
-use Rattle.day.specs.Replaying.{replay-starts}
 use lib.ListN.{length}
 use Rattle.rules.specs.Area.{holds}
 use Rattle.rules.specs.Replay.{run}
-use Rattle.day.specs.Replaying.{Replaying}
+use Rattle.day.specs.Replaying.{Replaying, replay-starts}
 use borrow.Author.Needs.{needs}
 use Rattle.day.specs.Replaying.{replaying}
 use Rattle.day.proofs.replay.replay_day.Statement.{statement}
@@ -19,11 +18,23 @@ abbrev μ-loop : tie.MeasureT-loop
 loop-holds : tie.Need-loop-holds Inv-loop μ-loop
 loop-holds c = replay-starts _ _ _ _ (c .before .before .before .before .pre) (omega arith)
 
-read-command-requires : tie.Need-read-command-requires Inv-loop μ-loop
-read-command-requires c κs = search (replaying, needs)
+carry-out-requires : tie.Need-carry-out-requires Inv-loop μ-loop
+carry-out-requires c κs = search (replaying, needs)
 
-is-end-requires : tie.Need-is-end-requires Inv-loop μ-loop
-is-end-requires c κs = search (replaying, needs)
+enum-known-next : tie.Need-enum-known-next Inv-loop μ-loop
+enum-known-next c = search (replaying, needs)
+
+sub-k : tie.Need-sub-k Inv-loop μ-loop
+sub-k c = search (replaying, needs)
+
+loop-less : tie.Need-loop-less Inv-loop μ-loop
+loop-less c = search (replaying, needs)
+
+loop-again : tie.Need-loop-again Inv-loop μ-loop
+loop-again c = search (replaying, needs)
+
+enum-told : tie.Need-enum-told Inv-loop μ-loop
+enum-told c = search (replaying, needs)
 
 same-length : tie.Need-same-length Inv-loop μ-loop
 same-length c = search (replaying, needs)
@@ -36,24 +47,6 @@ same-length-3 c = search (replaying, needs)
 
 returns : tie.Need-returns Inv-loop μ-loop
 returns c = search (replaying, needs)
-
-perform-requires : tie.Need-perform-requires Inv-loop μ-loop
-perform-requires c κs = search (replaying, needs)
-
-put-answer-requires : tie.Need-put-answer-requires Inv-loop μ-loop
-put-answer-requires c κs = search (replaying, needs)
-
-next-of-requires : tie.Need-next-of-requires Inv-loop μ-loop
-next-of-requires c κs = search (replaying, needs)
-
-sub-k : tie.Need-sub-k Inv-loop μ-loop
-sub-k c = search (replaying, needs)
-
-loop-less : tie.Need-loop-less Inv-loop μ-loop
-loop-less c = search (replaying, needs)
-
-loop-again : tie.Need-loop-again Inv-loop μ-loop
-loop-again c = search (replaying, needs)
 
 same-length-4 : tie.Need-same-length-4 Inv-loop μ-loop
 same-length-4 c = search (replaying, needs)
@@ -74,18 +67,16 @@ replay-day-spec =
     Inv-loop
     μ-loop
     loop-holds
-    read-command-requires
-    is-end-requires
+    carry-out-requires
+    enum-known-next
+    sub-k
+    loop-less
+    loop-again
+    enum-told
     same-length
     same-length-2
     same-length-3
     returns
-    perform-requires
-    put-answer-requires
-    next-of-requires
-    sub-k
-    loop-less
-    loop-again
     same-length-4
     same-length-5
     same-length-6

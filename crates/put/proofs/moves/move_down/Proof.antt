@@ -3,8 +3,8 @@ use Prim.Native.Nat.{_≤_, _-_}
 use borrow.Author.Needs.{needs}
 use Rattle.laws.specs.Moving.{Moving}
 use Rattle.laws.specs.Sets.{moving}
-use Rattle.engine_change.proofs.records.move_down.Statement.{statement}
-use Rattle.engine_change.proofs.records.move_down.Tie as tie
+use Rattle.put.proofs.moves.move_down.Statement.{statement}
+use Rattle.put.proofs.moves.move_down.Tie as tie
 
 abbrev Inv-loop : tie.InvT-loop
 Inv-loop area₀ here there n k₀ area k = (k ≤ n) × Moving area₀ here there 0 k area

@@ -3,8 +3,8 @@ use Prim.Native.Nat.{_-_}
 use borrow.Author.Needs.{needs}
 use Rattle.laws.specs.Moving.{Moving}
 use Rattle.laws.specs.Sets.{moving}
-use Rattle.engine_change.proofs.records.shift_up.Statement.{statement}
-use Rattle.engine_change.proofs.records.shift_up.Tie as tie
+use Rattle.put.proofs.moves.move_up.Statement.{statement}
+use Rattle.put.proofs.moves.move_up.Tie as tie
 
 abbrev Inv-loop : tie.InvT-loop
 Inv-loop area₀ here there n k₀ area k = Moving area₀ here there k n area
@@ -48,8 +48,8 @@ same-length c = search (moving, needs)
 returns : tie.Need-returns Inv-loop μ-loop
 returns c = search (moving, needs)
 
-pub shift-up-spec : {M : Type 1} → statement M
-shift-up-spec =
+pub move-up-spec : {M : Type 1} → statement M
+move-up-spec =
     tie.close
     (tie.spec
     Inv-loop
