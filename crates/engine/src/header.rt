@@ -1,4 +1,9 @@
 // The header of an area.
+use crate::layout::AREA;
+use crate::layout::COUNT;
+use crate::layout::DAY;
+use crate::layout::MANY_POSITIONS;
+use crate::layout::MANY_REFERENCES;
 use text::number_at;
 ghost use mathlib.Core.Path.{_≡_};
 ghost use mathlib.Core.Bool.{true};
@@ -21,7 +26,7 @@ pub struct Header {
 pub fn has_room(area: &[u8]) -> bool
     ensures { λ r. ⌜ r ≡ leb areaSize (length (now (area .entry))) ⌝ }
 {
-    6144 <= area.len()
+    AREA <= area.len()
 }
 
 // The header of any bytes that have room for one.
@@ -29,10 +34,10 @@ pub fn header_at(area: &[u8]) -> Header
     requires { ⌜ referencesPlace ≤ length (now area) ⌝ }
     ensures { λ r. ⌜ HeaderAt (now (area .entry)) r ⌝ }
 {
-    let day = number_at(area, 2, 3);
-    let count = number_at(area, 5, 2);
-    let positions = number_at(area, 7, 1);
-    let references = number_at(area, 8, 1);
+    let day = number_at(area, DAY, 3);
+    let count = number_at(area, COUNT, 2);
+    let positions = number_at(area, MANY_POSITIONS, 1);
+    let references = number_at(area, MANY_REFERENCES, 1);
     Header {
         day: day as u32,
         count: count as u32,

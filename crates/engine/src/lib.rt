@@ -1,6 +1,7 @@
 // The engine read off its area.
 mod header;
 mod held;
+pub mod layout;
 mod places;
 mod positions;
 mod reference;

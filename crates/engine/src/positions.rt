@@ -1,4 +1,9 @@
 // The positions of the area.
+use crate::layout::DATE;
+use crate::layout::DETAILED;
+use crate::layout::POSITIONS;
+use crate::layout::RECORD;
+use crate::layout::TRANSFERRED;
 use position::Key;
 use position::Position;
 use text::number_at;
@@ -15,7 +20,7 @@ pub fn position_place(i: u32) -> usize
     requires { ⌜ i ≤ 32 ⌝ }
     ensures { λ r. ⌜ r ≡ positionsPlace + recordSize * i ⌝ }
 {
-    (1552 + 24 * i) as usize
+    (POSITIONS + RECORD * i) as usize
 }
 
 // The key of the position at a place.
@@ -24,7 +29,7 @@ pub fn key_at(area: &[u8], p: usize) -> Key
     ensures { λ r. ⌜ keyValue r ≡ keyAt (now (area .entry)) p ⌝ }
 {
     let bank = number_at(area, p, 8);
-    let date = number_at(area, p + 8, 3);
+    let date = number_at(area, p + DATE, 3);
     Key {
         bank,
         date: date as u32,
@@ -37,8 +42,8 @@ pub fn position_at(area: &[u8], p: usize) -> Position
     ensures { λ r. ⌜ PositionAt (now (area .entry)) p r ⌝ }
 {
     let key = key_at(area, p);
-    let transferred = number_at(area, p + 12, 6);
-    let detailed = number_at(area, p + 18, 6);
+    let transferred = number_at(area, p + TRANSFERRED, 6);
+    let detailed = number_at(area, p + DETAILED, 6);
     Position {
         key,
         transferred,

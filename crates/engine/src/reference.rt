@@ -1,4 +1,7 @@
 // References accepted today.
+use crate::layout::FIRST_REFERENCE;
+use crate::layout::SIZE;
+use crate::layout::TEXT;
 use text::number_at;
 ghost use mathlib.Core.Path.{_≡_};
 ghost use mathlib.Core.Bool.{true};
@@ -67,7 +70,7 @@ fn same_reference(area: &[u8], p: usize, bank: u64, s: &[u8], a: usize, b: usize
     requires { ⌜ every isText (cut (now s) a b) ≡ true ⌝ }
     ensures { λ r. ⌜ r ≡ sameReference (ofBank bank (cut (now (s .entry)) a b)) (referenceAt (now (area .entry)) p) ⌝ }
 {
-    if same_text(area, p + 8, s, a, b) {
+    if same_text(area, p + TEXT, s, a, b) {
         return bank == number_at(area, p, 8);
     }
     false
@@ -83,13 +86,13 @@ pub fn reference_used(area: &[u8], n: u32, bank: u64, s: &[u8], a: usize, b: usi
     requires { ⌜ every isText (cut (now s) a b) ≡ true ⌝ }
     ensures { λ r. ⌜ r ≡ any (sameReference (ofBank bank (cut (now (s .entry)) a b))) (referencesAt (now (area .entry)) 16 n) ⌝ }
 {
-    let mut p: usize = 16;
+    let mut p = FIRST_REFERENCE;
     let mut k = n;
     while k > 0 {
         if same_reference(area, p, bank, s, a, b) {
             return true;
         } else {
-            p += 24;
+            p += SIZE;
             k -= 1;
         }
     }

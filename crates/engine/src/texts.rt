@@ -1,4 +1,7 @@
 // The texts of an area, one behind the other.
+use crate::layout::LENGTHS;
+use crate::layout::TEMPORARY_END;
+use crate::layout::TEXTS;
 use text::number_at;
 ghost use mathlib.Core.Path.{_≡_};
 ghost use mathlib.Core.Bool.{true};
@@ -17,7 +20,7 @@ pub fn length_at(area: &[u8], k: u32) -> usize
     requires { ⌜ referencesPlace ≤ length (now area) ⌝ }
     ensures { λ r. ⌜ NumberAt (now (area .entry)) (lengthsPlace + 2 * k) 2 r ⌝ }
 {
-    number_at(area, 10 + (2 * k) as usize, 2) as usize
+    number_at(area, LENGTHS + (2 * k) as usize, 2) as usize
 }
 
 // Where text k begins: behind those before it.
@@ -26,7 +29,7 @@ pub fn text_place(area: &[u8], k: u32) -> usize
     requires { ⌜ referencesPlace ≤ length (now area) ⌝ }
     ensures { λ r. ⌜ PlaceAt (now (area .entry)) k r ⌝ }
 {
-    let mut p: usize = 2320;
+    let mut p = TEXTS;
     let mut i: u32 = 0;
     while i < k {
         p += length_at(area, i);
@@ -59,5 +62,5 @@ pub fn temporary<'a>(area: &'a [u8]) -> &'a [u8]
     requires { ⌜ isSome (holds (now area)) ≡ true ⌝ }
     ensures { λ r. ⌜ now r ≡ registerOf (decode (now (area .entry)) .register) .temporary ⌝ }
 {
-    &area[2320..2342]
+    &area[TEXTS..TEMPORARY_END]
 }

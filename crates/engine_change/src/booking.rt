@@ -4,6 +4,8 @@ use crate::filing::reference_place;
 use crate::parts::put_numbers;
 use engine::header_of;
 use engine::is_at;
+use engine::layout::FIRST_POSITION;
+use engine::layout::RECORD;
 use engine::place_of;
 use engine::position_at;
 use engine::position_place;
@@ -70,7 +72,7 @@ fn book_position(area: &mut [u8], n: u32, p: Position) -> u32
         raise(area, at, p);
         return n;
     }
-    crate::records::open_record(area, 1552, 24, n, i);
+    crate::records::open_record(area, FIRST_POSITION, RECORD, n, i);
     put_position(area, at, p);
     n + 1
 }

@@ -1,5 +1,9 @@
 // A reference put in its place among those of an area, which stand by sender in byte order and then text.
 use crate::parts::put_padded;
+use engine::layout::FIRST_REFERENCE;
+use engine::layout::RECORD;
+use engine::layout::REFERENCES;
+use engine::layout::TEXT;
 use text::number_at;
 ghost use mathlib.Core.Path.{_≡_};
 ghost use mathlib.Core.Bool.{true};
@@ -29,7 +33,7 @@ fn is_before(area: &[u8], at: usize, bank: u64, s: &[u8], a: usize, b: usize) ->
     if bank < x {
         return false;
     }
-    text::is_before(area, at + 8, 16, s, a, (b - a) as u32)
+    text::is_before(area, at + TEXT, 16, s, a, (b - a) as u32)
 }
 
 // The place of that reference: how many precede it.
@@ -43,7 +47,7 @@ pub fn reference_place(area: &[u8], n: u32, bank: u64, s: &[u8], a: usize, b: us
 {
     let mut i: u32 = 0;
     while i < n {
-        if is_before(area, (16 + 24 * i) as usize, bank, s, a, b) {
+        if is_before(area, (REFERENCES + RECORD * i) as usize, bank, s, a, b) {
             i += 1;
         } else {
             return i;
@@ -72,6 +76,6 @@ pub fn file_reference(area: &mut [u8], n: u32, i: u32, bank: u64, s: &[u8], a: u
     requires { ⌜ b - a ≤ 16 ⌝ }
     ensures { λ _. ⌜ Files n i (reference bank (cut (now (s .entry)) a b)) (now (area .entry)) (now (area .exit)) ⌝ }
 {
-    crate::records::open_record(area, 16, 24, n, i);
-    put_reference(area, (16 + 24 * i) as usize, bank, s, a, b);
+    crate::records::open_record(area, FIRST_REFERENCE, RECORD, n, i);
+    put_reference(area, (REFERENCES + RECORD * i) as usize, bank, s, a, b);
 }

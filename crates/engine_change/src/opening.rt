@@ -1,5 +1,8 @@
 // An opening written into an area.
 use crate::parts::put_numbers;
+use engine::layout::POSITIONS_ROOM;
+use engine::layout::REFERENCES_ROOM;
+use engine::layout::TEXTS_ROOM;
 ghost use mathlib.Core.Path.{_≡_};
 ghost use mathlib.Core.Bool.{true};
 ghost use mathlib.Core.List.{[], _∷_, _++_};
@@ -29,7 +32,7 @@ fn put_texts(area: &mut [u8], at: usize, text: &[u8]) -> usize
     ensures { λ r. ⌜ Wrote (textPart (now (text .entry) ∷ [])) at (now (area .entry)) r (now (area .exit)) ⌝ }
 {
     let a = put::put_bytes(area, at, text);
-    put::put_zeros(area, a, 3824 - text.len())
+    put::put_zeros(area, a, TEXTS_ROOM - text.len())
 }
 
 // The parts of an opened engine's area.
@@ -39,8 +42,8 @@ fn put_opened(area: &mut [u8], text: &[u8], day: u32) -> usize
 {
     let a = put_numbers(area, day, 0, 0, 0);
     let b = put_lengths(area, a, text);
-    let c = put::put_zeros(area, b, 1536);
-    let d = put::put_zeros(area, c, 768);
+    let c = put::put_zeros(area, b, REFERENCES_ROOM);
+    let d = put::put_zeros(area, c, POSITIONS_ROOM);
     put_texts(area, d, text)
 }
 

@@ -1,6 +1,12 @@
 // A turn made in an area: positions with details are removed, references and outgoing number start anew.
 use crate::parts::put_numbers;
 use engine::header_of;
+use engine::layout::DETAILED;
+use engine::layout::FIRST_POSITION;
+use engine::layout::FIRST_REFERENCE;
+use engine::layout::POSITIONS;
+use engine::layout::RECORD;
+use engine::layout::REFERENCES_ROOM;
 use text::number_at;
 ghost use mathlib.Core.Path.{_≡_};
 ghost use mathlib.Core.Bool.{true};
@@ -17,7 +23,7 @@ fn stays_at(area: &[u8], at: usize) -> bool
     requires { ⌜ at + recordSize ≤ length (now area) ⌝ }
     ensures { λ r. ⌜ r ≡ stays (take recordSize (drop at (now (area .entry)))) ⌝ }
 {
-    let detailed = number_at(area, at + 18, 6);
+    let detailed = number_at(area, at + DETAILED, 6);
     if detailed > 0 {
         return false;
     }
@@ -33,15 +39,19 @@ fn remove_detailed(area: &mut [u8], n: u32) -> u32
     let mut i: u32 = 0;
     let mut j: u32 = 0;
     while i < n {
-        if stays_at(area, (1552 + 24 * i) as usize) {
-            crate::records::keep_record(area, 1552, 24, i, j);
+        if stays_at(area, (POSITIONS + RECORD * i) as usize) {
+            crate::records::keep_record(area, FIRST_POSITION, RECORD, i, j);
             i += 1;
             j += 1;
         } else {
             i += 1;
         }
     }
-    put::put_zeros(area, (1552 + 24 * j) as usize, (24 * (n - j)) as usize);
+    put::put_zeros(
+        area,
+        (POSITIONS + RECORD * j) as usize,
+        (RECORD * (n - j)) as usize,
+    );
     j
 }
 
@@ -52,6 +62,6 @@ pub fn turn_area(area: &mut [u8], day: u32, count: u32)
 {
     let h = header_of(area);
     let kept = remove_detailed(area, h.positions);
-    put::put_zeros(area, 16, 1536);
+    put::put_zeros(area, FIRST_REFERENCE, REFERENCES_ROOM);
     put_numbers(area, day, count, kept, 0);
 }

@@ -2,6 +2,12 @@
 use crate::header::zeros_at;
 use crate::header::zeros_hold;
 use crate::positions::before_last;
+use engine::layout::FIRST_POSITION;
+use engine::layout::FIRST_REFERENCE;
+use engine::layout::RECORD;
+use engine::layout::REFERENCES;
+use engine::layout::SIZE;
+use engine::layout::TEXT;
 ghost use mathlib.Core.Path.{_≡_};
 ghost use Prim.Native.Nat.{_+_, _-_, _≤_};
 ghost use lib.ListN.{length};
@@ -43,7 +49,7 @@ fn reference_fits(area: &[u8], p: usize) -> bool
     if !account::is_bic(area, p) {
         return false;
     }
-    text_fits(area, p + 8)
+    text_fits(area, p + TEXT)
 }
 
 // Is each of the n records a bank's reference?
@@ -53,11 +59,11 @@ fn references_fit(area: &[u8], n: u32) -> bool
     ensures { λ r. ⌜ r ≡ walk (always (referenceTest (now (area .entry)))) n 16 ⌝ }
 {
     let mut k = n;
-    let mut p = 16;
+    let mut p = FIRST_REFERENCE;
     while k > 0 {
         if reference_fits(area, p) {
             k -= 1;
-            p += 24;
+            p += SIZE;
         } else {
             return false;
         }
@@ -70,7 +76,7 @@ fn stands_before(area: &[u8], p: usize) -> bool
     requires { ⌜ p + recordSize + recordSize ≤ length (now area) ⌝ }
     ensures { λ r. ⌜ r ≡ filedTest (now (area .entry)) p ⌝ }
 {
-    let q = p + 24;
+    let q = p + SIZE;
     let sender = text::read_be(area, p, p + 8);
     let other = text::read_be(area, q, q + 8);
     if sender < other {
@@ -79,7 +85,7 @@ fn stands_before(area: &[u8], p: usize) -> bool
     if other < sender {
         return false;
     }
-    text::is_before(area, p + 8, 16, area, q + 8, 16)
+    text::is_before(area, p + TEXT, 16, area, q + TEXT, 16)
 }
 
 // Do the n references stand in order?
@@ -89,11 +95,11 @@ fn references_ordered(area: &[u8], n: u32) -> bool
     ensures { λ r. ⌜ r ≡ walk (always (filedTest (now (area .entry)))) (n - 1) 16 ⌝ }
 {
     let mut k = before_last(n);
-    let mut p = 16;
+    let mut p = FIRST_REFERENCE;
     while k > 0 {
         if stands_before(area, p) {
             k -= 1;
-            p += 24;
+            p += SIZE;
         } else {
             return false;
         }
@@ -113,5 +119,5 @@ pub fn references_hold(area: &[u8], n: u32) -> bool
     if !references_ordered(area, n) {
         return false;
     }
-    zeros_hold(area, (16 + 24 * n) as usize, 1552)
+    zeros_hold(area, (REFERENCES + RECORD * n) as usize, FIRST_POSITION)
 }

@@ -1,5 +1,9 @@
 // Numbers and zeros of an area, and its header.
 use engine::Header;
+use engine::layout::CURRENCY;
+use engine::layout::FIRST_REFERENCE;
+use engine::layout::LENGTHS;
+use engine::layout::NO_LENGTHS;
 ghost use mathlib.Core.Path.{_≡_};
 ghost use mathlib.Core.Bool.{_&&_};
 ghost use Prim.Native.Nat.{_+_, _-_, _*_, _≤_};
@@ -104,8 +108,8 @@ fn unused_zero(area: &[u8]) -> bool
     requires { ⌜ referencesPlace ≤ length (now area) ⌝ }
     ensures { λ r. ⌜ r ≡ (every isZero (cut (now (area .entry)) currencyPlace lengthsPlace) && every isZero (cut (now (area .entry)) (lengthsPlace + 2 * textCount) referencesPlace)) ⌝ }
 {
-    if zeros_hold(area, 9, 10) {
-        return zeros_hold(area, 12, 16);
+    if zeros_hold(area, CURRENCY, LENGTHS) {
+        return zeros_hold(area, NO_LENGTHS, FIRST_REFERENCE);
     }
     false
 }

@@ -1,6 +1,13 @@
 // The section of positions: each within the limits, in order, and zeros behind them.
 use crate::header::zeros_hold;
 use engine::key_at;
+use engine::layout::BLOCK;
+use engine::layout::FIRST_POSITION;
+use engine::layout::POSITIONS;
+use engine::layout::RECORD;
+use engine::layout::SIZE;
+use engine::layout::TEXTS;
+use engine::layout::TRANSFERRED;
 use engine::position_at;
 use position::Position;
 use position::is_before;
@@ -43,7 +50,7 @@ fn position_fits(area: &[u8], p: usize, day: u32) -> bool
     if !account::is_bic(area, p) {
         return false;
     }
-    if !zeros_hold(area, p + 11, p + 12) {
+    if !zeros_hold(area, p + BLOCK, p + TRANSFERRED) {
         return false;
     }
     values_fit(position_at(area, p), day)
@@ -56,11 +63,11 @@ fn positions_fit(area: &[u8], n: u32, day: u32) -> bool
     ensures { λ r. ⌜ r ≡ walk (always (positionTest day (now (area .entry)))) n positionsPlace ⌝ }
 {
     let mut k = n;
-    let mut p = 1552;
+    let mut p = FIRST_POSITION;
     while k > 0 {
         if position_fits(area, p, day) {
             k -= 1;
-            p += 24;
+            p += SIZE;
         } else {
             return false;
         }
@@ -73,7 +80,7 @@ fn in_order(area: &[u8], p: usize) -> bool
     requires { ⌜ p + recordSize + recordSize ≤ length (now area) ⌝ }
     ensures { λ r. ⌜ r ≡ orderTest (now (area .entry)) p ⌝ }
 {
-    is_before(key_at(area, p), key_at(area, p + 24))
+    is_before(key_at(area, p), key_at(area, p + SIZE))
 }
 
 // One less, and 0 where there is none.
@@ -93,11 +100,11 @@ fn positions_ordered(area: &[u8], n: u32) -> bool
     ensures { λ r. ⌜ r ≡ walk (always (orderTest (now (area .entry)))) (n - 1) positionsPlace ⌝ }
 {
     let mut k = before_last(n);
-    let mut p = 1552;
+    let mut p = FIRST_POSITION;
     while k > 0 {
         if in_order(area, p) {
             k -= 1;
-            p += 24;
+            p += SIZE;
         } else {
             return false;
         }
@@ -117,5 +124,5 @@ pub fn positions_hold(area: &[u8], n: u32, day: u32) -> bool
     if !positions_ordered(area, n) {
         return false;
     }
-    zeros_hold(area, (1552 + 24 * n) as usize, 2320)
+    zeros_hold(area, (POSITIONS + RECORD * n) as usize, TEXTS)
 }

@@ -4,6 +4,7 @@ use crate::header::header_holds;
 use crate::header::zeros_hold;
 use crate::positions::positions_hold;
 use engine::header_at;
+use engine::layout::AREA;
 use engine::length_at;
 use engine::text_at;
 use engine::text_place;
@@ -35,14 +36,14 @@ fn texts_hold(area: &[u8]) -> bool
     if !register_holds(area, 0) {
         return false;
     }
-    zeros_hold(area, text_place(area, 1), 6144)
+    zeros_hold(area, text_place(area, 1), AREA)
 }
 
 // Does the whole area pass?
 fn area_passes(area: &[u8]) -> bool
     ensures { λ r. ⌜ r ≡ areaTest (now (area .entry)) ⌝ }
 {
-    if area.len() < 6144 {
+    if area.len() < AREA {
         return false;
     }
     let h = header_at(area);
