@@ -12,7 +12,8 @@ use Rattle.rules.specs.Lines.{Line, lines}
 use Rattle.rules.specs.Register.{Account, Register, accountLines, sound, ofLines, register, registerOf}
 use Rattle.rules.specs.Verdict.{credited, returned, Cause, wrongShape, wrongControl, outOfBounds, found, noAccount, accountAt, shaped, inBounds, judged, verdict}
 use Rattle.laws.specs.Tests.{and-left}
-use Rattle.engine_laws.specs.Facts.{equal-true, There, there, Came, came, gave, some-is}
+use Rattle.rule_laws.specs.Options.{There, there, Came, came, gave, some-is}
+use Rattle.engine_laws.specs.Facts.{equal-true}
 use Rattle.balance_laws.specs.Texts.{no-some}
 
 lines-sound : (ls : List Line) (r : Register) → ofLines ls ≡ some r → sound r ≡ true

@@ -9,7 +9,7 @@ use native.Mathlib.Omega.{arith}
 use Rattle.rules.specs.Text.{ordered}
 use Rattle.rules.specs.Engine.{Position, earlier, alike, raised, booked}
 use Rattle.rules.specs.Ledger.{entered}
-use Rattle.laws.specs.Keys.{before-trans, same-keys, behind-other, Place, Place.same, Place.ahead, Place.behind, place}
+use Rattle.rule_laws.specs.Keys.{before-trans, same-keys, behind-other, Place, Place.same, Place.ahead, Place.behind, place}
 use Rattle.engine_laws.specs.Facts.{never}
 use Rattle.engine_laws.specs.Layout.{All, All.none, All.more}
 use Rattle.engine_laws.specs.Order.{Sorted, Sorted.empty, Sorted.next, ordered-sorted}

@@ -16,7 +16,7 @@ use Rattle.rules.specs.Lines.{Line, Taken, line, lead, closing, type, sender, b
 use Rattle.rules.specs.Forms.{Row, Rowed, nothing, account, fitsRest, fitsRow, leadRows, rowed, transferRows, orderRows, detailRows}
 use Rattle.rules.specs.Messages.{Message, mt103, mt101, Transfer, Order, Detail, lineOf, detailOf, detailed, details, readTransfer, readOrder, read, transferOf}
 use Rattle.laws.specs.Tests.{and-left, and-right, between-high}
-use Rattle.engine_laws.specs.Facts.{Came, came, gave, some-is}
+use Rattle.rule_laws.specs.Options.{Came, came, gave, some-is}
 use Rattle.engine_laws.specs.Layout.{All, All.none, All.more}
 use Rattle.laws.specs.Every.{every-take, every-drop}
 use Rattle.balance_laws.specs.Texts.{no-some, inLine}

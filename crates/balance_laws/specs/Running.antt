@@ -17,7 +17,8 @@ use Rattle.rules.specs.Calls.{bankOf, added, afterMessage, afterTurn as laterEn
 use Rattle.rules.specs.Area.{Result, cardMessage, cardTurn, holds}
 use Rattle.rules.specs.Ledger.{Fed, message, turn, Event, fedWith, enteredBy, ledgerFrom, isTurn, afterTurn, listed, messageOf, accepted, sumOf}
 use Rattle.rules.specs.Demand3.{result}
-use Rattle.engine_laws.specs.Facts.{never, some-is}
+use Rattle.rule_laws.specs.Options.{some-is}
+use Rattle.engine_laws.specs.Facts.{never}
 use Rattle.engine_laws.specs.Layout.{All, All.none, All.more}
 use Rattle.engine_laws.specs.Limits.{Limits, limits}
 use Rattle.engine_laws.specs.Held.{held}

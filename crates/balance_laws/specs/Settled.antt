@@ -7,7 +7,7 @@ use Rattle.rules.specs.Messages.{Message, transferredBy, detailedBy}
 use Rattle.rules.specs.Engine.{Position, raised, kept}
 use Rattle.rules.specs.Calls.{bankOf, added}
 use Rattle.rules.specs.Ledger.{entered, transferredOf, detailedOf}
-use Rattle.laws.specs.Keys.{same-keys}
+use Rattle.rule_laws.specs.Keys.{same-keys}
 use Rattle.balance_laws.specs.Kinds.{mine}
 use Rattle.balance_laws.specs.Tally.{Measure, tally, Same, only, ofBank, transfers, details, transferred-tally, detailed-tally}
 use Rattle.balance_laws.specs.Booking.{total-entered}

@@ -11,6 +11,7 @@ use borrow.Author.Tests.{not-true}
 use Rattle.rules.specs.Text.{every}
 use Rattle.rules.specs.Lines.{Line, lines, begun, before}
 use Rattle.laws.specs.Tests.{and-left, and-right, cond-right}
+use Rattle.rule_laws.specs.Lines.{some-line}
 use Rattle.engine_laws.specs.Facts.{cond-left}
 
 -- ---- lines
@@ -36,21 +37,6 @@ unfolding every lines
 lines-line [] h = refl
 lines-line (c ∷ cs) h =
     lines-byte c (cs ++ 13 ∷ 10 ∷ []) cs [] (cond-left (inLine c) (every inLine cs) h) (lines-line cs (cond-right (inLine c) (every inLine cs) h))
-
--- a text that is not empty has a line
-some-line : (c : ℕ) (cs : List ℕ) → lines (c ∷ cs) ≡ some [] → ⊥
-unfolding lines
-some-line c [] h = let z : _≡_ {A = ℕ} 0 1 = cc in omega arith
-some-line c (d ∷ cs) h = go (eqb c 13) (eqb d 10) (eqb c 10) (lines cs) (lines (d ∷ cs)) h
-  where
-    go : (x y z : Bool) (o q : Option (List Line)) → cond x (cond y (Option·map (before []) o) none) (cond z none (Option·map (begun c) q)) ≡ some [] → ⊥
-    go true true z none q h = let z : _≡_ {A = ℕ} 0 1 = cc in omega arith
-    go true true z (some ls) q h = let z : _≡_ {A = ℕ} 0 1 = cc in omega arith
-    go true false z o q h = let z : _≡_ {A = ℕ} 0 1 = cc in omega arith
-    go false y true o q h = let z : _≡_ {A = ℕ} 0 1 = cc in omega arith
-    go false y false o none h = let z : _≡_ {A = ℕ} 0 1 = cc in omega arith
-    go false y false o (some []) h = let z : _≡_ {A = ℕ} 0 1 = cc in omega arith
-    go false y false o (some (l ∷ ls)) h = let z : _≡_ {A = ℕ} 0 1 = cc in omega arith
 
 -- one text behind the other
 pub lines-join : (a b : List ℕ) (ls ms : List Line) → lines a ≡ some ls → lines b ≡ some ms → lines (a ++ b) ≡ some (ls ++ ms)

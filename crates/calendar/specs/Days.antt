@@ -81,23 +81,4 @@ module _ (s : List ℕ) (at : ℕ) (h : at + 6 ≤ length s) where
   unfolding date
   date-none r w l = rw (eq-eqb _ _ six, ← passed-none s at 6 r w l)
 
--- ---- for those who read dates: a date exists, and its number has six digits
-
-pub exists-small : (n : ℕ) → exists n ≡ true → n < 1000000
-unfolding exists
-exists-small n h = let y : n / 10000 ≤ 99 = leb-true (n / 10000) 99 (and-left _ _ (and-left _ _ h)) in omega arith
-
-pub date-exists : (cs : List ℕ) (n : ℕ) → date cs ≡ some n → exists n ≡ true
-unfolding date
-date-exists cs n h = told (eqb (length cs) 6) (digits cs) h
-  where
-    told : (t : Bool) (o : Option ℕ) → cond t (then o (λ m. given (exists m) m)) none ≡ some n → exists n ≡ true
-    told true (some m) g = go (exists m) refl g
-      where
-        go : (d : Bool) → exists m ≡ d → given d m ≡ some n → exists n ≡ true
-        go true d k = let l : m ≡ n = cc in rw (← l) d
-        go false d k = absurd (let z : _≡_ {A = ℕ} 0 1 = cc in omega arith)
-    told true none g = absurd (let z : _≡_ {A = ℕ} 0 1 = cc in omega arith)
-    told false o g = absurd (let z : _≡_ {A = ℕ} 0 1 = cc in omega arith)
-
 pub ruleset days = (row-leap, row-common, length-at, no-year, no-month, late-month, no-day, by-length, date-good, date-absent, date-none, passed-all)

@@ -13,7 +13,7 @@ use Rattle.rules.specs.Messages.{Message, mt103, mt101, Transfer, Order, sender
 use Rattle.rules.specs.Calls.{misdated, bankOf, keyOf}
 use Rattle.laws.specs.Parts.{cut, from, from-take, cut-length}
 use Rattle.laws.specs.Tests.{and-left, and-right}
-use Rattle.calendar.specs.Days.{exists-small}
+use Rattle.rule_laws.specs.Dates.{date-small}
 use Rattle.engine_laws.specs.Accepted.{Has}
 use Rattle.forms.specs.Spans.{spanOf, SpanIn}
 use Rattle.forms.specs.declared.rows.Span.{Span}
@@ -69,7 +69,7 @@ module _ (s : List ℕ) (m : Message) (h : Has s m) where
   bank-is = rw (h .sent) (ap number (sym (from-take s 4 8)))
 
   pub date-six : dateOf m < 1000000
-  date-six = exists-small (dateOf m) (h .date)
+  date-six = date-small (dateOf m) (h .date)
 
   module _ (p : Span) (w : SpanIn s p) (e : spanOf s p ≡ referenceOf m) where
     reference-run : run isText 1 16 (spanOf s p) ≡ true

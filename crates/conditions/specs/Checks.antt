@@ -28,6 +28,7 @@ use Rattle.forms.specs.Transfers.{TransferIn, transferHeld}
 use Rattle.forms.specs.declared.rows.Span.{Span}
 use Rattle.forms.specs.declared.rows.Rows.{Rows}
 use Rattle.forms.specs.declared.transfer.Transfer as T
+use Rattle.rule_laws.specs.Lines.{body-from}
 use Rattle.conditions.specs.Stops.{transferStop, transfer-stops}
 use Rattle.conditions.specs.Walk.{FieldsIn, heldFrom, alike, named-twice}
 use Rattle.conditions.specs.Lowest.{lowestAny}
@@ -108,10 +109,6 @@ pub record OrderChecked (s : List ℕ) (r : Checked) (amounts places : List ℕ)
 order-rows : part 0 1 ≡ orderRows
 unfolding part table
 order-rows = refl
-
-body-from : (s : List ℕ) → from s 23 ≡ body s
-unfolding from body
-body-from s = refl
 
 -- the conditions as the tally tells them
 all-stops : (temporary bank : List ℕ) (rows : List Line) (ds : List M.Detail) (n low : ℕ) (b t : Bool) → n ≡ length ds → low ≡ lowestAny bank (firstDate ds) ds → b ≡ slashed (field20 rows) → (length ds ≤ 16 → t ≡ twice alike ds)

@@ -9,7 +9,7 @@ use lib.ListN.{length, getD, take, drop, drop-of-length-le}
 use lib.Seq.{take-suc, drop-cons}
 use Rattle.rules.specs.Text.{any}
 use Rattle.rules.specs.Engine.{Key, Position, keyBefore, sameKey, positionOf, isOpen, booked}
-use Rattle.laws.specs.Keys.{test-before, before-other, before-first, same-keys, gives-way}
+use Rattle.rule_laws.specs.Keys.{test-before, before-other, before-first, same-keys, gives-way}
 use Rattle.laws.specs.Sections.{inserted, replaced}
 use Rattle.laws.specs.Tests.{never}
 use Rattle.engine_laws.specs.Order.{Sorted, Sorted.empty, Sorted.next}

@@ -14,7 +14,7 @@ use Rattle.laws.specs.Laid.{laid}
 use Rattle.laws.specs.Writing.{Wrote}
 use Rattle.laws.specs.Sections.{Each, Each.no-record, Each.and-record, each-map}
 use Rattle.laws.specs.Standing.{Stands}
-use Rattle.engine_laws.specs.Facts.{There, there}
+use Rattle.rule_laws.specs.Options.{There, there}
 use Rattle.engine_laws.specs.Limits.{limits}
 use Rattle.engine_laws.specs.Layout.{Kept, All, All.none, All.more}
 use Rattle.engine_laws.specs.Held.{Held, held, references-kept}
@@ -44,10 +44,6 @@ kept-each write reads (more k s) = and-record (k .wide) (kept-each write reads s
 module _ {area : List ℕ} {e : Engine} (h : Held area e) where
   pub references-each : Each recordSize (map referenceRecord (e .references))
   references-each = kept-each referenceRecord referenceIn (references-kept (e .references) (limits e (h .good) .forms))
-
-  pub references-section : Stands (header e) (section referencesRoom referenceRecord (e .references)) (positionPart (e .positions) ++ (textPart (textsOf e) ++ drop areaSize area)) referencesPlace area
-  unfolding referencePart
-  references-section = references-stand (held-sections area e h)
 
   pub positions-section : Stands (header e ++ referencePart (e .references)) (section positionsRoom positionRecord (e .positions)) (textPart (textsOf e) ++ drop areaSize area) positionsPlace area
   unfolding positionPart

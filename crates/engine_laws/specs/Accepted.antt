@@ -20,20 +20,9 @@ use Rattle.rules.specs.Engine.{isBank}
 use Rattle.laws.specs.Numbers.{bic-number, bic-small}
 use Rattle.laws.specs.Parts.{cut, from, from-take}
 use Rattle.laws.specs.Tests.{and-right, cond-right}
-use Rattle.engine_laws.specs.Facts.{never, cond-left, cond-both, Came, came, Gave, gave, some-is}
-
--- ---- a date that is read exists
-
-pub date-exists : (cs : List ℕ) (d : ℕ) → date cs ≡ some d → exists d ≡ true
-unfolding date
-date-exists cs d h = go (eqb (length cs) 6) h
-  where
-    go : (t : Bool) → cond t (then (digits cs) (λ n. given (exists n) n)) none ≡ some d → exists d ≡ true
-    go true k =
-        let x : Came (digits cs) (λ n. given (exists n) n) d = came _ _ k in
-        let g : Gave (exists (x .value)) (x .value) d = gave _ _ (x .gives) in
-        rw (g .is) at (g .test)
-    go false k = absurd (let z : _≡_ {A = ℕ} 0 1 = cc in omega arith)
+use Rattle.rule_laws.specs.Dates.{date-exists}
+use Rattle.rule_laws.specs.Options.{Came, came, Gave, gave, some-is}
+use Rattle.engine_laws.specs.Facts.{never, cond-left, cond-both}
 
 -- ---- the first row of a form, which no message leaves out
 

@@ -18,7 +18,7 @@ use Rattle.rules.specs.Calls.{Answer, firstOf, openStops, opened, acceptedOpeni
 use Rattle.rules.specs.Area.{encode, holds, Result, stored, onAreas, cardOpen, cardMessage, cardTurn, areaSize}
 use Rattle.rule_laws.specs.Conditions.{answered-accepted, answered-zero}
 use Rattle.rule_laws.specs.Clear.{OpenClear, open-clear, Clear, clear, message-engine, message-read, TurnClear, turn-clear, turn-engine}
-use Rattle.engine_laws.specs.Facts.{There, there}
+use Rattle.rule_laws.specs.Options.{There, there}
 use Rattle.engine_laws.specs.Held.{encode-length, holds-encode, held}
 use Rattle.engine_laws.specs.Keeps.{opened-within, message-within, turn-within}
 
@@ -42,10 +42,6 @@ pub record Stays (r : Result) (old out : List ℕ) : Type 0 where
 -- the next engine is what the area then holds
 pub done-holds : {r : Result} {area out text : List ℕ} {d : ℤ} {next : Engine} → Done r area out text d next → holds (r .area) ≡ some next
 done-holds {area = area} {next = next} w = rw (w .area) (holds-encode next (w .good) (drop areaSize area))
-
--- "those behind are not touched", and the area is as long as it was
-pub done-behind : {r : Result} {area out text : List ℕ} {d : ℤ} {next : Engine} → Done r area out text d next → drop areaSize (r .area) ≡ drop areaSize area
-done-behind {area = area} {next = next} w = rw (w .area) (drop-at (encode next) (drop areaSize area) areaSize (encode-length next (w .good)))
 
 pub done-length : {r : Result} {area out text : List ℕ} {d : ℤ} {next : Engine} → Done r area out text d next → areaSize ≤ length area → length (r .area) ≡ length area
 done-length {area = area} {next = next} w h = rw (w .area, length-append, encode-length next (w .good), length-drop) (omega arith)
@@ -94,10 +90,6 @@ module _ (text : List ℕ) (day : ℕ) (area : List ℕ) where
         long = open-clear (length area) text day k .long;
         done = rw (answered-accepted _ (holds area) (acceptedOpening text day) k) (on-done [] (pos 0) (opened text day) area [] (opened-within (length area) text day k));
       }
-
-  pub open-refused : (cardOpen text day area .number ≡ 0 → ⊥) → Stays (cardOpen text day area) area []
-  unfolding cardOpen
-  open-refused h = on-stays _ area [] h
 
 -- ---- message
 

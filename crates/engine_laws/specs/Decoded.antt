@@ -9,7 +9,7 @@ use lib.ListN.{length, drop}
 use borrow.Author.Tests.{leb-true}
 use Rattle.rules.specs.Text.{isSome}
 use Rattle.rules.specs.Area.{numberAt, lengthAt, positionIn, referenceIn, decode, holds, areaSize, positionsPlace, manyPositionsPlace, manyReferencesPlace, referencesPlace}
-use Rattle.engine_laws.specs.Facts.{There, there}
+use Rattle.rule_laws.specs.Options.{There, there}
 use Rattle.engine_laws.specs.Limits.{Limits, limits}
 use Rattle.engine_laws.specs.Several.{TextRoom, text-in}
 use Rattle.engine_laws.specs.Held.{Held, held, texts-count}

@@ -1,13 +1,12 @@
--- What a test that holds tells of its parts, and what an option that is there tells of how it was made. Assumes nothing.
+-- What a test that holds tells of its parts. Assumes nothing.
 use mathlib.Core.Path.{_≡_, refl, sym}
 use mathlib.Core.Bool.{Bool, true, false, _&&_, _||_, cond}
 use mathlib.Core.List.{List, [], _∷_}
-use mathlib.Core.Option.{Option, none, some}
-use Prim.Native.Nat.{ℕ, suc}
+use Prim.Native.Nat.{ℕ}
 use native.Mathlib.Omega.{arith}
 use lib.Dec.{eqb}
 use borrow.Author.Tests.{eq-eqb}
-use Rattle.rules.specs.Text.{equal, then, given, isSome}
+use Rattle.rules.specs.Text.{equal}
 pub use Rattle.laws.specs.Equal.{equal-true}
 pub use Rattle.laws.specs.Tests.{cond-left}
 
@@ -55,39 +54,3 @@ pub equal-same : (a : List ℕ) → equal a a ≡ true
 unfolding equal
 equal-same [] = refl
 equal-same (c ∷ cs) = cond-both (eqb c c) (equal cs cs) (eq-eqb c c refl) (equal-same cs)
-
--- ---- options
-
-pub isSome-is : {A : Type 0} (x : Option A) (a : A) → x ≡ some a → isSome x ≡ true
-isSome-is x a h = rw h
-
--- there is one
-pub record There {A : Type 0} (x : Option A) : Type 0 where
-  pub value : A
-  pub is : x ≡ some value
-
-pub there : {A : Type 0} (x : Option A) → isSome x ≡ true → There x
-there none h = never (sym h)
-there (some a) h = record { value = a; is = refl }
-
-pub some-is : {A : Type 0} {a b : A} → some a ≡ some b → a ≡ b
-some-is h = cc
-
--- what came of x by f came of a value that is there
-pub record Came {A B : Type 0} (x : Option A) (f : A → Option B) (b : B) : Type 0 where
-  pub value : A
-  pub is : x ≡ some value
-  pub gives : f value ≡ some b
-
-pub came : {A B : Type 0} {b : B} (x : Option A) (f : A → Option B) → then x f ≡ some b → Came x f b
-came none f h = absurd (let z : _≡_ {A = ℕ} 0 1 = cc in omega arith)
-came (some a) f h = record { value = a; is = refl; gives = h }
-
--- a value that is given passed its test
-pub record Gave {A : Type 0} (t : Bool) (a b : A) : Type 0 where
-  pub test : t ≡ true
-  pub is : a ≡ b
-
-pub gave : {A : Type 0} {b : A} (t : Bool) (a : A) → given t a ≡ some b → Gave t a b
-gave true a h = record { test = refl; is = cc }
-gave false a h = absurd (let z : _≡_ {A = ℕ} 0 1 = cc in omega arith)

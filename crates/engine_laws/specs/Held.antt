@@ -15,9 +15,11 @@ use Rattle.rules.specs.Area.{zeros, padded, joined, referenceRecord, positionRe
 use Rattle.laws.specs.Digits.{places-length}
 use Rattle.laws.specs.Sections.{zeros-length, padded-length}
 use Rattle.laws.specs.Tests.{and-left, and-right, cond-right}
-use Rattle.engine_laws.specs.Facts.{cond-left, equal-true, equal-same, Gave, gave}
+use Rattle.rule_laws.specs.Options.{Gave, gave}
+use Rattle.rule_laws.specs.Dates.{date-small}
+use Rattle.engine_laws.specs.Facts.{cond-left, equal-true, equal-same}
 use Rattle.engine_laws.specs.Registers.{register-length}
-use Rattle.engine_laws.specs.Limits.{Limits, limits, date-small}
+use Rattle.engine_laws.specs.Limits.{Limits, limits}
 use Rattle.engine_laws.specs.Layout.{Kept, All, All.none, All.more, number-at, joined-length, records-back, position-kept, reference-kept}
 use Rattle.engine_laws.specs.Tests.{textCount}
 use Rattle.engine_laws.specs.Several.{Texts, lengths-length, text-back}

@@ -20,7 +20,8 @@ use Rattle.laws.specs.Parts.{cut}
 use Rattle.laws.specs.Sections.{Each, no-record, and-record, records-are}
 use Rattle.laws.specs.Standing.{Stands, stands-records}
 use Rattle.laws.specs.Tests.{and-left, and-right}
-use Rattle.engine_laws.specs.Facts.{and-both, equal-true, equal-same, isSome-is, either, There, there}
+use Rattle.rule_laws.specs.Options.{isSome-is, There, there}
+use Rattle.engine_laws.specs.Facts.{and-both, equal-true, equal-same, either}
 use Rattle.engine_laws.specs.Bytes.{Bytes}
 use Rattle.engine_laws.specs.Registers.{register-length}
 use Rattle.engine_laws.specs.Limits.{Limits, limits, limits-within}

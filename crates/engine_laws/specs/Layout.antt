@@ -15,8 +15,9 @@ use Rattle.laws.specs.Digits.{places-length}
 use Rattle.laws.specs.Numbers.{number-bytes}
 use Rattle.laws.specs.Sections.{padded-length}
 use Rattle.laws.specs.Tests.{and-left, and-right, cond-right, between-low, between-high}
+use Rattle.rule_laws.specs.Dates.{date-small}
 use Rattle.engine_laws.specs.Facts.{cond-left}
-use Rattle.engine_laws.specs.Limits.{date-small, bank-small}
+use Rattle.engine_laws.specs.Limits.{bank-small}
 
 -- ---- parts
 

@@ -41,11 +41,6 @@ pub limits-within : (e : Engine) → Limits e → within e ≡ true
 unfolding within
 limits-within e l = rw (l .register, l .day, le-leb _ _ (l .few), l .good, l .order, le-leb _ _ (l .today), l .forms, l .filed, le-leb _ _ (l .numbered))
 
--- an existing date has at most six digits
-pub date-small : (n : ℕ) → exists n ≡ true → n < 1000000
-unfolding exists
-date-small n h = let y : n / 10000 ≤ 99 = leb-true _ 99 (and-left _ _ (and-left _ _ h)) in omega arith
-
 -- a bank fits eight bytes
 pub bank-small : (n : ℕ) → isBank n ≡ true → n ≤ 18446744073709551615
 unfolding isBank

@@ -12,8 +12,8 @@ use Rattle.rules.specs.Dates.{exists}
 use Rattle.rules.specs.Engine.{Position, limit, earlier, alike, raised, positionOf, isOpen, booked, hasDetails, kept, isBank, goodPosition, goodPositions}
 use Rattle.rules.specs.Written.{corrected, correctedCount}
 use Rattle.laws.specs.Tests.{and-left, and-right, cond-right}
-use Rattle.laws.specs.Keys as K
-use Rattle.laws.specs.Keys.{before-trans, test-before, before-test, behind-other, Place, Place.same, Place.ahead, Place.behind, place}
+use Rattle.rule_laws.specs.Keys as K
+use Rattle.rule_laws.specs.Keys.{before-trans, test-before, before-test, behind-other, Place, Place.same, Place.ahead, Place.behind, place}
 use Rattle.engine_laws.specs.Facts.{never, cond-left, cond-both, or-left, or-right, any-neither}
 use Rattle.engine_laws.specs.Layout.{All, All.none, All.more}
 use Rattle.engine_laws.specs.Order.{Order, Sorted, Sorted.empty, Sorted.next, all-before}

@@ -15,11 +15,10 @@ use Rattle.rules.specs.Accounts.{isBic}
 use Rattle.rules.specs.Engine.{limit, isBank, goodReference, slashed}
 use Rattle.rules.specs.Area.{zeros, padded, numberAt, untilZero, referenceIn, keyIn, positionIn, referenceRecord, keyBytes, positionRecord, dateOffset, blockOffset, transferredOffset, detailedOffset, recordSize}
 use Rattle.laws.specs.Digits.{places-length}
-use Rattle.laws.specs.Numbers.{Within, bytes-number}
+use Rattle.laws.specs.Numbers.{Within, bytes-number, within-take, within-drop}
 use Rattle.laws.specs.Parts.{cut, from, cut-cut, cut-drop, cut-take, from-take}
 use Rattle.laws.specs.Tests.{and-left, and-right, cond-right}
 use Rattle.engine_laws.specs.Facts.{cond-left}
-use Rattle.engine_laws.specs.Bytes.{within-take, within-drop}
 use Rattle.engine_laws.specs.Layout.{part-at}
 use Rattle.engine_laws.specs.Positions.{Good}
 use Rattle.engine_laws.specs.Accepted.{bic-bank}

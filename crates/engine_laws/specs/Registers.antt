@@ -14,7 +14,7 @@ use Rattle.rules.specs.Lines.{Line, lines, begun, before}
 use Rattle.rules.specs.Register.{Account, Register, accountLine, accountLines, sound, ofLines, register}
 use Rattle.laws.specs.Reading.{fits-length}
 use Rattle.laws.specs.Tests.{and-left, and-right}
-use Rattle.engine_laws.specs.Facts.{Came, came, Gave, gave, There, there}
+use Rattle.rule_laws.specs.Options.{Came, came, Gave, gave, There, there}
 
 -- the bytes of some lines, each with its CR LF
 unfoldable pub linesLength : List Line → ℕ

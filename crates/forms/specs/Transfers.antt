@@ -11,6 +11,7 @@ use Rattle.rules.specs.Forms.{rowed, transferRows}
 use Rattle.rules.specs.Messages as M
 use Rattle.rules.specs.Messages.{Message, mt103, transferOf, readTransfer}
 use Rattle.laws.specs.Parts.{from}
+use Rattle.rule_laws.specs.Lines.{body-from}
 use Rattle.forms.specs.Table.{table, part}
 use Rattle.forms.specs.Spans.{Within, within-at, held, held-line}
 use Rattle.forms.specs.Rows.{RowsAt}
@@ -34,10 +35,6 @@ pub record TransferIn (s : List ℕ) (r : Transfer) : Type 0 where
 transfer-rows : part 0 23 ≡ transferRows
 unfolding part table
 transfer-rows = refl
-
-body-from : (s : List ℕ) → from s 23 ≡ body s
-unfolding from body
-body-from s = refl
 
 never : {A B : Type 0} (f : A → B) (o : Option A) → none ≡ then o (λ a. given false (f a))
 never f none = refl

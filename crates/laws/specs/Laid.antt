@@ -17,10 +17,6 @@ laid (b ∷ bs) at out = laid bs (suc at) (set out at b)
 
 -- ---- one text
 
-pub laid-byte : (b at : ℕ) (out : List ℕ) → laid (b ∷ []) at out ≡ set out at b
-unfolding laid
-laid-byte b at out = refl
-
 pub laid-length : (bs : List ℕ) (at : ℕ) (out : List ℕ) → length (laid bs at out) ≡ length out
 unfolding laid
 laid-length [] at out = refl
@@ -130,10 +126,3 @@ unfolding laid
 laid-drop [] at n out h = refl
 laid-drop (x ∷ s) at n out h =
     laid-drop s (suc at) n (set out at x) (omega (arith, suc-add at (length s), add-suc at (length s))) ∙ drop-set-lt n out at x (omega arith)
-
--- what stands at a place already, laid there again
-pub laid-again : (out : List ℕ) (at n : ℕ) → at + n ≤ length out → laid (take n (drop at out)) at out ≡ out
-laid-again out at n h =
-    let m : length (take n (drop at out)) ≡ n = length-take-le n (drop at out) (rw length-drop (omega arith)) in
-    laid-fits (take n (drop at out)) at out (rw m h)
-    ∙ rw (m, append-assoc, ← (drop-drop n at out), take-append-drop n (drop at out)) (take-append-drop at out)

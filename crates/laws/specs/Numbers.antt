@@ -14,7 +14,7 @@ use borrow.Author.Tests.{le-leb, eqb-true}
 use Rattle.rules.specs.Text.{ascii, isDigit, isLetter, isAlnum, fits, fitsSign, places, width, fixed, bytes, decimal, digits, digitsFrom, number, numberFrom}
 use Rattle.rules.specs.Accounts.{isBic}
 use Rattle.laws.specs.Parts.{cut, cut-length}
-use Rattle.laws.specs.Tests.{between-high, cond-right}
+use Rattle.laws.specs.Tests.{between-high, cond-right, cond-left}
 use Rattle.laws.specs.Digits.{width-power}
 use Rattle.laws.specs.Reading.{digit-low, digit-high, fits-length}
 
@@ -121,12 +121,6 @@ digits-fixed k v h =
 pub digits-decimal : (v : ℕ) → v < 10 ^ 20 → digits (decimal v) ≡ some v
 digits-decimal v h = digits-fixed (width 19 v) v (width-power 19 v h)
 
-pub fixed-digits : (cs : List ℕ) (v : ℕ) → digits cs ≡ some v → fixed (length cs) v ≡ cs
-fixed-digits cs v h =
-    let s : Within 10 48 cs = digits-within cs 0 v h in
-    let e : some v ≡ some (valueFrom 10 48 0 cs) = sym h ∙ digits-value 0 s in
-    let f : v ≡ valueFrom 10 48 0 cs = cc in rw f (places-value 0 s)
-
 pub digits-small : (cs : List ℕ) (n : ℕ) → digits cs ≡ some n → n < 10 ^ length cs
 digits-small cs n h =
     let s : Within 10 48 cs = digits-within cs 0 n h in
@@ -137,12 +131,12 @@ digits-small cs n h =
 
 -- ---- parts, and banks
 
-within-take : {base null : ℕ} {cs : List ℕ} (k : ℕ) → Within base null cs → Within base null (take k cs)
+pub within-take : {base null : ℕ} {cs : List ℕ} (k : ℕ) → Within base null cs → Within base null (take k cs)
 within-take zero s = no-place
 within-take (suc k) no-place = no-place
 within-take (suc k) (and-place h l s) = and-place h l (within-take k s)
 
-within-drop : {base null : ℕ} {cs : List ℕ} (k : ℕ) → Within base null cs → Within base null (drop k cs)
+pub within-drop : {base null : ℕ} {cs : List ℕ} (k : ℕ) → Within base null cs → Within base null (drop k cs)
 within-drop zero s = s
 within-drop (suc k) no-place = no-place
 within-drop (suc k) (and-place h l s) = within-drop k s
@@ -150,10 +144,6 @@ within-drop (suc k) (and-place h l s) = within-drop k s
 pub within-cut : {base null : ℕ} {cs : List ℕ} (a b : ℕ) → Within base null cs → Within base null (cut cs a b)
 unfolding cut
 within-cut a b s = within-drop a (within-take b s)
-
--- a part of a slice is the bytes of its number
-pub bytes-cut : (s : List ℕ) (a b : ℕ) → ((i : ℕ) → getD s i 0 < 256) → b ≤ length s → bytes (b - a) (number (cut s a b)) ≡ cut s a b
-bytes-cut s a b h k = rw (← cut-length s a b k) (bytes-number (within-cut a b (bytes-within s h)))
 
 -- what fits a pattern of bytes is bytes
 sign-within : (p c : ℕ) → p < 256 → fitsSign p c ≡ true → c < 256
@@ -170,16 +160,12 @@ sign-within p c l h = go (eqb p 110) (eqb p 97) (eqb p 99) h
         alnum false f e = omega (arith, between-high 65 90 c e)
     go false false false e = omega (arith, eqb-true p c e)
 
-cond-true : (a b : Bool) → cond a b false ≡ true → a ≡ true
-cond-true true b h = refl
-cond-true false b h = h
-
 pub fits-within : {ps : List ℕ} (cs : List ℕ) → Within 256 0 ps → fits ps cs ≡ true → Within 256 0 cs
 unfolding fits
 fits-within [] s h = no-place
 fits-within (c ∷ cs) no-place h = absurd (let z : _≡_ {A = ℕ} 0 1 = cc in omega arith)
 fits-within (c ∷ cs) (and-place {c = p} {cs = ps} k l s) h =
-    let f : fitsSign p c ≡ true = cond-true (fitsSign p c) (fits ps cs) h in
+    let f : fitsSign p c ≡ true = cond-left (fitsSign p c) (fits ps cs) h in
     and-place {c = c} (omega arith) (omega (arith, sign-within p c (omega arith) f)) (fits-within cs s (cond-right (fitsSign p c) (fits ps cs) h))
 
 -- a BIC is the bytes of its number

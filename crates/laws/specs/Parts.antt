@@ -87,10 +87,6 @@ module _ (s : List ℕ) (a : ℕ) where
   unfolding from
   from-length = length-drop a s
 
-  pub from-get : (k : ℕ) → getD (from s a) k 0 ≡ getD s (a + k) 0
-  unfolding from
-  from-get k = getD-drop a s k 0
-
   pub from-take : (k : ℕ) → take k (from s a) ≡ cut s a (a + k)
   unfolding from cut
   from-take k = take-of-drop k a s

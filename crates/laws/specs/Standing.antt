@@ -33,9 +33,6 @@ module _ {p x q : List ℕ} {base : ℕ} {area : List ℕ} (t : Stands p x q bas
   pub stands-from : (j : ℕ) → drop (base + j) area ≡ drop j (x ++ q)
   stands-from j = ap (λ (l : List ℕ). drop (base + j) l) (t .whole) ∙ rw (← t .before, drop-append-add p (x ++ q) j)
 
-  pub stands-part : take (length x) (drop base area) ≡ x
-  stands-part = ap (λ (n : ℕ). take (length x) (drop n area)) (sym (add-zero base)) ∙ rw (stands-from 0) (take-at x q (length x) refl)
-
   -- a text written within it
   pub stands-laid : (r : List ℕ) (j : ℕ) → j + length r ≤ length x → Stands p (laid r j x) q base (laid r (base + j) area)
   stands-laid r j h = record {

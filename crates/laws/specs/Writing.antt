@@ -45,11 +45,6 @@ pub ahead-ahead : (at n k : ℕ) → ahead (ahead at n) k ≡ ahead at (n + k)
 unfolding ahead
 ahead-ahead at n k = omega arith
 
--- a place that is not the furthest is exact
-pub ahead-exact : (at n m : ℕ) → ahead at n ≤ m → m < furthest → ahead at n ≡ at + n
-unfolding ahead
-ahead-exact at n m h l = omega arith
-
 -- for what is laid there, a place is exact: the furthest is behind every output
 pub laid-ahead : (bs : List ℕ) (at n : ℕ) (out : List ℕ) → length out ≤ furthest → laid bs (ahead at n) out ≡ laid bs (at + n) out
 unfolding ahead
@@ -103,16 +98,6 @@ end-wrote v w = wrote-then v w
 -- a part told by its length
 pub part-wrote : (s : List ℕ) (a b : ℕ) {out out' : List ℕ} {at r : ℕ} → a ≤ b → Wrote (cut s a (a + (b - a))) at out r out' → Wrote (cut s a b) at out r out'
 part-wrote s a b h w = let e : a + (b - a) ≡ b = omega arith in rw e at w
-
--- a text was written from the first place on, perhaps over nothing: against a room of m bytes its end tells its length
-module _ {text out out' : List ℕ} {r : ℕ} (w : Wrote text 0 out r out') (m : ℕ) where
-  pub measured-long : m < r → m < length text
-  unfolding ahead
-  measured-long h = omega (arith, w .cursor)
-
-  pub measured-fits : r ≤ m → m < furthest → r ≡ length text
-  unfolding ahead
-  measured-fits h l = omega (arith, w .cursor)
 
 -- where it fits, the output is the text and what stood behind it
 pub wrote-over : {text out out' : List ℕ} {r : ℕ} → Wrote text 0 out r out' → length text ≤ length out → out' ≡ over text out

@@ -17,6 +17,7 @@ use Rattle.rules.specs.Lines.{Line, Taken, lead, line, lines, begun, before, cl
 use Rattle.laws.specs.Parts.{cut, from, cut-done, cut-snoc, cut-all, from-step, from-done, from-length, from-cut, from-all}
 use Rattle.laws.specs.Equal.{equal-true}
 use Rattle.laws.specs.Tests.{not-held, never, and-left, and-right}
+use Rattle.rule_laws.specs.Lines.{begun-before}
 use Rattle.lines.specs.Answers.{taken, LineEnd, NoLine, Plain}
 
 -- ---- bytes before a line
@@ -128,10 +129,6 @@ plain-bad s at n k p h e c = line-lf s at (at + k) _ (p .same) h c (p .stop (ome
 
 abbrev linesOf : Option Taken → Option (List Line)
 linesOf o = then o (λ t. Option·map (before (t .line)) (lines (t .others)))
-
-begun-before : (c : ℕ) (l : Line) (o : Option (List Line)) → Option·map (begun c) (Option·map (before l) o) ≡ Option·map (before (c ∷ l)) o
-begun-before c l none = refl
-begun-before c l (some ls) = refl
 
 lines-lead : (c : ℕ) (o : Option Taken) → Option·map (begun c) (linesOf o) ≡ linesOf (lead (c ∷ []) o)
 unfolding lead

@@ -21,7 +21,3 @@ stepped o = record { day = o .day; count = o .count + 1 }
 pub record Steps (was : Outgoing) (r : Reference) (is : Outgoing) : Type 0 where
   pub reference : r ≡ issued was
   pub kept : is ≡ stepped was
-
--- it is the reference that the paper writes
-pub issued-text : (o : Outgoing) → referenceText (issued o) ≡ reference (o .day) (o .count + 1)
-issued-text o = refl

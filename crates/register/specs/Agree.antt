@@ -16,7 +16,8 @@ use Rattle.rules.specs.Register.{Account, Register, accountLine, accountLines, 
 use Rattle.laws.specs.Parts.{cut, cut-take, cut-drop, cut-size, from, from-done, from-all, from-length}
 use Rattle.laws.specs.Tests.{and-left, and-right, cond-left, cond-right, never}
 use Rattle.laws.specs.Reading.{fits-length}
-use Rattle.register.specs.Blocks.{crlf, inside, some-line, line-at, Stands, stands}
+use Rattle.rule_laws.specs.Lines.{some-line}
+use Rattle.register.specs.Blocks.{crlf, inside, line-at, Stands, stands}
 use Rattle.register.specs.Places.{counted, upto, place, formAt, endsAt, boundAt, ibanIn, accountIn, lineIn, count, ibansIn, accountsIn, linesIn, firstIn, againIn, lengthIn, passesIn, registerIn}
 use Rattle.register.specs.AccountLine.{accountForm, accountOn, lineOn, account-line}
 

@@ -12,6 +12,7 @@ use borrow.Author.Tests.{eqb-true, ne-eqb}
 use Rattle.rules.specs.Text.{ascii, every, fits, fitsSign}
 use Rattle.rules.specs.Lines.{Line, begun, before, lines}
 use Rattle.laws.specs.Parts.{cut, from, from-take, from-drop}
+use Rattle.rule_laws.specs.Lines.{begun-before, some-line}
 use Rattle.laws.specs.Tests.{cond-left, cond-right, never}
 
 -- a sign that neither CR nor LF fits
@@ -35,11 +36,6 @@ module _ (p c : ℕ) (i : inside p ≡ true) (f : fitsSign p c ≡ true) where
       go : (b : Bool) → not (b || true) ≡ true → ⊥
       go true h = never h
       go false h = never h
-
--- a byte before a line that is before others
-begun-before : (c : ℕ) (l : Line) (o : Option (List Line)) → Option·map (begun c) (Option·map (before l) o) ≡ Option·map (before (c ∷ l)) o
-begun-before c l none = refl
-begun-before c l (some ls) = refl
 
 -- the bytes that fit are a line, and the other lines stand behind it
 fits-line : (p t : List ℕ) → every inside p ≡ true → fits p (take (length p) t) ≡ true → fits crlf (take 2 (drop (length p) t)) ≡ true
@@ -65,21 +61,6 @@ fits-line (x ∷ p) (c ∷ d ∷ cs) i f g =
 data Cut (c d : ℕ) (cs : List ℕ) : List Line → Type 0 where
   ends : {ls : List Line} → c ≡ 13 → d ≡ 10 → Cut c d cs ([] ∷ ls)
   goes : {l : Line} {ls : List Line} → lines (d ∷ cs) ≡ some (l ∷ ls) → Cut c d cs ((c ∷ l) ∷ ls)
-
--- a text that is not empty has a line
-pub some-line : (d : ℕ) (cs : List ℕ) → lines (d ∷ cs) ≡ some [] → ⊥
-unfolding lines
-some-line d [] h = let z : _≡_ {A = ℕ} 0 1 = cc in omega arith
-some-line d (e ∷ cs) h = go (eqb d 13) (eqb e 10) (eqb d 10) (lines cs) (lines (e ∷ cs)) h
-  where
-    go : (p q r : Bool) (o u : Option (List Line)) → cond p (cond q (Option·map (before []) o) none) (cond r none (Option·map (begun d) u)) ≡ some [] → ⊥
-    go true true r none u h = let z : _≡_ {A = ℕ} 0 1 = cc in omega arith
-    go true true r (some ls) u h = let z : _≡_ {A = ℕ} 0 1 = cc in omega arith
-    go true false r o u h = let z : _≡_ {A = ℕ} 0 1 = cc in omega arith
-    go false q true o u h = let z : _≡_ {A = ℕ} 0 1 = cc in omega arith
-    go false q false o none h = let z : _≡_ {A = ℕ} 0 1 = cc in omega arith
-    go false q false o (some []) h = let z : _≡_ {A = ℕ} 0 1 = cc in omega arith
-    go false q false o (some (l ∷ ls)) h = let z : _≡_ {A = ℕ} 0 1 = cc in omega arith
 
 cut-of : (c d : ℕ) (cs : List ℕ) (ks : List Line) → lines (c ∷ d ∷ cs) ≡ some ks → Cut c d cs ks
 unfolding lines

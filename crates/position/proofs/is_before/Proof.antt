@@ -1,6 +1,6 @@
 -- `position::is_before` meets its contract: banks decide, and dates where the banks are equal. Assumes nothing.
 use borrow.Author.Needs.{needs}
-use Rattle.laws.specs.Keys.{keys}
+use Rattle.rule_laws.specs.Keys.{keys}
 use Rattle.position.proofs.is_before.Statement.{statement}
 use Rattle.position.proofs.is_before.Tie as tie
 

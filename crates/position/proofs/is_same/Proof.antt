@@ -1,6 +1,6 @@
 -- `position::is_same` meets its contract: dates decide where the banks are equal. Assumes nothing.
 use borrow.Author.Needs.{needs}
-use Rattle.laws.specs.Keys.{keys, same-bank}
+use Rattle.rule_laws.specs.Keys.{keys, same-bank}
 use Rattle.position.proofs.is_same.Statement.{statement}
 use Rattle.position.proofs.is_same.Tie as tie
 
