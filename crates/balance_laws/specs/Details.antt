@@ -13,8 +13,8 @@ use Rattle.rules.specs.Text.{ascii, every, run, equal, fits}
 use Rattle.rules.specs.Dates.{date}
 use Rattle.rules.specs.Amounts.{amount}
 use Rattle.rules.specs.Lines.{Line, Taken, line, lead, closing, type, sender, body}
-use Rattle.rules.specs.Forms.{Row, Rowed, nothing, account, fitsRest, fitsRow, leadRows, rowed, transferRows, orderRows, detailRows}
-use Rattle.rules.specs.Messages.{Message, mt103, mt101, Transfer, Order, Detail, lineOf, detailOf, detailed, details, readTransfer, readOrder, read, transferOf}
+use Rattle.rules.specs.Forms.{Row, Rowed, nothing, account, fitsRest, fitsRow, leadRows, rowed, transferRows, orderRows, detailRows, detail52D, detail59, detailBaeref}
+use Rattle.rules.specs.Messages.{Message, mt103, mt101, Transfer, Order, Detail, lineOf, amount32B, dateCentrb, dateBaeref, detailOf, detailed, details, readTransfer, readOrder, read, transferOf}
 use Rattle.laws.specs.Tests.{and-left, and-right, between-high}
 use Rattle.rule_laws.specs.Options.{Came, came, gave, some-is}
 use Rattle.engine_laws.specs.Layout.{All, All.none, All.more}
@@ -55,7 +55,7 @@ unfolding rowed leadRows
 rowed-rows [] cs x h = let q : record { rows = []; others = cs } ≡ x = cc in rw (← q) end
 rowed-rows (r ∷ rs) cs x h =
     let t : Came (line cs) _ x = came _ _ h in
-    go (t .value .line) (rowed rs (t .value .others)) (rowed rs cs) (fitsRow r (t .value .line)) (r .may) refl (line-plain cs (t .value) (t .is))
+    go (t .value .line) (rowed rs (t .value .others)) (rowed rs cs) (fitsRow r (t .value .line)) (r .optional) refl (line-plain cs (t .value) (t .is))
     (rowed-rows rs (t .value .others)) (rowed-rows rs cs) (t .gives)
   where
     go : (l : Line) (o u : Option Rowed) (b c : Bool) → fitsRow r l ≡ b → every inLine l ≡ true → ((y : Rowed) → o ≡ some y → Rows rs (y .rows)) → ((y : Rowed) → u ≡ some y → Rows rs (y .rows))
@@ -94,19 +94,19 @@ short-rest n {r} {l} f s = record { plain = every-drop inLine (length (r .head))
 detail-sent : (ls : List Line) (d : Detail) → Rows detailRows ls → detailOf ls ≡ some d → Sent d
 unfolding detailOf fitsRest run
 detail-sent ls d s h =
-    let a : Came (amount (drop 8 (lineOf ls 1))) _ d = came _ _ h in
-    let b : Came (date (take 6 (drop 10 (lineOf ls 13)))) _ d = came _ _ (a .gives) in
-    let c : Came (date (take 6 (drop 6 (lineOf ls 14)))) _ d = came _ _ (b .gives) in
+    let a : Came (amount (amount32B ls)) _ d = came _ _ h in
+    let b : Came (date (dateCentrb ls)) _ d = came _ _ (a .gives) in
+    let c : Came (date (dateBaeref ls)) _ d = came _ _ (b .gives) in
     let e : record { rows = ls; date = b .value; amount = a .value } ≡ d = some-is (c .gives) in
     rw (← e) record {
-      code = short-part 8 5 (row-at none-row s 7 (lit< tt));
-      dated = short-part 6 6 (row-at none-row s 14 (lit< tt));
-      named = short-rest 12 (λ cs k. between-high 1 12 (length cs) (and-left _ _ k)) (row-at none-row s 14 (lit< tt));
-      account = short-rest 34 (λ cs k. between-high 1 34 (length cs) (and-left _ _ k)) (row-at none-row s 9 (lit< tt));
+      code = short-part 8 5 (row-at none-row s detail52D (lit< tt));
+      dated = short-part 6 6 (row-at none-row s detailBaeref (lit< tt));
+      named = short-rest 12 (λ cs k. between-high 1 12 (length cs) (and-left _ _ k)) (row-at none-row s detailBaeref (lit< tt));
+      account = short-rest 34 (λ cs k. between-high 1 34 (length cs) (and-left _ _ k)) (row-at none-row s detail59 (lit< tt));
     }
   where
     none-row : Row
-    none-row = record { head = []; rest = nothing; may = true }
+    none-row = record { head = []; rest = nothing; optional = true }
 
 -- "one or more details"
 pub record Listed (ds : List Detail) : Type 0 where

@@ -6,15 +6,15 @@ use mathlib.Core.Option.{Option, none, some}
 use Prim.Native.Nat.{ℕ, _≤_, _<_}
 use native.Mathlib.Omega.{arith}
 use lib.Dec.{leb}
-use lib.ListN.{length, getD, take, drop, length-take}
+use lib.ListN.{length, getD, take, length-take}
 use lib.Seq.{take-all}
 use borrow.Author.Tests.{leb-true}
 use Rattle.rules.specs.Text.{ascii, equal, number, then, twice}
 use Rattle.rules.specs.Lines.{Line, lines, inLines, opening, framed, type, sender, receiver, body}
-use Rattle.rules.specs.Forms.{rowed, orderRows}
+use Rattle.rules.specs.Forms.{rowed, orderRows, message20}
 use Rattle.rules.specs.Engine.{slashed}
 use Rattle.rules.specs.Messages as M
-use Rattle.rules.specs.Messages.{Message, mt103, mt101, field20, detailsOf, referenceOf, dateOf, firstDate, sumOf, readTransfer, readOrder, read}
+use Rattle.rules.specs.Messages.{Message, mt103, mt101, field20, detailsOf, referenceOf, dateOf, firstDate, sumOf, readTransfer, readOrder, read, past}
 use Rattle.rules.specs.Calls.{formStops, firstOf, addressed, inputStops}
 use Rattle.laws.specs.Parts.{cut, cut-all, from, from-take}
 use Rattle.laws.specs.Tests.{and-left, and-right, answer-is, answer-not}
@@ -50,8 +50,8 @@ formless : (temporary s : List ℕ) (o : Option Message) {amounts places : List 
 formless temporary s o e = record { number = rw e (sym (unread temporary)); parts = omega arith }
 
 -- field 20, behind its line's first four bytes
-field-20 : (s : List ℕ) (l : List Span) (n : ℕ) (q : Span) → 0 < n → SpanIn s (getD l 0 noSpan) → Behind (getD l 0 noSpan) 4 q → spanOf s q ≡ field20 (held s l n)
-field-20 s l n q h w b = rw (held-line s l n 0 h) (behind-bytes s _ 4 w q b)
+field-20 : (s : List ℕ) (l : List Span) (n : ℕ) (q : Span) → message20 < n → SpanIn s (getD l message20 noSpan) → Behind (getD l message20 noSpan) 4 q → spanOf s q ≡ field20 (held s l n)
+field-20 s l n q h w b = rw (held-line s l n message20 h) (behind-bytes s _ 4 w q b)
 
 -- ---- an MT103
 
@@ -81,11 +81,11 @@ module _ (s temporary : List ℕ) (t : T.Transfer) (w : TransferIn s t) where
       pub transfer-stopped : (k ≡ 0 → ⊥) → TransferChecked temporary s (Refused k)
       transfer-stopped z = record { with = λ amounts places. record { number = transfer-number; parts = omega arith } }
 
-      pub transfer-good : k ≡ 0 → (q : Span) → Behind (getD (t .spans) 0 noSpan) 4 q → (b : Booking)
+      pub transfer-good : k ≡ 0 → (q : Span) → Behind (getD (t .spans) message20 noSpan) 4 q → (b : Booking)
           → b ≡ bookingOf s true q (t .date) (t .amount) 0 → TransferChecked temporary s (Passed b)
       unfolding referenceOf detailsOf
       transfer-good z q d b e =
-          let f : SpanIn s (getD (t .spans) 0 noSpan) = within-at s (t .spans) 0 (w .within) in record {
+          let f : SpanIn s (getD (t .spans) message20 noSpan) = within-at s (t .spans) message20 (w .within) in record {
             with = λ amounts places. record {
               number = sym z ∙ transfer-number;
               parts = record {
@@ -154,11 +154,11 @@ module _ (s : List ℕ) (rows : Rows) (w : RowsAt s 23 0 1 rows) where
       unfolding dateOf
       order-date = rw (its .date) (date-six s _ order-its)
 
-      module _ (c : ℕ) (u : c ≡ orderStop (t .count) (slashed (drop 4 (spanOf s (getD (rows .spans) 0 noSpan)))) (t .low) (twice equal (heldFrom s fields 0 (t .count)))) where
+      module _ (c : ℕ) (u : c ≡ orderStop (t .count) (slashed (past ":20:" (spanOf s (getD (rows .spans) message20 noSpan)))) (t .low) (twice equal (heldFrom s fields 0 (t .count)))) where
         order-number : (temporary : List ℕ) → c ≡ firstOf (formStops temporary (readOrder s))
         order-number temporary =
             u
-            ∙ all-stops temporary (sender s) (held s (rows .spans) 1) (all .all) (t .count) (t .low) (slashed (drop 4 (spanOf s (getD (rows .spans) 0 noSpan)))) (twice equal (heldFrom s fields 0 (t .count))) (its .count) (its .low) (rw (held-line s (rows .spans) 1 0 (omega arith)))
+            ∙ all-stops temporary (sender s) (held s (rows .spans) 1) (all .all) (t .count) (t .low) (slashed (past ":20:" (spanOf s (getD (rows .spans) message20 noSpan)))) (twice equal (heldFrom s fields 0 (t .count))) (its .count) (its .low) (rw (held-line s (rows .spans) 1 message20 (omega arith)))
             (λ l. ap (λ (n : ℕ). twice equal (heldFrom s fields 0 n)) (its .count) ∙ named-twice s (all .all) fields (its .named) l)
             ∙ ap (λ (o : Option Message). firstOf (formStops temporary o)) (sym is-order)
 
@@ -166,14 +166,14 @@ module _ (s : List ℕ) (rows : Rows) (w : RowsAt s 23 0 1 rows) where
         order-stopped z = record { with = λ temporary. record { number = order-number temporary; parts = omega arith } }
 
         pub order-count : c ≡ 0 → t .count ≤ 16
-        order-count z = order-few (t .count) (slashed (drop 4 (spanOf s (getD (rows .spans) 0 noSpan)))) (t .low) (twice equal (heldFrom s fields 0 (t .count))) (sym u ∙ z)
+        order-count z = order-few (t .count) (slashed (past ":20:" (spanOf s (getD (rows .spans) message20 noSpan)))) (t .low) (twice equal (heldFrom s fields 0 (t .count))) (sym u ∙ z)
 
-        pub order-good : c ≡ 0 → (q : Span) → Behind (getD (rows .spans) 0 noSpan) 4 q → (b : Booking)
+        pub order-good : c ≡ 0 → (q : Span) → Behind (getD (rows .spans) message20 noSpan) 4 q → (b : Booking)
             → b ≡ bookingOf s false q (t .date) (t .sum) (t .count) → OrderChecked s (Passed b) amounts places
         unfolding referenceOf detailsOf
         order-good z q d b e =
             let few : t .count ≤ 16 = order-count z in
-            let f : SpanIn s (getD (rows .spans) 0 noSpan) = within-at s (rows .spans) 0 (w .within) in
+            let f : SpanIn s (getD (rows .spans) message20 noSpan) = within-at s (rows .spans) message20 (w .within) in
             let sum : t .sum ≡ sumOf (all .all) = its .sum ∙ ap sumOf (take-all 16 (all .all) (rw (← its .count) few)) in record {
               with = λ temporary. record {
                 number = sym z ∙ order-number temporary;

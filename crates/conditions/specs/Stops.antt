@@ -6,13 +6,14 @@ use mathlib.Core.Option.{Option, some}
 use Prim.Native.Nat.{ℕ}
 use native.Mathlib.Omega.{arith}
 use lib.Dec.{leb, eqb}
-use lib.ListN.{length, getD, take, drop}
+use lib.ListN.{length, getD, take}
 use borrow.Author.Tests.{eq-eqb, ne-eqb}
 use Rattle.rules.specs.Text.{equal, isSome, any, twice}
 use Rattle.rules.specs.Lines.{sender}
 use Rattle.rules.specs.Engine.{slashed}
+use Rattle.rules.specs.Forms.{message20, transfer32A, transfer59, detail21, detail32B, detail50H}
 use Rattle.rules.specs.Messages as M
-use Rattle.rules.specs.Messages.{Message, mt103, field20, account103, field21, currency32B, referenceOf, detailsOf}
+use Rattle.rules.specs.Messages.{Message, mt103, field20, account103, field21, currency32B, referenceOf, detailsOf, past}
 use Rattle.rules.specs.Calls.{formStops, firstOf, holdsOf, badReference, badSum, badAmount, foreignPayer, badAccount, manyDates}
 use Rattle.forms.specs.Spans.{spanOf, noSpan, within-at, held-line}
 use Rattle.forms.specs.Details.{detailHeld}
@@ -47,9 +48,9 @@ lineIn s l k = spanOf s (getD l k noSpan)
 -- 5, 6 and 7 of a transfer
 abbrev pub transferStop : List ℕ → List ℕ → Transfer → ℕ
 transferStop s temporary t =
-    cond (slashed (drop 4 (lineIn s (t .spans) 0))) 5
-    (cond (badSum (take 3 (drop 11 (lineIn s (t .spans) 2))) (t .amount)) 6
-    (cond (equal (drop 5 (lineIn s (t .spans) 11)) temporary) 0 7))
+    cond (slashed (past ":20:" (lineIn s (t .spans) message20))) 5
+    (cond (badSum (take 3 (past ":32A:nnnnnn" (lineIn s (t .spans) transfer32A))) (t .amount)) 6
+    (cond (equal (past ":59:/" (lineIn s (t .spans) transfer59)) temporary) 0 7))
 
 or-nothing : (b : Bool) → (b || false || false) ≡ b
 or-nothing true = refl
@@ -63,7 +64,7 @@ not-picks false = refl
 pub transfer-stops : (s temporary : List ℕ) (t : Transfer) → transferStop s temporary t ≡ firstOf (formStops temporary (some (mt103 (transferHeld s t))))
 unfolding formStops firstOf holdsOf badReference badAmount badAccount manyDates referenceOf detailsOf any twice
 transfer-stops s temporary t =
-    rw (or-nothing (slashed (field20 (transferHeld s t .rows))), not-picks (equal (account103 (transferHeld s t .rows)) temporary), held-line s (t .spans) 23 0 (omega arith), held-line s (t .spans) 23 2 (omega arith), held-line s (t .spans) 23 11 (omega arith))
+    rw (or-nothing (slashed (field20 (transferHeld s t .rows))), not-picks (equal (account103 (transferHeld s t .rows)) temporary), held-line s (t .spans) 23 message20 (omega arith), held-line s (t .spans) 23 transfer32A (omega arith), held-line s (t .spans) 23 transfer59 (omega arith))
 
 -- ---- a detail
 
@@ -77,13 +78,13 @@ lowest bank day d =
 
 abbrev pub detailStop : List ℕ → ℕ → Detail → ℕ
 detailStop s day d =
-    cond (slashed (drop 4 (lineIn s (d .spans) 0))) 5
-    (cond (badSum (take 3 (drop 5 (lineIn s (d .spans) 1))) (d .amount)) 6
-    (cond (foreign (sender s) (lineIn s (d .spans) 2)) 7
+    cond (slashed (past ":21:" (lineIn s (d .spans) detail21))) 5
+    (cond (badSum (take 3 (past ":32B:" (lineIn s (d .spans) detail32B))) (d .amount)) 6
+    (cond (foreign (sender s) (lineIn s (d .spans) detail50H)) 7
     (cond (not (eqb (d .date) day)) 8 9)))
 
 pub detail-lowest : (s : List ℕ) (day : ℕ) (d : Detail) → detailStop s day d ≡ lowest (sender s) day (detailHeld s d)
 unfolding lowest foreign foreignPayer
-detail-lowest s day d = rw (held-line s (d .spans) 17 0 (omega arith), held-line s (d .spans) 17 1 (omega arith), held-line s (d .spans) 17 2 (omega arith))
+detail-lowest s day d = rw (held-line s (d .spans) 17 detail21 (omega arith), held-line s (d .spans) 17 detail32B (omega arith), held-line s (d .spans) 17 detail50H (omega arith))
 
 pub ruleset stopping = (within-at, pick-held, pick-missed, pick-apart, pick-alike)

@@ -10,6 +10,7 @@ use lib.ListN.{length, getD, take}
 use lib.Seq.{take-all, take-append-le}
 use borrow.Author.Tests.{le-leb, lt-leb, eq-eqb, ne-eqb, leb-true, leb-false}
 use Rattle.rules.specs.Lines.{closing, sender}
+use Rattle.rules.specs.Forms.{detail21}
 use Rattle.rules.specs.Messages as M
 use Rattle.rules.specs.Messages.{details, firstDate, sumOf}
 use Rattle.laws.specs.Parts.{from}
@@ -71,7 +72,7 @@ pub record After (s : List ℕ) (t : Tally) (d : Detail) (r : Tally) : Type 0 wh
 -- detail n, where it is one of the first 16, is d now; else all stays
 pub record KeepsFirst (n : ℕ) (d : Detail) (amounts places fields amounts' places' fields' : List ℕ) : Type 0 where
   pub field : Span
-  pub behind : Behind (getD (d .spans) 0 noSpan) 4 field
+  pub behind : Behind (getD (d .spans) detail21 noSpan) 4 field
   pub keeps : n < 16 → Keeps n d amounts places amounts' places'
   pub names : n < 16 → fields' ≡ withLine fields n field
   pub amounts-stay : 16 ≤ n → amounts' ≡ amounts
@@ -96,7 +97,7 @@ few-or-many {A} n f g = go (leb 16 n) refl
     go true e = g (leb-true 16 n e)
     go false e = f (leb-false 16 n e)
 
-pub keeps-none : {n : ℕ} {d : Detail} {amounts places fields : List ℕ} {q : Span} → 16 ≤ n → Behind (getD (d .spans) 0 noSpan) 4 q → KeepsFirst n d amounts places fields amounts places fields
+pub keeps-none : {n : ℕ} {d : Detail} {amounts places fields : List ℕ} {q : Span} → 16 ≤ n → Behind (getD (d .spans) detail21 noSpan) 4 q → KeepsFirst n d amounts places fields amounts places fields
 keeps-none h b = record {
   field = _;
   behind = b;
@@ -107,7 +108,7 @@ keeps-none h b = record {
   fields-stay = λ l. refl;
 }
 
-pub keeps-one : {n : ℕ} {d : Detail} {amounts places fields amounts' places' fields' : List ℕ} {q : Span} → n < 16 → Behind (getD (d .spans) 0 noSpan) 4 q → Keeps n d amounts places amounts' places' → fields' ≡ withLine fields n q
+pub keeps-one : {n : ℕ} {d : Detail} {amounts places fields amounts' places' fields' : List ℕ} {q : Span} → n < 16 → Behind (getD (d .spans) detail21 noSpan) 4 q → Keeps n d amounts places amounts' places' → fields' ≡ withLine fields n q
     → KeepsFirst n d amounts places fields amounts' places' fields'
 keeps-one h b k e = record {
   field = _;

@@ -7,6 +7,7 @@ use native.Mathlib.Nat.{sub-zero, add-zero, zero-add}
 use native.Mathlib.Omega.{arith}
 use lib.ListN.{length, getD}
 use Rattle.rules.specs.Text.{equal, any, twice}
+use Rattle.rules.specs.Forms.{detail21}
 use Rattle.rules.specs.Messages as M
 use Rattle.rules.specs.Messages.{field21}
 use Rattle.forms.specs.Spans.{spanOf, noSpan, SpanIn, within-at, held-line}
@@ -48,18 +49,18 @@ module _ (s : List ℕ) (ds : List M.Detail) {fields : List ℕ} (k : Named s ds
     bytes = λ i l m. rw (more-before ds d i (omega arith)) (k .bytes i (omega arith) m);
   }
 
-  module _ {at : ℕ} (h : length ds < 16) (d : Detail) (w : DetailAt s at d) {q : Span} (b : Behind (getD (d .spans) 0 noSpan) 4 q) {fields' : List ℕ} (c : fields' ≡ withLine fields (length ds) q) where
+  module _ {at : ℕ} (h : length ds < 16) (d : Detail) (w : DetailAt s at d) {q : Span} (b : Behind (getD (d .spans) detail21 noSpan) 4 q) {fields' : List ℕ} (c : fields' ≡ withLine fields (length ds) q) where
     own : lineAt fields' (length ds) ≡ q
     own = rw c (line-set fields (length ds) q (omega (arith, k .size)))
 
     other : (i : ℕ) → i < length ds → lineAt fields' i ≡ lineAt fields i
     other i l = rw c (line-other fields (length ds) q i (λ e. omega arith))
 
-    first-in : SpanIn s (getD (d .spans) 0 noSpan)
-    first-in = within-at s (d .spans) 0 (w .within)
+    first-in : SpanIn s (getD (d .spans) detail21 noSpan)
+    first-in = within-at s (d .spans) detail21 (w .within)
 
     own-field : spanOf s q ≡ field21 (detailHeld s d)
-    own-field = rw (held-line s (d .spans) 17 0 (omega arith)) (behind-bytes s _ 4 first-in q b)
+    own-field = rw (held-line s (d .spans) 17 detail21 (omega arith)) (behind-bytes s _ 4 first-in q b)
 
     pub named-more : Named s (ds ++ (detailHeld s d ∷ [])) fields'
     named-more = record {

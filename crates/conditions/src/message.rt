@@ -4,6 +4,7 @@ use crate::booking::booking_of;
 use crate::order::order_stop;
 use crate::stops::transfer_stop;
 use crate::tally::tally_details;
+use forms::MESSAGE_20;
 use forms::behind;
 use forms::read_rows;
 use forms::read_transfer;
@@ -35,7 +36,7 @@ fn check_transfer(s: &[u8], temporary: &[u8]) -> Checked
     if t.ok {
         let k = transfer_stop(s, temporary, t);
         if k == 0 {
-            let reference = behind(t.spans[0], 4);
+            let reference = behind(t.spans[MESSAGE_20], 4);
             return Checked::Passed(booking_of(s, true, reference, t.date, t.amount, 0));
         }
         return Checked::Refused(k);
@@ -52,7 +53,7 @@ fn check_order(s: &[u8], amounts: &mut [u64; 16], places: &mut [u16; 96]) -> Che
 {
     let rows = read_rows(s, 23, 0, 1);
     if rows.ok {
-        let line = rows.spans[0];
+        let line = rows.spans[MESSAGE_20];
         let mut fields = [0u16; 32];
         let t = tally_details(s, rows.next, amounts, places, &mut fields);
         if t.ok {

@@ -4,8 +4,8 @@ use crate::tally::Tally;
 use crate::walk::appears_twice;
 use forms::Span;
 ghost use mathlib.Core.Path.{_≡_};
-ghost use lib.ListN.{drop};
 ghost use Rattle.rules.specs.Text.{equal, twice};
+ghost use Rattle.rules.specs.Messages.{past};
 ghost use Rattle.rules.specs.Engine.{slashed};
 ghost use Rattle.forms.specs.Spans.{spanOf, SpanIn};
 ghost use Rattle.conditions.specs.Walk.{FieldsIn, heldFrom};
@@ -15,7 +15,7 @@ ghost use Rattle.conditions.specs.Order.{orderStop};
 pub fn order_stop(s: &[u8], p: Span, fields: &[u16; 32], t: Tally) -> u32
     requires { ⌜ SpanIn (now s) p ⌝ }
     requires { ⌜ FieldsIn (now s) (now fields) (t .count) ⌝ }
-    ensures { λ r. ⌜ r ≡ orderStop (t .count) (slashed (drop 4 (spanOf (now (s .entry)) p))) (t .low) (twice equal (heldFrom (now (s .entry)) (now (fields .entry)) 0 (t .count))) ⌝ }
+    ensures { λ r. ⌜ r ≡ orderStop (t .count) (slashed (past ":20:" (spanOf (now (s .entry)) p))) (t .low) (twice equal (heldFrom (now (s .entry)) (now (fields .entry)) 0 (t .count))) ⌝ }
 {
     if 16 < t.count {
         return 4;

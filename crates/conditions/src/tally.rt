@@ -2,6 +2,7 @@
 use crate::stops::detail_stop;
 use details::keep;
 use details::set_line;
+use forms::DETAIL_21;
 use forms::Detail;
 use forms::behind;
 use forms::read_detail;
@@ -9,6 +10,7 @@ use lines::closes_at;
 ghost use mathlib.Core.Path.{_≡_};
 ghost use Prim.Native.Nat.{_*_, _<_, _≤_, min};
 ghost use lib.ListN.{length, getD};
+ghost use Rattle.rules.specs.Forms.{detail21};
 ghost use Rattle.forms.specs.Spans.{noSpan, Within};
 ghost use Rattle.details.specs.Kept.{Room};
 ghost use Rattle.conditions.specs.Tally.{Raised, dayOf, After, KeepsFirst, TallyAt};
@@ -83,10 +85,10 @@ fn keep_first(
     n: u32,
     d: Detail,
 )
-    requires { ⌜ getD (d .spans) 0 noSpan .start ≤ getD (d .spans) 0 noSpan .end ⌝ }
+    requires { ⌜ getD (d .spans) detail21 noSpan .start ≤ getD (d .spans) detail21 noSpan .end ⌝ }
     ensures { λ _. ⌜ KeepsFirst n d (now (amounts .entry)) (now (places .entry)) (now (fields .entry)) (now (amounts .exit)) (now (places .exit)) (now (fields .exit)) ⌝ }
 {
-    let field = behind(d.spans[0], 4);
+    let field = behind(d.spans[DETAIL_21], 4);
     if 16 <= n {
         return;
     }

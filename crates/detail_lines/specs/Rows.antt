@@ -6,7 +6,8 @@ use native.Mathlib.Omega.{arith}
 use lib.ListN.{take, drop}
 use lib.Seq.{take-all}
 use Rattle.rules.specs.Text.{ascii}
-use Rattle.rules.specs.Messages.{Detail}
+use Rattle.rules.specs.Forms.{detail52D, detail59, detailBaeref}
+use Rattle.rules.specs.Messages.{Detail, past}
 use Rattle.rules.specs.Written.{returnedRows}
 use Rattle.laws.specs.Parts.{cut, cut-take, cut-length}
 use Rattle.laws.specs.Writing.{Wrote}
@@ -38,12 +39,12 @@ module _ (s : List ℕ) (p q : Span) (k : ℕ) (w : SpanIn s p) (b : Behind p k 
 
 -- 52D's BAE, a slash, BAEREF's date, a slash
 abbrev pub rowFront : List ℕ → Span → Span → List ℕ
-rowFront s branch baeref = take 8 (drop 5 (spanOf s branch)) ++ ascii "/" ++ take 6 (drop 6 (spanOf s baeref)) ++ ascii "/"
+rowFront s branch baeref = take 8 (past ":52D:" (spanOf s branch)) ++ ascii "/" ++ take 6 (past "BAEREF" (spanOf s baeref)) ++ ascii "/"
 
 -- off the lines of 52D, 59 and BAEREF
 abbrev pub rowsOf : List ℕ → Span → Span → Span → List ℕ
-rowsOf s branch account baeref = (rowFront s branch baeref ++ drop 12 (spanOf s baeref) ++ ascii "\r\n") ++ (drop 5 (spanOf s account) ++ ascii "\r\n")
+rowsOf s branch account baeref = (rowFront s branch baeref ++ past "BAEREFnnnnnn" (spanOf s baeref) ++ ascii "\r\n") ++ (past ":59:/" (spanOf s account) ++ ascii "\r\n")
 
-pub rows-held : (s : List ℕ) (d : Detail) (branch account baeref : Span) → LineOf s d 7 branch → LineOf s d 9 account → LineOf s d 14 baeref → rowsOf s branch account baeref ≡ returnedRows d
+pub rows-held : (s : List ℕ) (d : Detail) (branch account baeref : Span) → LineOf s d detail52D branch → LineOf s d detail59 account → LineOf s d detailBaeref baeref → rowsOf s branch account baeref ≡ returnedRows d
 unfolding returnedRows
 rows-held s d branch account baeref h k l = rw (h .bytes, k .bytes, l .bytes)

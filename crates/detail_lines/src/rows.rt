@@ -4,6 +4,7 @@ use forms::behind;
 ghost use mathlib.Core.List.{_++_};
 ghost use lib.ListN.{take, drop};
 ghost use Rattle.rules.specs.Text.{ascii};
+ghost use Rattle.rules.specs.Messages.{past};
 ghost use Rattle.laws.specs.Writing.{Wrote};
 ghost use Rattle.forms.specs.Spans.{spanOf, SpanIn};
 ghost use Rattle.detail_lines.specs.Rows.{rowFront, rowsOf};
@@ -45,7 +46,7 @@ fn put_row_front(out: &mut [u8], at: usize, s: &[u8], branch: Span, baeref: Span
 fn put_reference_row(out: &mut [u8], at: usize, s: &[u8], branch: Span, baeref: Span) -> usize
     requires { ⌜ SpanIn (now s) branch ⌝ }
     requires { ⌜ SpanIn (now s) baeref ⌝ }
-    ensures { λ r. ⌜ Wrote (rowFront (now (s .entry)) branch baeref ++ drop 12 (spanOf (now (s .entry)) baeref) ++ ascii "\r\n") at (now (out .entry)) r (now (out .exit)) ⌝ }
+    ensures { λ r. ⌜ Wrote (rowFront (now (s .entry)) branch baeref ++ past "BAEREFnnnnnn" (spanOf (now (s .entry)) baeref) ++ ascii "\r\n") at (now (out .entry)) r (now (out .exit)) ⌝ }
 {
     let a = put_row_front(out, at, s, branch, baeref);
     let b = put_behind(out, a, s, baeref, 12);
@@ -55,7 +56,7 @@ fn put_reference_row(out: &mut [u8], at: usize, s: &[u8], branch: Span, baeref: 
 // The second row: field 59 behind its slash.
 fn put_account_row(out: &mut [u8], at: usize, s: &[u8], account: Span) -> usize
     requires { ⌜ SpanIn (now s) account ⌝ }
-    ensures { λ r. ⌜ Wrote (drop 5 (spanOf (now (s .entry)) account) ++ ascii "\r\n") at (now (out .entry)) r (now (out .exit)) ⌝ }
+    ensures { λ r. ⌜ Wrote (past ":59:/" (spanOf (now (s .entry)) account) ++ ascii "\r\n") at (now (out .entry)) r (now (out .exit)) ⌝ }
 {
     let a = put_behind(out, at, s, account, 5);
     put::put_end(out, a)

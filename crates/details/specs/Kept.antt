@@ -9,6 +9,7 @@ use lib.Dec.{leb}
 use lib.ListN.{length, getD, drop, set, length-set, length-append, drop-of-length-le, List·getD-append}
 use lib.Seq.{drop-cons, getD-set-same, getD-set-other, getD-append-seam}
 use borrow.Author.Tests.{leb-true, leb-false}
+use Rattle.rules.specs.Forms.{detail52D, detail59, detailBaeref}
 use Rattle.rules.specs.Messages as M
 use Rattle.rules.specs.Messages.{lineOf}
 use Rattle.forms.specs.Spans.{spanOf, noSpan, SpanIn, within-at, held-line}
@@ -25,9 +26,9 @@ pub record LineOf (s : List ℕ) (d : M.Detail) (k : ℕ) (p : Span) : Type 0 wh
 
 -- the lines of detail d that are kept at place i: 52D, 59 and BAEREF
 pub record LinesAs (s : List ℕ) (d : M.Detail) (places : List ℕ) (i : ℕ) : Type 0 where
-  pub branch : LineOf s d 7 (lineAt places (3 * i))
-  pub account : LineOf s d 9 (lineAt places (3 * i + 1))
-  pub baeref : LineOf s d 14 (lineAt places (3 * i + 2))
+  pub branch : LineOf s d detail52D (lineAt places (3 * i))
+  pub account : LineOf s d detail59 (lineAt places (3 * i + 1))
+  pub baeref : LineOf s d detailBaeref (lineAt places (3 * i + 2))
 
 -- there is room for 16
 pub record Room (amounts places : List ℕ) : Type 0 where
@@ -46,10 +47,10 @@ pub record Kept (s : List ℕ) (ds : List M.Detail) (amounts places : List ℕ) 
 pub record Keeps (i : ℕ) (d : Detail) (amounts places amounts' places' : List ℕ) : Type 0 where
   pub amounts-are : amounts' ≡ set amounts i (d .amount)
   pub places-are : places'
-      ≡ withLine (withLine (withLine places (3 * i) (getD (d .spans) 7 noSpan)) (3 * i + 1) (getD (d .spans) 9 noSpan)) (3 * i + 2) (getD (d .spans) 14 noSpan)
+      ≡ withLine (withLine (withLine places (3 * i) (getD (d .spans) detail52D noSpan)) (3 * i + 1) (getD (d .spans) detail59 noSpan)) (3 * i + 2) (getD (d .spans) detailBaeref noSpan)
 
-pub keeps-done : (i : ℕ) (d : Detail) {amounts places p₁ p₂ p₃ : List ℕ} → p₁ ≡ withLine places (3 * i) (getD (d .spans) 7 noSpan) → p₂ ≡ withLine p₁ (3 * i + 1) (getD (d .spans) 9 noSpan)
-    → p₃ ≡ withLine p₂ (3 * i + 2) (getD (d .spans) 14 noSpan) → Keeps i d amounts places (set amounts i (d .amount)) p₃
+pub keeps-done : (i : ℕ) (d : Detail) {amounts places p₁ p₂ p₃ : List ℕ} → p₁ ≡ withLine places (3 * i) (getD (d .spans) detail52D noSpan) → p₂ ≡ withLine p₁ (3 * i + 1) (getD (d .spans) detail59 noSpan)
+    → p₃ ≡ withLine p₂ (3 * i + 2) (getD (d .spans) detailBaeref noSpan) → Keeps i d amounts places (set amounts i (d .amount)) p₃
 keeps-done i d e f g = record { amounts-are = refl; places-are = rw (f, e) at g }
 
 -- a list with one more at its end: those before stay, the last is it
@@ -89,41 +90,41 @@ module _ (s : List ℕ) (ds : List M.Detail) {amounts places : List ℕ} (k : Ke
     line-of j l = record { inside = within-at s (d .spans) j (w .within); bytes = sym (held-line s (d .spans) 17 j l) }
 
     abbrev first : List ℕ
-    first = withLine places (3 * length ds) (getD (d .spans) 7 noSpan)
+    first = withLine places (3 * length ds) (getD (d .spans) detail52D noSpan)
 
     abbrev second : List ℕ
-    second = withLine first (3 * length ds + 1) (getD (d .spans) 9 noSpan)
+    second = withLine first (3 * length ds + 1) (getD (d .spans) detail59 noSpan)
 
     first-size : length first ≡ 96
-    first-size = line-length places (3 * length ds) (getD (d .spans) 7 noSpan) ∙ k .room .places-size
+    first-size = line-length places (3 * length ds) (getD (d .spans) detail52D noSpan) ∙ k .room .places-size
 
     second-size : length second ≡ 96
-    second-size = line-length first (3 * length ds + 1) (getD (d .spans) 9 noSpan) ∙ first-size
+    second-size = line-length first (3 * length ds + 1) (getD (d .spans) detail59 noSpan) ∙ first-size
 
-    own-branch : lineAt places' (3 * length ds) ≡ getD (d .spans) 7 noSpan
+    own-branch : lineAt places' (3 * length ds) ≡ getD (d .spans) detail52D noSpan
     own-branch =
-        rw (c .places-are, line-other second (3 * length ds + 2) (getD (d .spans) 14 noSpan) (3 * length ds) (λ e. omega arith), line-other first (3 * length ds + 1) (getD (d .spans) 9 noSpan) (3 * length ds) (λ e. omega arith))
-        (line-set places (3 * length ds) (getD (d .spans) 7 noSpan) (omega (arith, k .room .places-size)))
+        rw (c .places-are, line-other second (3 * length ds + 2) (getD (d .spans) detailBaeref noSpan) (3 * length ds) (λ e. omega arith), line-other first (3 * length ds + 1) (getD (d .spans) detail59 noSpan) (3 * length ds) (λ e. omega arith))
+        (line-set places (3 * length ds) (getD (d .spans) detail52D noSpan) (omega (arith, k .room .places-size)))
 
-    own-account : lineAt places' (3 * length ds + 1) ≡ getD (d .spans) 9 noSpan
+    own-account : lineAt places' (3 * length ds + 1) ≡ getD (d .spans) detail59 noSpan
     own-account =
-        rw (c .places-are, line-other second (3 * length ds + 2) (getD (d .spans) 14 noSpan) (3 * length ds + 1) (λ e. omega arith))
-        (line-set first (3 * length ds + 1) (getD (d .spans) 9 noSpan) (omega (arith, first-size)))
+        rw (c .places-are, line-other second (3 * length ds + 2) (getD (d .spans) detailBaeref noSpan) (3 * length ds + 1) (λ e. omega arith))
+        (line-set first (3 * length ds + 1) (getD (d .spans) detail59 noSpan) (omega (arith, first-size)))
 
-    own-baeref : lineAt places' (3 * length ds + 2) ≡ getD (d .spans) 14 noSpan
-    own-baeref = rw (c .places-are) (line-set second (3 * length ds + 2) (getD (d .spans) 14 noSpan) (omega (arith, second-size)))
+    own-baeref : lineAt places' (3 * length ds + 2) ≡ getD (d .spans) detailBaeref noSpan
+    own-baeref = rw (c .places-are) (line-set second (3 * length ds + 2) (getD (d .spans) detailBaeref noSpan) (omega (arith, second-size)))
 
     other-line : (j : ℕ) → j < 3 * length ds → lineAt places' j ≡ lineAt places j
     other-line j l =
         rw (
           c .places-are,
-          line-other second (3 * length ds + 2) (getD (d .spans) 14 noSpan) j (λ e. omega arith),
-          line-other first (3 * length ds + 1) (getD (d .spans) 9 noSpan) j (λ e. omega arith),
-          line-other places (3 * length ds) (getD (d .spans) 7 noSpan) j (λ e. omega arith),
+          line-other second (3 * length ds + 2) (getD (d .spans) detailBaeref noSpan) j (λ e. omega arith),
+          line-other first (3 * length ds + 1) (getD (d .spans) detail59 noSpan) j (λ e. omega arith),
+          line-other places (3 * length ds) (getD (d .spans) detail52D noSpan) j (λ e. omega arith),
         )
 
     own-lines : LinesAs s (detailHeld s d) places' (length ds)
-    own-lines = record { branch = rw own-branch (line-of 7 (omega arith)); account = rw own-account (line-of 9 (omega arith)); baeref = rw own-baeref (line-of 14 (omega arith)) }
+    own-lines = record { branch = rw own-branch (line-of detail52D (omega arith)); account = rw own-account (line-of detail59 (omega arith)); baeref = rw own-baeref (line-of detailBaeref (omega arith)) }
 
     other-lines : (i : ℕ) → i < length ds → LinesAs s (detailAt ds i) places i → LinesAs s (detailAt ds i) places' i
     other-lines i l a = record {
@@ -142,7 +143,7 @@ module _ (s : List ℕ) (ds : List M.Detail) {amounts places : List ℕ} (k : Ke
     kept-more = record {
       room = record {
         amounts-size = rw (c .amounts-are) (length-set amounts (length ds) (d .amount) ∙ k .room .amounts-size);
-        places-size = rw (c .places-are) (line-length second (3 * length ds + 2) (getD (d .spans) 14 noSpan) ∙ second-size);
+        places-size = rw (c .places-are) (line-length second (3 * length ds + 2) (getD (d .spans) detailBaeref noSpan) ∙ second-size);
       };
       amounts-are = λ i l m. before-or-last i (length ds) (rw (more-length ds (detailHeld s d)) at l)
           (λ b. rw (more-before ds (detailHeld s d) i b) (other-amount i b ∙ k .amounts-are i b m))

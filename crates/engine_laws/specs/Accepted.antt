@@ -15,7 +15,7 @@ use Rattle.rules.specs.Amounts.{amount}
 use Rattle.rules.specs.Accounts.{isBic}
 use Rattle.rules.specs.Lines.{Line, line, opening, closing, lines, inLines, framed, type, sender, body}
 use Rattle.rules.specs.Forms.{Row, Rowed, reference, fitsRest, fitsRow, leadRows, rowed, transferRows, orderRows, detailRows}
-use Rattle.rules.specs.Messages.{Message, mt103, mt101, Transfer, Detail, lineOf, transferOf, detailOf, detailed, details, readTransfer, readOrder, read, senderOf, referenceOf, firstDate, dateOf}
+use Rattle.rules.specs.Messages.{Message, mt103, mt101, Transfer, Detail, lineOf, past, date32A, amount32A, baerefDate103, amount32B, dateCentrb, dateBaeref, transferOf, detailOf, detailed, details, readTransfer, readOrder, read, senderOf, referenceOf, firstDate, dateOf}
 use Rattle.rules.specs.Engine.{isBank}
 use Rattle.laws.specs.Numbers.{bic-number, bic-small}
 use Rattle.laws.specs.Parts.{cut, from, from-take}
@@ -26,16 +26,16 @@ use Rattle.engine_laws.specs.Facts.{never, cond-left, cond-both}
 
 -- ---- the first row of a form, which no message leaves out
 
-pub row-first : (r : Row) (rs : List Row) (cs : List ℕ) (x : Rowed) → r .may ≡ false → rowed (r ∷ rs) cs ≡ some x → fitsRow r (lineOf (x .rows) 0) ≡ true
+pub row-first : (r : Row) (rs : List Row) (cs : List ℕ) (x : Rowed) → r .optional ≡ false → rowed (r ∷ rs) cs ≡ some x → fitsRow r (lineOf (x .rows) 0) ≡ true
 unfolding rowed leadRows
 row-first r rs cs x m h =
     let t : Came (line cs) _ x = came _ _ h in go (t .value .line) (rowed rs (t .value .others)) (leadRows ([] ∷ []) (rowed rs cs)) (fitsRow r (t .value .line)) refl (t .gives)
   where
-    go : (l : Line) (y without : Option Rowed) (b : Bool) → fitsRow r l ≡ b → cond b (leadRows (l ∷ []) y) (cond (r .may) without none) ≡ some x → fitsRow r (lineOf (x .rows) 0) ≡ true
+    go : (l : Line) (y without : Option Rowed) (b : Bool) → fitsRow r l ≡ b → cond b (leadRows (l ∷ []) y) (cond (r .optional) without none) ≡ some x → fitsRow r (lineOf (x .rows) 0) ≡ true
     go l none w true e k = absurd (let z : _≡_ {A = ℕ} 0 1 = cc in omega arith)
     go l (some y) w true e k =
         let q : record { rows = l ∷ y .rows; others = y .others } ≡ x = cc in rw (← q) e
-    go l y w false e k = absurd (let k' : cond (r .may) w none ≡ some x = k in let n : _≡_ {A = Option Rowed} none (some x) = rw m at k' in let z : _≡_ {A = ℕ} 0 1 = cc in omega arith)
+    go l y w false e k = absurd (let k' : cond (r .optional) w none ≡ some x = k in let n : _≡_ {A = Option Rowed} none (some x) = rw m at k' in let z : _≡_ {A = ℕ} 0 1 = cc in omega arith)
 
 -- ---- MT103 and MT101
 
@@ -46,7 +46,7 @@ pub record Has (s : List ℕ) (m : Message) : Type 0 where
   pub date : exists (dateOf m) ≡ true
 
 -- a field 20
-reference-fits : (l : Line) → fitsRow record { head = ascii ":20:"; rest = reference; may = false } l ≡ true → run isText 1 16 (drop 4 l) ≡ true
+reference-fits : (l : Line) → fitsRow record { head = ascii ":20:"; rest = reference; optional = false } l ≡ true → run isText 1 16 (past ":20:" l) ≡ true
 unfolding fitsRow fitsRest
 reference-fits l h = and-right (fits (ascii ":20:") (take 4 l)) _ h
 
@@ -59,9 +59,9 @@ pub record TransferOf (from : List ℕ) (ls : List Line) (t : Transfer) : Type 0
 transfer-of : (from : List ℕ) (ls : List Line) (t : Transfer) → transferOf from ls ≡ some t → TransferOf from ls t
 unfolding transferOf
 transfer-of from ls t h =
-    let d : Came (date (take 6 (drop 5 (lineOf ls 2)))) _ t = came _ _ h in
-    let a : Came (amount (drop 14 (lineOf ls 2))) _ t = came _ _ (d .gives) in
-    let b : Came (date (take 6 (drop 8 (lineOf ls 21)))) _ t = came _ _ (a .gives) in
+    let d : Came (date (date32A ls)) _ t = came _ _ h in
+    let a : Came (amount (amount32A ls)) _ t = came _ _ (d .gives) in
+    let b : Came (date (baerefDate103 ls)) _ t = came _ _ (a .gives) in
     let e : record { sender = from; rows = ls; date = d .value; amount = a .value } ≡ t = some-is (b .gives) in record {
       sent = ap (λ (x : Transfer). x .sender) (sym e);
       rows = ap (λ (x : Transfer). x .rows) (sym e);
@@ -71,9 +71,9 @@ transfer-of from ls t h =
 detail-date : (ls : List Line) (x : Detail) → detailOf ls ≡ some x → exists (x .date) ≡ true
 unfolding detailOf
 detail-date ls x h =
-    let a : Came (amount (drop 8 (lineOf ls 1))) _ x = came _ _ h in
-    let d : Came (date (take 6 (drop 10 (lineOf ls 13)))) _ x = came _ _ (a .gives) in
-    let b : Came (date (take 6 (drop 6 (lineOf ls 14)))) _ x = came _ _ (d .gives) in
+    let a : Came (amount (amount32B ls)) _ x = came _ _ h in
+    let d : Came (date (dateCentrb ls)) _ x = came _ _ (a .gives) in
+    let b : Came (date (dateBaeref ls)) _ x = came _ _ (d .gives) in
     let e : record { rows = ls; date = d .value; amount = a .value } ≡ x = some-is (b .gives) in
     rw (← e) (date-exists _ (d .value) (d .is))
 

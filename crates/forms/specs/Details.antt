@@ -8,7 +8,7 @@ use native.Mathlib.Omega.{arith}
 use lib.ListN.{length}
 use Rattle.rules.specs.Dates.{date}
 use Rattle.rules.specs.Amounts.{amount}
-use Rattle.rules.specs.Forms.{rowed, detailRows}
+use Rattle.rules.specs.Forms.{rowed, detailRows, detail32B, detailCentrb, detailBaeref}
 use Rattle.rules.specs.Messages as M
 use Rattle.rules.specs.Messages.{Detailed, detailOf, detailed}
 use Rattle.laws.specs.Parts.{from}
@@ -45,13 +45,13 @@ module _ (s : List ℕ) (at : ℕ) (r : Rows) (w : RowsAt s at 23 17 r) where
 
   pub detail-three : r .ok ≡ true → detailed (from s at) ≡ three
       (λ a d b. record { detail = record { rows = held s (r .spans) 17; date = d; amount = a }; others = from s (r .next) })
-      (sumIn s (r .spans) 1 8)
-      (dateIn s (r .spans) 13 10)
-      (dateIn s (r .spans) 14 6)
+      (sumIn s (r .spans) detail32B 8)
+      (dateIn s (r .spans) detailCentrb 10)
+      (dateIn s (r .spans) detailBaeref 6)
   unfolding detailed detailOf three
   detail-three h =
       let e : some record { rows = held s (r .spans) 17; others = from s (r .next) } ≡ rowed detailRows (from s at) = rw (h, detail-rows) at (w .same) in
-      rw (← e, held-line s (r .spans) 17 1 (omega arith), held-line s (r .spans) 17 13 (omega arith), held-line s (r .spans) 17 14 (omega arith))
-      (three-on (λ d. record { detail = d; others = from s (r .next) }) (λ a d b. record { rows = held s (r .spans) 17; date = d; amount = a }) (sumIn s (r .spans) 1 8) (dateIn s (r .spans) 13 10) (dateIn s (r .spans) 14 6))
+      rw (← e, held-line s (r .spans) 17 detail32B (omega arith), held-line s (r .spans) 17 detailCentrb (omega arith), held-line s (r .spans) 17 detailBaeref (omega arith))
+      (three-on (λ d. record { detail = d; others = from s (r .next) }) (λ a d b. record { rows = held s (r .spans) 17; date = d; amount = a }) (sumIn s (r .spans) detail32B 8) (dateIn s (r .spans) detailCentrb 10) (dateIn s (r .spans) detailBaeref 6))
 
 pub ruleset detailing = (no-first, no-second, no-third, all-three, within-at, detail-none, detail-three, sum-small)

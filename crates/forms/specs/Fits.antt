@@ -64,12 +64,12 @@ nothing-left s a e k = rw (cut-length s a e k)
 
 -- ---- the row
 
-module _ (row : Row) (s : List ℕ) (a e : ℕ) (w : row .0 + row .1 ≤ 186) (k : e ≤ length s) where
-  size : length (rowOf row .head) ≡ row .1
+module _ (row : Row) (s : List ℕ) (a e : ℕ) (w : row .start + row .size ≤ 186) (k : e ≤ length s) where
+  size : length (rowOf row .head) ≡ row .size
   unfolding rowOf
-  size = cut-length heads (row .0) (row .0 + row .1) (omega (arith, heads-length)) ∙ omega arith
+  size = cut-length heads (row .start) (row .start + row .size) (omega (arith, heads-length)) ∙ omega arith
 
-  pub row-short : e - a < row .1 → false ≡ fitsRow (rowOf row) (cut s a e)
+  pub row-short : e - a < row .size → false ≡ fitsRow (rowOf row) (cut s a e)
   unfolding fitsRow
   row-short h =
       let f : false ≡ fits (rowOf row .head) (take (length (rowOf row .head)) (cut s a e)) = not-held _ (λ x.
@@ -79,15 +79,15 @@ module _ (row : Row) (s : List ℕ) (a e : ℕ) (w : row .0 + row .1 ≤ 186) (k
       rw (← f)
 
   -- the row's pattern, and what stands behind it
-  module _ (h : row .1 ≤ e - a) (l : a ≤ e) (t : Bool) (u : t ≡ fits (cut heads (row .0) (row .0 + row .1)) (cut s a (a + row .1))) where
-    split : fitsRow (rowOf row) (cut s a e) ≡ (t && fitsRest (restOf (row .2)) (cut s (a + row .1) e))
+  module _ (h : row .size ≤ e - a) (l : a ≤ e) (t : Bool) (u : t ≡ fits (cut heads (row .start) (row .start + row .size)) (cut s a (a + row .size))) where
+    split : fitsRow (rowOf row) (cut s a e) ≡ (t && fitsRest (restOf (row .rest)) (cut s (a + row .size) e))
     unfolding fitsRow rowOf
-    split = rw (size, cut-take s a e (row .1) (omega arith), cut-drop s a e (row .1), ← u)
+    split = rw (size, cut-take s a e (row .size) (omega arith), cut-drop s a e (row .size), ← u)
 
     pub row-head : t ≡ false → false ≡ fitsRow (rowOf row) (cut s a e)
     row-head d = sym (split ∙ (rw d))
 
-    pub row-rest : t ≡ true → (r : Bool) → r ≡ fitsRest (restOf (row .2)) (cut s (a + row .1) e) → r ≡ fitsRow (rowOf row) (cut s a e)
+    pub row-rest : t ≡ true → (r : Bool) → r ≡ fitsRest (restOf (row .rest)) (cut s (a + row .size) e) → r ≡ fitsRow (rowOf row) (cut s a e)
     row-rest d r q = q ∙ sym (split ∙ (rw d))
 
 pub ruleset fitting = (text-none, text-colon, text-dash, text-run, rest-told, nothing-left, row-short, row-head, row-rest)

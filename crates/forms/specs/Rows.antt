@@ -63,11 +63,11 @@ module _ (r : F.Row) (rs : List F.Row) (cs : List ℕ) where
     unfolding rowed
     row-with h = rw (e, h)
 
-    row-without : fitsRow r (t .line) ≡ false → r .may ≡ true → rowed (r ∷ rs) cs ≡ leadRows ([] ∷ []) (rowed rs cs)
+    row-without : fitsRow r (t .line) ≡ false → r .optional ≡ true → rowed (r ∷ rs) cs ≡ leadRows ([] ∷ []) (rowed rs cs)
     unfolding rowed
     row-without h m = rw (e, h, m)
 
-    row-bad : fitsRow r (t .line) ≡ false → r .may ≡ false → rowed (r ∷ rs) cs ≡ none
+    row-bad : fitsRow r (t .line) ≡ false → r .optional ≡ false → rowed (r ∷ rs) cs ≡ none
     unfolding rowed
     row-bad h m = rw (e, h, m)
 
@@ -106,17 +106,17 @@ module _ (s : List ℕ) (at k : ℕ) (n : Next) (w : ToHold s at k n) (r : Row) 
       stops = λ g rs. never (sym g);
     }
 
-    pub hold-without : t ≡ false → HeldAt s at k record { ok = r .3; at = at; span = noSpan }
+    pub hold-without : t ≡ false → HeldAt s at k record { ok = r .optional; at = at; span = noSpan }
     unfolding rowOf
     hold-without d = record {
       place = w .place;
       within = none-in s;
-      goes = λ g rs. rw (cut-done s 0 0 (omega arith) (omega arith)) (row-without _ _ _ _ (l .same) (sym row-is ∙ d) (may g));
-      stops = λ g rs. row-bad _ _ _ _ (l .same) (sym row-is ∙ d) (may g);
+      goes = λ g rs. rw (cut-done s 0 0 (omega arith) (omega arith)) (row-without _ _ _ _ (l .same) (sym row-is ∙ d) (left-out g));
+      stops = λ g rs. row-bad _ _ _ _ (l .same) (sym row-is ∙ d) (left-out g);
     }
       where
-        may : {b : Bool} → r .3 ≡ b → rowOf (codeAt k) .may ≡ b
-        may g = ap (λ (x : Row). x .3) (sym (y .same)) ∙ g
+        left-out : {b : Bool} → r .optional ≡ b → rowOf (codeAt k) .optional ≡ b
+        left-out g = ap (λ (x : Row). x .optional) (sym (y .same)) ∙ g
 
 pub ruleset holding = (line-told, no-line-told, hold-none, hold-with, hold-without)
 

@@ -24,56 +24,65 @@ use Rattle.forms.specs.declared.table.Row.{Row}
 unfoldable pub heads : List ℕ
 heads = ascii ":20::23B:CRED:32A:nnnnnnaaa:50K:/:52D:aaaannnn:57D:aaaannnn:59:/:71A:aaa:72:/DTYPE/PORD/BAEREF/nnnnnn/CENTRB/:21::32B:aaa:50H:/ccccccccccccccccccccccPAYnnnnnn:70:CENTRBnnnnnnBAEREFnnnnnn  "
 
-abbrev row : ℕ → ℕ → Rest → Bool → Row
-row b n r m = record { 0 = b; 1 = n; 2 = r; 3 = m }
+-- a row with a head, whose line is never left out
+abbrev pub headRow : ℕ → ℕ → Rest → Row
+headRow b n r = record { start = b; size = n; rest = r; optional = false }
+
+-- a further T
+abbrev pub textRow : Row
+textRow = headRow 0 0 Text
+
+-- a T that may be left out
+abbrev pub moreRow : Row
+moreRow = record { start = 0; size = 0; rest = Text; optional = true }
 
 -- the row of no line
 abbrev pub noRow : Row
-noRow = row 0 0 Nothing false
+noRow = headRow 0 0 Nothing
 
 -- the rows of MT103, and of a detail of an MT101
 unfoldable pub codes : List Row
 codes =
-    row 0 4 Reference false
-    ∷ row 4 9 Nothing false
-    ∷ row 13 14 Sum false
-    ∷ row 27 6 Account false
-    ∷ row 0 0 Text false
-    ∷ row 0 0 Text true
-    ∷ row 0 0 Text true
-    ∷ row 33 13 Nothing false
-    ∷ row 0 0 Text false
-    ∷ row 46 13 Nothing false
-    ∷ row 0 0 Text false
-    ∷ row 59 5 Account false
-    ∷ row 0 0 Text false
-    ∷ row 0 0 Text true
-    ∷ row 0 0 Text true
-    ∷ row 158 4 Text false
-    ∷ row 0 0 Text true
-    ∷ row 0 0 Text true
-    ∷ row 0 0 Text true
-    ∷ row 64 8 Nothing false
-    ∷ row 72 15 Nothing false
-    ∷ row 87 14 Name false
-    ∷ row 101 8 Nothing false
-    ∷ row 109 4 Reference false
-    ∷ row 113 8 Sum false
-    ∷ row 121 37 Nothing false
-    ∷ row 0 0 Text false
-    ∷ row 0 0 Text true
-    ∷ row 0 0 Text true
-    ∷ row 0 0 Text true
-    ∷ row 33 13 Nothing false
-    ∷ row 0 0 Text false
-    ∷ row 59 5 Account false
-    ∷ row 0 0 Text false
-    ∷ row 0 0 Text true
-    ∷ row 0 0 Text true
-    ∷ row 158 16 Nothing false
-    ∷ row 174 12 Name false
-    ∷ row 0 0 Text false
-    ∷ row 0 0 Text true
+    headRow 0 4 Reference
+    ∷ headRow 4 9 Nothing
+    ∷ headRow 13 14 Sum
+    ∷ headRow 27 6 Account
+    ∷ textRow
+    ∷ moreRow
+    ∷ moreRow
+    ∷ headRow 33 13 Nothing
+    ∷ textRow
+    ∷ headRow 46 13 Nothing
+    ∷ textRow
+    ∷ headRow 59 5 Account
+    ∷ textRow
+    ∷ moreRow
+    ∷ moreRow
+    ∷ headRow 158 4 Text
+    ∷ moreRow
+    ∷ moreRow
+    ∷ moreRow
+    ∷ headRow 64 8 Nothing
+    ∷ headRow 72 15 Nothing
+    ∷ headRow 87 14 Name
+    ∷ headRow 101 8 Nothing
+    ∷ headRow 109 4 Reference
+    ∷ headRow 113 8 Sum
+    ∷ headRow 121 37 Nothing
+    ∷ textRow
+    ∷ moreRow
+    ∷ moreRow
+    ∷ moreRow
+    ∷ headRow 33 13 Nothing
+    ∷ textRow
+    ∷ headRow 59 5 Account
+    ∷ textRow
+    ∷ moreRow
+    ∷ moreRow
+    ∷ headRow 158 16 Nothing
+    ∷ headRow 174 12 Name
+    ∷ textRow
+    ∷ moreRow
     ∷ []
 
 -- what a row says
@@ -86,7 +95,7 @@ restOf Name = name
 restOf Sum = sum
 
 unfoldable pub rowOf : Row → F.Row
-rowOf r = record { head = cut heads (r .0) (r .0 + r .1); rest = restOf (r .2); may = r .3 }
+rowOf r = record { head = cut heads (r .start) (r .start + r .size); rest = restOf (r .rest); optional = r .optional }
 
 -- the rows of both forms
 unfoldable pub table : List F.Row
@@ -100,7 +109,7 @@ tied = refl
 -- row k of the table, whose pattern lies within the heads
 pub record RowAt (k : ℕ) (r : Row) : Type 0 where
   pub same : r ≡ getD codes k noRow
-  pub room : r .0 + r .1 ≤ 186
+  pub room : r .start + r .size ≤ 186
 
 -- ---- each row's pattern lies within the heads
 
@@ -108,7 +117,7 @@ abbrev pub codeAt : ℕ → Row
 codeAt k = getD codes k noRow
 
 abbrev roomy : ℕ → Bool
-roomy k = leb (codeAt k .0 + codeAt k .1) 186
+roomy k = leb (codeAt k .start + codeAt k .size) 186
 
 all-roomy : below roomy 40 ≡ true
 unfolding codes

@@ -7,7 +7,7 @@ use Prim.Native.Nat.{ℕ, _<_}
 use native.Mathlib.Omega.{arith}
 use Rattle.rules.specs.Text.{then, given}
 use Rattle.rules.specs.Lines.{closing, sender, body}
-use Rattle.rules.specs.Forms.{rowed, transferRows}
+use Rattle.rules.specs.Forms.{rowed, transferRows, transfer32A, transferBaeref}
 use Rattle.rules.specs.Messages as M
 use Rattle.rules.specs.Messages.{Message, mt103, transferOf, readTransfer}
 use Rattle.laws.specs.Parts.{from}
@@ -55,12 +55,12 @@ module _ (s : List ℕ) (r : Rows) (w : RowsAt s 23 0 23 r) where
 
     pub transfer-three : t ≡ true → readTransfer s ≡ three
         (λ d a b. mt103 record { sender = sender s; rows = held s (r .spans) 23; date = d; amount = a })
-        (dateIn s (r .spans) 2 5)
-        (sumIn s (r .spans) 2 14)
-        (dateIn s (r .spans) 21 8)
+        (dateIn s (r .spans) transfer32A 5)
+        (sumIn s (r .spans) transfer32A 14)
+        (dateIn s (r .spans) transferBaeref 8)
     unfolding readTransfer transferOf three
     transfer-three d =
-        rw (← rows-known, ← u, d, held-line s (r .spans) 23 2 (omega arith), held-line s (r .spans) 23 21 (omega arith))
-        (three-on mt103 (λ d a b. record { sender = sender s; rows = held s (r .spans) 23; date = d; amount = a }) (dateIn s (r .spans) 2 5) (sumIn s (r .spans) 2 14) (dateIn s (r .spans) 21 8))
+        rw (← rows-known, ← u, d, held-line s (r .spans) 23 transfer32A (omega arith), held-line s (r .spans) 23 transferBaeref (omega arith))
+        (three-on mt103 (λ d a b. record { sender = sender s; rows = held s (r .spans) 23; date = d; amount = a }) (dateIn s (r .spans) transfer32A 5) (sumIn s (r .spans) transfer32A 14) (dateIn s (r .spans) transferBaeref 8))
 
 pub ruleset transferring = (no-first, no-second, no-third, all-three, within-at, transfer-none, transfer-open, sum-small)

@@ -1,6 +1,11 @@
 // A detail of an MT101.
 use crate::fields::amount_in;
 use crate::fields::date_in;
+use crate::names::DETAIL_32B;
+use crate::names::DETAIL_BAEREF;
+use crate::names::DETAIL_CENTRB;
+use crate::names::DETAIL_ROWS;
+use crate::names::TRANSFER_ROWS;
 use crate::rows::Span;
 use crate::rows::read_rows;
 use text::Num;
@@ -23,12 +28,12 @@ pub fn read_detail(s: &[u8], at: usize) -> Detail
     requires { ⌜ length (now s) ≤ 4096 ⌝ }
     ensures { λ r. ⌜ DetailAt (now (s .entry)) at r ⌝ }
 {
-    let rows = read_rows(s, at, 23, 17);
+    let rows = read_rows(s, at, TRANSFER_ROWS, DETAIL_ROWS);
     let spans = rows.spans;
     if rows.ok {
-        if let Num::Value(amount) = amount_in(s, spans[1], 8) {
-            if let Num::Value(date) = date_in(s, spans[13], 10) {
-                if let Num::Value(_) = date_in(s, spans[14], 6) {
+        if let Num::Value(amount) = amount_in(s, spans[DETAIL_32B], 8) {
+            if let Num::Value(date) = date_in(s, spans[DETAIL_CENTRB], 10) {
+                if let Num::Value(_) = date_in(s, spans[DETAIL_BAEREF], 6) {
                     return Detail {
                         ok: true,
                         next: rows.next,

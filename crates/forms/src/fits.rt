@@ -50,12 +50,12 @@ fn rest_fits(rest: Rest, s: &[u8], a: usize, e: usize) -> bool
 pub fn row_fits(s: &[u8], a: usize, e: usize, row: Row) -> bool
     requires { ⌜ a ≤ e ⌝ }
     requires { ⌜ e ≤ length (now s) ⌝ }
-    requires { ⌜ row .0 + row .1 ≤ 186 ⌝ }
+    requires { ⌜ row .start + row .size ≤ 186 ⌝ }
     ensures { λ r. ⌜ r ≡ fitsRow (rowOf row) (cut (now (s .entry)) a e) ⌝ }
 {
-    let start = row.0 as u32;
-    let size = row.1 as usize;
-    let rest = row.2;
+    let start = row.start as u32;
+    let size = row.size as usize;
+    let rest = row.rest;
     if e - a < size {
         return false;
     }

@@ -57,7 +57,7 @@ fn hold_line(s: &[u8], at: usize, line: Next, k: usize) -> Held
                 };
             }
             Held {
-                ok: row.3,
+                ok: row.optional,
                 at,
                 span: Span { start: 0, end: 0 },
             }

@@ -6,7 +6,7 @@ ghost use lib.Dec.{eqb};
 ghost use lib.ListN.{length, getD};
 ghost use Rattle.rules.specs.Text.{fits};
 ghost use Rattle.laws.specs.Parts.{cut};
-ghost use Rattle.forms.specs.Table.{heads, wordAt, RowAt};
+ghost use Rattle.forms.specs.Table.{heads, headRow, textRow, moreRow, wordAt, RowAt};
 
 // What stands behind a row's head: nothing, T, a reference R, the bytes behind an account line's slash, N, or an amount.
 pub enum Rest {
@@ -18,8 +18,48 @@ pub enum Rest {
     Sum,
 }
 
-// A row: where the pattern of the line's first bytes begins among the heads, and its size; what stands behind it; and whether the line may be left out.
-pub struct Row(pub u8, pub u8, pub Rest, pub bool);
+// A row of a form.
+pub struct Row {
+    // Where its head, the pattern of the line's first bytes, begins among the heads.
+    pub start: u8,
+    // How many signs the head has.
+    pub size: u8,
+    // What stands behind the head.
+    pub rest: Rest,
+    // May the line be left out?
+    pub optional: bool,
+}
+
+// A row with a head, whose line is never left out.
+fn head_row(start: u8, size: u8, rest: Rest) -> Row
+    ensures { λ r. ⌜ r ≡ headRow start size rest ⌝ }
+{
+    Row {
+        start,
+        size,
+        rest,
+        optional: false,
+    }
+}
+
+// A further T.
+fn text_row() -> Row
+    ensures { λ r. ⌜ r ≡ textRow ⌝ }
+{
+    head_row(0, 0, Rest::Text)
+}
+
+// A T that may be left out.
+fn more_row() -> Row
+    ensures { λ r. ⌜ r ≡ moreRow ⌝ }
+{
+    Row {
+        start: 0,
+        size: 0,
+        rest: Rest::Text,
+        optional: true,
+    }
+}
 
 // A row of the table.
 pub fn row_at(k: usize) -> Row
@@ -27,46 +67,46 @@ pub fn row_at(k: usize) -> Row
     ensures { λ r. ⌜ RowAt k r ⌝ }
 {
     match k {
-        0 => Row(0, 4, Rest::Reference, false),
-        1 => Row(4, 9, Rest::Nothing, false),
-        2 => Row(13, 14, Rest::Sum, false),
-        3 => Row(27, 6, Rest::Account, false),
-        4 => Row(0, 0, Rest::Text, false),
-        5 => Row(0, 0, Rest::Text, true),
-        6 => Row(0, 0, Rest::Text, true),
-        7 => Row(33, 13, Rest::Nothing, false),
-        8 => Row(0, 0, Rest::Text, false),
-        9 => Row(46, 13, Rest::Nothing, false),
-        10 => Row(0, 0, Rest::Text, false),
-        11 => Row(59, 5, Rest::Account, false),
-        12 => Row(0, 0, Rest::Text, false),
-        13 => Row(0, 0, Rest::Text, true),
-        14 => Row(0, 0, Rest::Text, true),
-        15 => Row(158, 4, Rest::Text, false),
-        16 => Row(0, 0, Rest::Text, true),
-        17 => Row(0, 0, Rest::Text, true),
-        18 => Row(0, 0, Rest::Text, true),
-        19 => Row(64, 8, Rest::Nothing, false),
-        20 => Row(72, 15, Rest::Nothing, false),
-        21 => Row(87, 14, Rest::Name, false),
-        22 => Row(101, 8, Rest::Nothing, false),
-        23 => Row(109, 4, Rest::Reference, false),
-        24 => Row(113, 8, Rest::Sum, false),
-        25 => Row(121, 37, Rest::Nothing, false),
-        26 => Row(0, 0, Rest::Text, false),
-        27 => Row(0, 0, Rest::Text, true),
-        28 => Row(0, 0, Rest::Text, true),
-        29 => Row(0, 0, Rest::Text, true),
-        30 => Row(33, 13, Rest::Nothing, false),
-        31 => Row(0, 0, Rest::Text, false),
-        32 => Row(59, 5, Rest::Account, false),
-        33 => Row(0, 0, Rest::Text, false),
-        34 => Row(0, 0, Rest::Text, true),
-        35 => Row(0, 0, Rest::Text, true),
-        36 => Row(158, 16, Rest::Nothing, false),
-        37 => Row(174, 12, Rest::Name, false),
-        38 => Row(0, 0, Rest::Text, false),
-        _ => Row(0, 0, Rest::Text, true),
+        0 => head_row(0, 4, Rest::Reference),
+        1 => head_row(4, 9, Rest::Nothing),
+        2 => head_row(13, 14, Rest::Sum),
+        3 => head_row(27, 6, Rest::Account),
+        4 => text_row(),
+        5 => more_row(),
+        6 => more_row(),
+        7 => head_row(33, 13, Rest::Nothing),
+        8 => text_row(),
+        9 => head_row(46, 13, Rest::Nothing),
+        10 => text_row(),
+        11 => head_row(59, 5, Rest::Account),
+        12 => text_row(),
+        13 => more_row(),
+        14 => more_row(),
+        15 => head_row(158, 4, Rest::Text),
+        16 => more_row(),
+        17 => more_row(),
+        18 => more_row(),
+        19 => head_row(64, 8, Rest::Nothing),
+        20 => head_row(72, 15, Rest::Nothing),
+        21 => head_row(87, 14, Rest::Name),
+        22 => head_row(101, 8, Rest::Nothing),
+        23 => head_row(109, 4, Rest::Reference),
+        24 => head_row(113, 8, Rest::Sum),
+        25 => head_row(121, 37, Rest::Nothing),
+        26 => text_row(),
+        27 => more_row(),
+        28 => more_row(),
+        29 => more_row(),
+        30 => head_row(33, 13, Rest::Nothing),
+        31 => text_row(),
+        32 => head_row(59, 5, Rest::Account),
+        33 => text_row(),
+        34 => more_row(),
+        35 => more_row(),
+        36 => head_row(158, 16, Rest::Nothing),
+        37 => head_row(174, 12, Rest::Name),
+        38 => text_row(),
+        _ => more_row(),
     }
 }
 

@@ -1,6 +1,9 @@
 // An MT103.
 use crate::fields::amount_in;
 use crate::fields::date_in;
+use crate::names::TRANSFER_32A;
+use crate::names::TRANSFER_BAEREF;
+use crate::names::TRANSFER_ROWS;
 use crate::rows::Span;
 use crate::rows::read_rows;
 use lines::closes_at;
@@ -23,13 +26,13 @@ pub fn read_transfer(s: &[u8]) -> Transfer
     requires { ⌜ length (now s) ≤ 4096 ⌝ }
     ensures { λ r. ⌜ TransferIn (now (s .entry)) r ⌝ }
 {
-    let rows = read_rows(s, 23, 0, 23);
+    let rows = read_rows(s, 23, 0, TRANSFER_ROWS);
     let spans = rows.spans;
     if rows.ok {
         if closes_at(s, rows.next) {
-            if let Num::Value(date) = date_in(s, spans[2], 5) {
-                if let Num::Value(amount) = amount_in(s, spans[2], 14) {
-                    if let Num::Value(_) = date_in(s, spans[21], 8) {
+            if let Num::Value(date) = date_in(s, spans[TRANSFER_32A], 5) {
+                if let Num::Value(amount) = amount_in(s, spans[TRANSFER_32A], 14) {
+                    if let Num::Value(_) = date_in(s, spans[TRANSFER_BAEREF], 8) {
                         return Transfer {
                             ok: true,
                             date,

@@ -1,6 +1,7 @@
 -- Document 01, "Messages read": the fields of MT103 and MT101 as tables of rows, one row for each line.
+use mathlib.Core.Path.{_≡_, refl}
 use mathlib.Core.Bool.{Bool, true, false, _&&_, not, cond}
-use mathlib.Core.List.{List, [], _∷_, _++_}
+use mathlib.Core.List.{List, [], _∷_, _++_, map}
 use mathlib.Core.Option.{Option, none, some}
 use Prim.Native.Nat.{ℕ}
 use Prim.Native.String.{String}
@@ -35,7 +36,7 @@ fitsRest sum cs = true
 pub record Row : Type 0 where
   pub head : List ℕ
   pub rest : Rest
-  pub may : Bool
+  pub optional : Bool
 
 -- a line in the form of its row
 unfoldable pub fitsRow : Row → Line → Bool
@@ -43,7 +44,7 @@ fitsRow r l = fits (r .head) (take (length (r .head)) l) && fitsRest (r .rest) (
 
 -- a row whose line is never left out
 abbrev pub row : String → Rest → List Row
-row s r = record { head = ascii s; rest = r; may = false } ∷ []
+row s r = record { head = ascii s; rest = r; optional = false } ∷ []
 
 -- a further T, and one that may be left out
 abbrev pub textRow : List Row
@@ -51,7 +52,7 @@ textRow = row "" text
 
 -- "1 to 3 T", "1 to 4 T": a T that may be left out
 abbrev pub moreRow : List Row
-moreRow = record { head = []; rest = text; may = true } ∷ []
+moreRow = record { head = []; rest = text; optional = true } ∷ []
 
 -- "MT103: 20 R; 23B `CRED`; 32A date, C, amount; 50K account line | 1 to 3 T; 52D BAE | T; 57D BAE | T; 59 account line | 1 to 3 T; 70 1 to 4 T; 71A C; 72 `/DTYPE/PORD` | `/BAEREF/`, date, N | `/CENTRB/`."
 abbrev pub transferRows : List Row
@@ -81,6 +82,66 @@ detailRows =
     ++ (row ":59:/" account ++ textRow ++ moreRow ++ moreRow)
     ++ (row ":70:CENTRBnnnnnn" nothing ++ row "BAEREFnnnnnn" name ++ textRow ++ moreRow)
 
+-- ---- the rows that are read again have names: the form, then the field or the row's own word
+
+-- 20, the first row of either message
+abbrev pub message20 : ℕ
+message20 = 0
+
+-- of an MT103: 32A
+abbrev pub transfer32A : ℕ
+transfer32A = 2
+
+-- 59's account line
+abbrev pub transfer59 : ℕ
+transfer59 = 11
+
+-- 72's second row, `/BAEREF/`
+abbrev pub transferBaeref : ℕ
+transferBaeref = 21
+
+-- of a detail of an MT101: 21
+abbrev pub detail21 : ℕ
+detail21 = 0
+
+-- 32B
+abbrev pub detail32B : ℕ
+detail32B = 1
+
+-- 50H's account
+abbrev pub detail50H : ℕ
+detail50H = 2
+
+-- 52D's BAE
+abbrev pub detail52D : ℕ
+detail52D = 7
+
+-- 59's account line
+abbrev pub detail59 : ℕ
+detail59 = 9
+
+-- 70's first row, `CENTRB`
+abbrev pub detailCentrb : ℕ
+detailCentrb = 13
+
+-- 70's second row, `BAEREF`
+abbrev pub detailBaeref : ℕ
+detailBaeref = 14
+
+-- the heads of some rows of a form
+abbrev pub headsOf : List Row → List ℕ → List (List ℕ)
+headsOf rs ks = map (λ k. getD (map (λ r. r .head) rs) k []) ks
+
+-- each name is the row of its head
+pub named : headsOf transferRows (message20 ∷ transfer32A ∷ transfer59 ∷ transferBaeref ∷ [])
+    ++ headsOf orderRows (message20 ∷ [])
+    ++ headsOf detailRows (detail21 ∷ detail32B ∷ detail50H ∷ detail52D ∷ detail59 ∷ detailCentrb ∷ detailBaeref ∷ [])
+    ≡ map ascii (
+    ":20:" ∷ ":32A:nnnnnnaaa" ∷ ":59:/" ∷ "/BAEREF/nnnnnn"
+    ∷ ":20:"
+    ∷ ":21:" ∷ ":32B:aaa" ∷ ":50H:/ccccccccccccccccccccccPAYnnnnnn" ∷ ":52D:aaaannnn" ∷ ":59:/" ∷ ":70:CENTRBnnnnnn" ∷ "BAEREFnnnnnn" ∷ [])
+named = refl
+
 -- lines by rows, an empty one for a row that is left out, and the bytes behind them
 pub record Rowed : Type 0 where
   pub rows : List Line
@@ -98,4 +159,4 @@ rowed (r ∷ rs) cs =
     then (line cs) (λ t.
     let with = leadRows (t .line ∷ []) (rowed rs (t .others)) in
     let without = leadRows ([] ∷ []) (rowed rs cs) in
-    cond (fitsRow r (t .line)) with (cond (r .may) without none))
+    cond (fitsRow r (t .line)) with (cond (r .optional) without none))

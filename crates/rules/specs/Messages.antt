@@ -3,16 +3,21 @@ use mathlib.Core.Bool.{Bool, true, false, cond}
 use mathlib.Core.List.{List, [], _∷_, _++_}
 use mathlib.Core.Option.{Option, none, some, Option·map}
 use Prim.Native.Nat.{ℕ, zero, suc, _+_}
-use lib.ListN.{getD, take, drop}
+use Prim.Native.String.{String}
+use lib.ListN.{length, getD, take, drop}
 use Rattle.rules.specs.Text.{ascii, equal, then, given}
 use Rattle.rules.specs.Dates.{date}
 use Rattle.rules.specs.Amounts.{amount}
 use Rattle.rules.specs.Lines.{Line, closing, type, sender, body}
-use Rattle.rules.specs.Forms.{Rowed, rowed, transferRows, orderRows, detailRows}
+use Rattle.rules.specs.Forms.{Rowed, rowed, transferRows, orderRows, detailRows, message20, transfer32A, transfer59, transferBaeref, detail21, detail32B, detail50H, detail52D, detail59, detailCentrb, detailBaeref}
 
 -- the line of a row
 abbrev pub lineOf : List Line → ℕ → Line
 lineOf ls i = getD ls i []
+
+-- what stands behind a line's first bytes, as many as the pattern has
+abbrev pub past : String → Line → List ℕ
+past pattern l = drop (length (ascii pattern)) l
 
 -- ---- MT103, by `transferRows`
 
@@ -25,22 +30,32 @@ pub record Transfer : Type 0 where
 
 -- field 20
 abbrev pub field20 : List Line → List ℕ
-field20 ls = drop 4 (lineOf ls 0)
+field20 ls = past ":20:" (lineOf ls message20)
 
--- C of 32A
+-- 32A's date, C and amount
+abbrev pub date32A : List Line → List ℕ
+date32A ls = take 6 (past ":32A:" (lineOf ls transfer32A))
+
 abbrev pub currency32A : List Line → List ℕ
-currency32A ls = take 3 (drop 11 (lineOf ls 2))
+currency32A ls = take 3 (past ":32A:nnnnnn" (lineOf ls transfer32A))
+
+abbrev pub amount32A : List Line → List ℕ
+amount32A ls = past ":32A:nnnnnnaaa" (lineOf ls transfer32A)
 
 -- field 59 behind its slash
 abbrev pub account103 : List Line → List ℕ
-account103 ls = drop 5 (lineOf ls 11)
+account103 ls = past ":59:/" (lineOf ls transfer59)
+
+-- BAEREF's date
+abbrev pub baerefDate103 : List Line → List ℕ
+baerefDate103 ls = take 6 (past "/BAEREF/" (lineOf ls transferBaeref))
 
 -- 32A's date and amount, and BAEREF's date, are read from their rows
 unfoldable pub transferOf : List ℕ → List Line → Option Transfer
 transferOf from ls =
-    then (date (take 6 (drop 5 (lineOf ls 2)))) (λ d.
-    then (amount (drop 14 (lineOf ls 2))) (λ a.
-    then (date (take 6 (drop 8 (lineOf ls 21)))) (λ b.
+    then (date (date32A ls)) (λ d.
+    then (amount (amount32A ls)) (λ a.
+    then (date (baerefDate103 ls)) (λ b.
     some record { sender = from; rows = ls; date = d; amount = a })))
 
 -- ---- a detail of an MT101, by `detailRows`
@@ -53,38 +68,50 @@ pub record Detail : Type 0 where
 
 -- field 21
 abbrev pub field21 : Detail → List ℕ
-field21 d = drop 4 (lineOf (d .rows) 0)
+field21 d = past ":21:" (lineOf (d .rows) detail21)
 
 -- C of 32B
 abbrev pub currency32B : Detail → List ℕ
-currency32B d = take 3 (drop 5 (lineOf (d .rows) 1))
+currency32B d = take 3 (past ":32B:" (lineOf (d .rows) detail32B))
 
 -- 50H's account, without its code
 abbrev pub payer : Detail → List ℕ
-payer d = take 22 (drop 6 (lineOf (d .rows) 2))
+payer d = take 22 (past ":50H:/" (lineOf (d .rows) detail50H))
 
 -- 52D's BAE code
 abbrev pub branch : Detail → List ℕ
-branch d = take 8 (drop 5 (lineOf (d .rows) 7))
+branch d = take 8 (past ":52D:" (lineOf (d .rows) detail52D))
 
 -- field 59 behind its slash
 abbrev pub account59 : Detail → List ℕ
-account59 d = drop 5 (lineOf (d .rows) 9)
+account59 d = past ":59:/" (lineOf (d .rows) detail59)
 
--- BAEREF's date and its N
+-- 70's date behind BAEREF, of a detail's lines
+abbrev pub dateBaeref : List Line → List ℕ
+dateBaeref ls = take 6 (past "BAEREF" (lineOf ls detailBaeref))
+
+-- "`BAEREF`, date, N": its date
 abbrev pub baerefDate : Detail → List ℕ
-baerefDate d = take 6 (drop 6 (lineOf (d .rows) 14))
+baerefDate d = dateBaeref (d .rows)
 
 -- "`BAEREF`, date, N": its N
 abbrev pub baerefName : Detail → List ℕ
-baerefName d = drop 12 (lineOf (d .rows) 14)
+baerefName d = past "BAEREFnnnnnn" (lineOf (d .rows) detailBaeref)
+
+-- 32B's amount, of a detail's lines
+abbrev pub amount32B : List Line → List ℕ
+amount32B ls = past ":32B:aaa" (lineOf ls detail32B)
+
+-- 70's date behind CENTRB, of a detail's lines
+abbrev pub dateCentrb : List Line → List ℕ
+dateCentrb ls = take 6 (past ":70:CENTRB" (lineOf ls detailCentrb))
 
 -- 32B's amount and the dates of 70 are read from their rows
 unfoldable pub detailOf : List Line → Option Detail
 detailOf ls =
-    then (amount (drop 8 (lineOf ls 1))) (λ a.
-    then (date (take 6 (drop 10 (lineOf ls 13)))) (λ d.
-    then (date (take 6 (drop 6 (lineOf ls 14)))) (λ b.
+    then (amount (amount32B ls)) (λ a.
+    then (date (dateCentrb ls)) (λ d.
+    then (date (dateBaeref ls)) (λ b.
     some record { rows = ls; date = d; amount = a })))
 
 -- the first detail of a text, and what stands behind it

@@ -1,6 +1,7 @@
 // Reads messages and writes a line for each: `@NAME` and a line end, then the message's bytes up to the next `@`. What is written is the name and the lowest number of 1 to 8
 // that stops the message; or 0 and its parts: field 20, date and amount, or field 20, date, sum and then field 21's line and the amount of each detail.
 use conditions::Checked;
+use forms::DETAIL_21;
 use forms::Span;
 ghost use Prim.Native.Nat.{_≤_};
 ghost use lib.ListN.{length};
@@ -54,7 +55,7 @@ fn say_details(s: &[u8], amounts: &[u64; 16], first: usize, count: u8) {
             return;
         }
         let d = forms::read_detail(s, at);
-        say_part(s, d.spans[0]);
+        say_part(s, d.spans[DETAIL_21]);
         say_number(amounts[i as usize]);
         at = d.next;
         i += 1;

@@ -8,7 +8,8 @@ use lib.ListN.{length, getD, drop, set, length-set}
 use lib.Seq.{getD-set-same, getD-set-other}
 use Rattle.rules.specs.Text.{isSome}
 use Rattle.rules.specs.Messages as M
-use Rattle.rules.specs.Messages.{lineOf, account59}
+use Rattle.rules.specs.Forms.{detail52D, detail59, detailBaeref}
+use Rattle.rules.specs.Messages.{lineOf, past, account59}
 use Rattle.rules.specs.Register.{register, registerOf}
 use Rattle.rules.specs.Verdict.{verdict}
 use Rattle.register.specs.Passed.{text-count, accounts-count}
@@ -51,7 +52,7 @@ pub line-small : (text : List ℕ) (v : Verdict) (i : ℕ) → isSome (register 
 line-small text v i h l e = let n : i < length (registerOf text .accounts) = l .line i e in omega (arith, accounts-count text h, text-count text h)
 
 module _ (s places : List ℕ) (n i : ℕ) (k : LinesIn s places n) (h : i < n) (p : Span) (e : p ≡ lineAt places (3 * i + 1)) where
-  line-is : LineOf s (detailAt (detailsIn s) i) 9 p
+  line-is : LineOf s (detailAt (detailsIn s) i) detail59 p
   line-is = rw e (k .each i h .account)
 
   pub account-order : p .start ≤ p .end
@@ -62,7 +63,7 @@ module _ (s places : List ℕ) (n i : ℕ) (k : LinesIn s places n) (h : i < n) 
     account-in = behind-in s p 5 (line-is .inside) q b
 
     account-bytes : spanOf s q ≡ account59 (detailAt (detailsIn s) i)
-    account-bytes = behind-bytes s p 5 (line-is .inside) q b ∙ ap (λ (l : List ℕ). drop 5 l) (line-is .bytes)
+    account-bytes = behind-bytes s p 5 (line-is .inside) q b ∙ ap (λ (l : List ℕ). past ":59:/" l) (line-is .bytes)
 
     pub judging-next : (text : List ℕ) (v : Verdict) → verdictOf v ≡ verdict (registerOf text) (spanOf s q) → {verdicts : List ℕ} → Judging text s verdicts i → (c : ℕ) → CodeOf v c → Judging text s (set verdicts i c) (i + 1)
     judging-next text v u {verdicts} m c w =
@@ -91,15 +92,15 @@ module _ (amounts places verdicts : List ℕ) (i : ℕ) (r : Judged) (e : r ≡ 
   judged-verdict = rw e
 
   module _ (s : List ℕ) (n : ℕ) (k : LinesIn s places n) (h : i < n) where
-    pub judged-branch : LineOf s (detailAt (detailsIn s) i) 7 (r .branch)
+    pub judged-branch : LineOf s (detailAt (detailsIn s) i) detail52D (r .branch)
     unfolding judgedIn
     judged-branch = rw e (k .each i h .branch)
 
-    pub judged-account : LineOf s (detailAt (detailsIn s) i) 9 (r .account)
+    pub judged-account : LineOf s (detailAt (detailsIn s) i) detail59 (r .account)
     unfolding judgedIn
     judged-account = rw e (k .each i h .account)
 
-    pub judged-baeref : LineOf s (detailAt (detailsIn s) i) 14 (r .baeref)
+    pub judged-baeref : LineOf s (detailAt (detailsIn s) i) detailBaeref (r .baeref)
     unfolding judgedIn
     judged-baeref = rw e (k .each i h .baeref)
 
