@@ -10,7 +10,7 @@ use lib.ListN.{length}
 use borrow.Author.Tests.{eqb-true, eqb-false, leb-true, not-false}
 use Rattle.rules.specs.Text.{ascii, any, equal}
 use Rattle.rules.specs.Messages.{Message, mt103, mt101, Detail, currency32B, read, sumOf}
-use Rattle.rules.specs.Engine.{Engine, limit, isBank}
+use Rattle.rules.specs.Engine.{Engine, limit, lastBank, isBank}
 use Rattle.rules.specs.Calls.{bankOf, misdated, badSum, badAmount, overLimit, after}
 use Rattle.laws.specs.Tests.{and-right}
 use Rattle.engine_laws.specs.Facts.{or-left, or-right, any-left}
@@ -31,7 +31,7 @@ postable room e s m l r c =
     let a : Has s m = read-has s m r in
     let b : isBank (bankOf m) ≡ true = rw (a .sent) (sender-bank s (c .frame)) in record {
       book = record {
-        known = and-right (leb (bankOf m) 18446744073709551615) _ b;
+        known = and-right (leb (bankOf m) lastBank) _ b;
         small = omega (arith, bank-small (bankOf m) b);
         account = temporary-shape (e .register) (l .register);
       };

@@ -8,7 +8,7 @@ use lib.Dec.{leb, eqb}
 use borrow.Author.Tests.{leb-true, leb-false, eqb-true}
 use Rattle.rules.specs.Accounts.{ibanShape}
 use Rattle.rules.specs.Register.{registerOf}
-use Rattle.rules.specs.Engine.{Position, Engine, bic, isBank, hasDetails, kept}
+use Rattle.rules.specs.Engine.{Position, Engine, bic, lastBank, isBank, hasDetails, kept}
 use Rattle.rules.specs.Written.{Book, fromBank, toBank, corrected, isRefund, correctionPosting, correction, correctionPostings, corrections, mt204, mt205}
 use Rattle.rules.specs.Calls.{turnText}
 use Rattle.rules.specs.Ledger.{Kind, Fed, transferredOf, detailedOf}
@@ -37,7 +37,7 @@ bookOf day temporary p = record { day = day; temporary = temporary; bank = p .ke
 module _ (day : ℕ) (temporary : List ℕ) (a : ibanShape temporary ≡ true) {old : ℕ} where
   readable : {p : Position} → Good old p → Readable (bookOf day temporary p)
   unfolding isBank
-  readable {p} g = record { known = and-right (leb (p .key .bank) 18446744073709551615) _ (g .bank); small = omega (arith, bank-small (p .key .bank) (g .bank)); account = a }
+  readable {p} g = record { known = and-right (leb (p .key .bank) lastBank) _ (g .bank); small = omega (arith, bank-small (p .key .bank) (g .bank)); account = a }
 
   -- ---- messages
 

@@ -2,7 +2,7 @@
 use mathlib.Core.Path.{_≡_, refl, sym, ap, _∙_}
 use mathlib.Core.Bool.{Bool, true, false, not}
 use mathlib.Core.List.{List, []}
-use Prim.Native.Nat.{ℕ, _-_, _≤_, _<_}
+use Prim.Native.Nat.{ℕ, _-_, _*_, _^_, _≤_, _<_}
 use native.Mathlib.Omega.{arith}
 use lib.Dec.{leb, eqb}
 use lib.ListN.{length}
@@ -58,7 +58,7 @@ pub record Books (s : List ℕ) (m : Message) (b : Booking) : Type 0 where
   pub transferred : transferredBy m ≡ amountIf (b .transfer) (b .amount)
   pub detailed : detailedBy m ≡ amountIf (not (b .transfer)) (b .amount)
   pub dated : (day : ℕ) → misdated day m ≡ misdatedBy (b .transfer) (b .key .date) day
-  pub small : b .amount ≤ 160000000000000000
+  pub small : b .amount ≤ 16 * 10 ^ 16
   pub kind : KindOf m (b .amount) (b .transfer)
 
 -- ---- of any message that was read
@@ -85,7 +85,7 @@ module _ (s : List ℕ) (m : Message) (h : Has s m) where
 
 -- ---- an MT103, and an MT101
 
-pub transfer-books : (s : List ℕ) (t : Transfer) → Has s (mt103 t) → (p : Span) → SpanIn s p → spanOf s p ≡ referenceOf (mt103 t) → t .amount < 10000000000000000
+pub transfer-books : (s : List ℕ) (t : Transfer) → Has s (mt103 t) → (p : Span) → SpanIn s p → spanOf s p ≡ referenceOf (mt103 t) → t .amount < 10 ^ 16
     → Books s (mt103 t) (bookingOf s true p (t .date) (t .amount) 0)
 unfolding dateOf transferredBy detailedBy detailsOf sumOf misdated
 transfer-books s t h p w e l = record {
@@ -102,7 +102,7 @@ transfer-books s t h p w e l = record {
   kind = record { transfer = t; same = refl; sum = refl };
 }
 
-pub order-books : (s : List ℕ) (o : Order) → Has s (mt101 o) → (p : Span) → SpanIn s p → spanOf s p ≡ referenceOf (mt101 o) → {date sum count : ℕ} → date ≡ firstDate (o .details) → sum ≡ sumOf (o .details) → sum ≤ 160000000000000000
+pub order-books : (s : List ℕ) (o : Order) → Has s (mt101 o) → (p : Span) → SpanIn s p → spanOf s p ≡ referenceOf (mt101 o) → {date sum count : ℕ} → date ≡ firstDate (o .details) → sum ≡ sumOf (o .details) → sum ≤ 16 * 10 ^ 16
     → Books s (mt101 o) (bookingOf s false p date sum count)
 unfolding dateOf transferredBy detailedBy detailsOf misdated
 order-books s o h p w e d f l = record {

@@ -3,7 +3,7 @@ use mathlib.Core.Path.{_≡_, refl, sym, ap, _∙_}
 use mathlib.Core.Bool.{Bool, true, false, cond}
 use mathlib.Core.List.{List, [], _∷_, _++_, append-assoc}
 use mathlib.Core.Option.{Option, none, some, Option·map}
-use Prim.Native.Nat.{ℕ, suc, _+_, _-_, _*_, _≤_, _<_, min}
+use Prim.Native.Nat.{ℕ, suc, _+_, _-_, _*_, _^_, _≤_, _<_, min}
 use native.Mathlib.Omega.{arith}
 use lib.Dec.{leb, eqb}
 use lib.ListN.{length, getD, take}
@@ -40,13 +40,13 @@ dayOf n day date = cond (eqb n 0) date day
 -- r is the sum with the amount a, and no more than as many of the largest amounts
 pub record Raised (n sum a r : ℕ) : Type 0 where
   pub value : r ≡ sumTo n sum a
-  pub bound : r ≤ (n + 1) * 10000000000000000
+  pub bound : r ≤ (n + 1) * 10 ^ 16
 
-pub raised-more : (n sum a : ℕ) → sum ≤ n * 10000000000000000 → a < 10000000000000000 → n < 16 → Raised n sum a (sum + a)
+pub raised-more : (n sum a : ℕ) → sum ≤ n * 10 ^ 16 → a < 10 ^ 16 → n < 16 → Raised n sum a (sum + a)
 unfolding sumTo
 raised-more n sum a h k l = record { value = rw (lt-leb 16 n l); bound = omega arith }
 
-pub raised-kept : (n sum a : ℕ) → sum ≤ n * 10000000000000000 → 16 ≤ n → Raised n sum a sum
+pub raised-kept : (n sum a : ℕ) → sum ≤ n * 10 ^ 16 → 16 ≤ n → Raised n sum a sum
 unfolding sumTo
 raised-kept n sum a h l = record { value = rw (le-leb 16 n l); bound = omega arith }
 
@@ -65,7 +65,7 @@ pub record After (s : List ℕ) (t : Tally) (d : Detail) (r : Tally) : Type 0 wh
   pub ok : r .ok ≡ true
   pub count : r .count ≡ t .count + 1
   pub sum : r .sum ≡ sumTo (t .count) (t .sum) (d .amount)
-  pub bound : r .sum ≤ r .count * 10000000000000000
+  pub bound : r .sum ≤ r .count * 10 ^ 16
   pub date : r .date ≡ dayOf (t .count) (t .date) (d .date)
   pub low : r .low ≡ min (t .low) (detailStop s (r .date) d)
 
@@ -83,7 +83,7 @@ pub record KeepsFirst (n : ℕ) (d : Detail) (amounts places fields amounts' pla
 pub record Told (s : List ℕ) (ds : List M.Detail) (t : Tally) (amounts places fields : List ℕ) : Type 0 where
   pub count : t .count ≡ length ds
   pub sum : t .sum ≡ sumOf (take 16 ds)
-  pub bound : t .sum ≤ t .count * 10000000000000000
+  pub bound : t .sum ≤ t .count * 10 ^ 16
   pub date : t .date ≡ firstDate ds
   pub low : t .low ≡ lowestAny (sender s) (firstDate ds) ds
   pub kept : Kept s ds amounts places
@@ -204,7 +204,7 @@ nothing-there : (s : List ℕ) (at : ℕ) {t : Tally} {amounts places fields : L
 nothing-there s at e f = record { none-there = λ _. f; all-there = λ g. never (sym e ∙ g) }
 
 module _ (s : List ℕ) (at pos : ℕ) (t : Tally) {amounts places fields : List ℕ} (m : Walking s at pos t amounts places fields) where
-  pub walk-bound : t .sum ≤ t .count * 10000000000000000
+  pub walk-bound : t .sum ≤ t .count * 10 ^ 16
   walk-bound = m .told .bound
 
   module _ {x : Tally} (n : x .ok ≡ false) {amounts' places' fields' : List ℕ} where

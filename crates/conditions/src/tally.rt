@@ -8,7 +8,7 @@ use forms::behind;
 use forms::read_detail;
 use lines::closes_at;
 ghost use mathlib.Core.Path.{_≡_};
-ghost use Prim.Native.Nat.{_*_, _<_, _≤_, min};
+ghost use Prim.Native.Nat.{_*_, _^_, _<_, _≤_, min};
 ghost use lib.ListN.{length, getD};
 ghost use Rattle.rules.specs.Forms.{detail21};
 ghost use Rattle.forms.specs.Spans.{noSpan, Within};
@@ -26,8 +26,8 @@ pub struct Tally {
 
 // The sum with the amount of one more detail, n being before it: there are not to be more than 16.
 fn raised(n: u32, sum: u64, amount: u64) -> u64
-    requires { ⌜ sum ≤ n * 10000000000000000 ⌝ }
-    requires { ⌜ amount < 10000000000000000 ⌝ }
+    requires { ⌜ sum ≤ n * 10 ^ 16 ⌝ }
+    requires { ⌜ amount < 10 ^ 16 ⌝ }
     ensures { λ r. ⌜ Raised n sum amount r ⌝ }
 {
     if n < 16 {
@@ -60,8 +60,8 @@ fn least(a: u32, b: u32) -> u32
 fn after(s: &[u8], t: Tally, d: Detail) -> Tally
     requires { ⌜ Within (now s) (d .spans) ⌝ }
     requires { ⌜ t .count < 4096 ⌝ }
-    requires { ⌜ t .sum ≤ t .count * 10000000000000000 ⌝ }
-    requires { ⌜ d .amount < 10000000000000000 ⌝ }
+    requires { ⌜ t .sum ≤ t .count * 10 ^ 16 ⌝ }
+    requires { ⌜ d .amount < 10 ^ 16 ⌝ }
     ensures { λ r. ⌜ After (now (s .entry)) t d r ⌝ }
 {
     let date = day_of(t.count, t.date, d.date);

@@ -3,7 +3,7 @@ use mathlib.Core.Path.{_≡_, refl}
 use mathlib.Core.Bool.{true, false, cond}
 use mathlib.Core.List.{List}
 use mathlib.Core.Option.{Option, none, some}
-use Prim.Native.Nat.{ℕ, _≤_, _<_}
+use Prim.Native.Nat.{ℕ, _^_, _≤_, _<_}
 use native.Mathlib.Omega.{arith}
 use lib.ListN.{length}
 use Rattle.rules.specs.Dates.{date}
@@ -32,7 +32,7 @@ pub record DetailAt (s : List ℕ) (at : ℕ) (r : Detail) : Type 0 where
   pub same : detailedOf s r ≡ detailed (from s at)
   pub next : r .next ≤ length s
   pub within : Within s (r .spans)
-  pub small : r .amount < 10000000000000000
+  pub small : r .amount < 10 ^ 16
 
 detail-rows : part 23 17 ≡ detailRows
 unfolding part table

@@ -2,7 +2,7 @@
 use mathlib.Core.Path.{_≡_, refl, sym, ap, _∙_}
 use mathlib.Core.List.{List}
 use mathlib.Core.Option.{Option, none, some}
-use Prim.Native.Nat.{ℕ, _<_}
+use Prim.Native.Nat.{ℕ, _^_, _<_}
 use lib.ListN.{getD, take, drop}
 use Rattle.rules.specs.Text.{then}
 use Rattle.rules.specs.Dates.{date}
@@ -22,7 +22,7 @@ abbrev pub dateIn : List ℕ → List Span → ℕ → ℕ → Option ℕ
 dateIn s l k n = date (take 6 (drop n (spanOf s (getD l k noSpan))))
 
 -- an amount that was read is small
-pub sum-small : (q : Num) (cs : List ℕ) (n : ℕ) → numOf q ≡ amount cs → q ≡ Value n → n < 10000000000000000
+pub sum-small : (q : Num) (cs : List ℕ) (n : ℕ) → numOf q ≡ amount cs → q ≡ Value n → n < 10 ^ 16
 sum-small q cs n e h = amount-small cs n (sym e ∙ ap numOf h)
 
 -- what f makes of three numbers, where each is there

@@ -3,7 +3,7 @@ use mathlib.Core.Path.{_≡_, refl}
 use mathlib.Core.Bool.{Bool, true, false, cond}
 use mathlib.Core.List.{List}
 use mathlib.Core.Option.{Option, none, some}
-use Prim.Native.Nat.{ℕ, _<_}
+use Prim.Native.Nat.{ℕ, _^_, _<_}
 use native.Mathlib.Omega.{arith}
 use Rattle.rules.specs.Text.{then, given}
 use Rattle.rules.specs.Lines.{closing, sender, body}
@@ -30,7 +30,7 @@ messageHeld s r = cond (r .ok) (some (mt103 (transferHeld s r))) none
 pub record TransferIn (s : List ℕ) (r : Transfer) : Type 0 where
   pub same : messageHeld s r ≡ readTransfer s
   pub within : Within s (r .spans)
-  pub small : r .amount < 10000000000000000
+  pub small : r .amount < 10 ^ 16
 
 transfer-rows : part 0 23 ≡ transferRows
 unfolding part table

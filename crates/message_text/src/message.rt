@@ -12,7 +12,7 @@ use state_conditions::detailed_by;
 use state_conditions::transferred_by;
 ghost use mathlib.Core.Path.{_≡_};
 ghost use mathlib.Core.Bool.{true};
-ghost use Prim.Native.Nat.{_≤_, _<_};
+ghost use Prim.Native.Nat.{_*_, _^_, _≤_, _<_};
 ghost use Rattle.rules.specs.Text.{isSome};
 ghost use Rattle.rules.specs.Calls.{after};
 ghost use Rattle.rules.specs.Area.{decode, holds};
@@ -24,9 +24,9 @@ ghost use Rattle.message_text.specs.Message.{AfterOf, WritesOf, Writes, 
 
 // The position as the message leaves it, from its totals before.
 pub fn position_after(b: Booking, x: Totals) -> Position
-    requires { ⌜ x .transferred < 281474976710656 ⌝ }
-    requires { ⌜ x .detailed < 281474976710656 ⌝ }
-    requires { ⌜ b .amount ≤ 160000000000000000 ⌝ }
+    requires { ⌜ x .transferred < 2 ^ 48 ⌝ }
+    requires { ⌜ x .detailed < 2 ^ 48 ⌝ }
+    requires { ⌜ b .amount ≤ 16 * 10 ^ 16 ⌝ }
     ensures { λ r. ⌜ AfterOf b x r ⌝ }
 {
     let key = b.key;

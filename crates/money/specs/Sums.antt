@@ -155,11 +155,11 @@ levs-bound (c ∷ cs) v n h = go (isDigit c) (eqb c 44) refl h (levs-bound cs (v
     go false true d g f = let p : 10 ^ 2 ≤ 10 ^ suc (suc (length cs)) = pow-le-pow-right (omega arith) {i = 2} {j = suc (suc (length cs))} (omega arith) in lt-of-lt-of-le (decimals-bound cs v n g) (mul-le-mul-left (suc v) p)
     go false false d g f = absurd (let z : _≡_ {A = ℕ} 0 1 = cc in omega arith)
 
-pub amount-small : (cs : List ℕ) (n : ℕ) → amount cs ≡ some n → n < 10000000000000000
+pub amount-small : (cs : List ℕ) (n : ℕ) → amount cs ≡ some n → n < 10 ^ 16
 unfolding amount
 amount-small cs n h = go (leb (length cs) 15) (isDigit (getD cs 0 0)) refl h
   where
-    go : (t u : Bool) → leb (length cs) 15 ≡ t → cond (t && u) (levs 0 cs) none ≡ some n → n < 10000000000000000
+    go : (t u : Bool) → leb (length cs) 15 ≡ t → cond (t && u) (levs 0 cs) none ≡ some n → n < 10 ^ 16
     go true true l g =
         let k : length cs ≤ 15 = leb-true _ _ l in
         let b : n < 1 * 10 ^ suc (length cs) = levs-bound cs 0 n g in

@@ -6,7 +6,7 @@ use crate::parts::put_part;
 use crate::parts::put_same;
 use crate::parts::step;
 ghost use mathlib.Core.Path.{_≡_};
-ghost use Prim.Native.Nat.{_-_, _<_};
+ghost use Prim.Native.Nat.{_-_, _^_, _<_};
 ghost use Rattle.rules.specs.Text.{fixed, bytes, decimal};
 ghost use Rattle.laws.specs.Writing.{Wrote, filled};
 ghost use Rattle.put.specs.Groups.{lastOf};
@@ -50,7 +50,7 @@ fn put_eight(out: &mut [u8], at: usize, k: usize, v: u32) -> usize
 
 // A number of sixteen digits at most in k digits.
 fn put_sixteen(out: &mut [u8], at: usize, k: usize, v: u64) -> usize
-    requires { ⌜ v < 10000000000000000 ⌝ }
+    requires { ⌜ v < 10 ^ 16 ⌝ }
     ensures { λ r. ⌜ Wrote (fixed k v) at (now (out .entry)) r (now (out .exit)) ⌝ }
 {
     if v < 100000000 {

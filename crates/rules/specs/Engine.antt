@@ -1,7 +1,7 @@
 -- Document 01, "Register and opening", "Positions and turn" and condition 10: the engine and its limits.
 use mathlib.Core.Bool.{Bool, true, false, _&&_, _||_, not, cond}
 use mathlib.Core.List.{List, [], _∷_}
-use Prim.Native.Nat.{ℕ, _+_, _*_}
+use Prim.Native.Nat.{ℕ, _+_, _-_, _*_, _^_}
 use lib.Dec.{leb, eqb}
 use lib.ListN.{length, getD}
 use Rattle.rules.specs.Text.{isText, run, equal, bytes, isSome, any, ordered, textBefore}
@@ -41,9 +41,13 @@ limit = 99999999999999
 abbrev pub bic : ℕ → List ℕ
 bic bank = bytes 8 bank
 
+-- the highest number of eight bytes
+abbrev pub lastBank : ℕ
+lastBank = 2 ^ 64 - 1
+
 -- a number that is a bank's: eight bytes that are a BIC
 unfoldable pub isBank : ℕ → Bool
-isBank bank = leb bank 18446744073709551615 && isBic (bic bank)
+isBank bank = leb bank lastBank && isBic (bic bank)
 
 -- ---- positions, kept "by BIC in byte order and then date"
 

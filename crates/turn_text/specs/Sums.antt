@@ -2,7 +2,7 @@
 use mathlib.Core.Path.{_≡_, refl, subst, sym, ap, _∙_}
 use mathlib.Core.Bool.{Bool, true, false, cond}
 use mathlib.Core.List.{List, [], _∷_}
-use Prim.Native.Nat.{ℕ, suc, _+_, _-_, _*_, _≤_, _<_}
+use Prim.Native.Nat.{ℕ, suc, _+_, _-_, _*_, _^_, _≤_, _<_}
 use native.Mathlib.Omega.{arith}
 use lib.Dec.{leb}
 use borrow.Author.Tests.{le-leb}
@@ -84,8 +84,8 @@ pub record SumsLeft (area : List ℕ) (i k n : ℕ) (s : Sums) : Type 0 where
   pub place : i + k ≡ n
   pub refunded : s .refunded + refunded (positionsFrom area i k) ≡ refunded (positionsFrom area 0 n)
   pub collected : s .collected + collected (positionsFrom area i k) ≡ collected (positionsFrom area 0 n)
-  pub small : s .refunded + 281474976710656 * k ≤ 281474976710656 * n
-  pub little : s .collected + 281474976710656 * k ≤ 281474976710656 * n
+  pub small : s .refunded + 2 ^ 48 * k ≤ 2 ^ 48 * n
+  pub little : s .collected + 2 ^ 48 * k ≤ 2 ^ 48 * n
 
 module _ (p : Position) (ps : List Position) where
   refunded-first : refunded (p ∷ ps) ≡ refundOf p + refunded ps

@@ -4,7 +4,7 @@ use engine::nth_position;
 use position::Position;
 ghost use mathlib.Core.Path.{_≡_};
 ghost use mathlib.Core.Bool.{true};
-ghost use Prim.Native.Nat.{_-_, _+_, _<_, _≤_};
+ghost use Prim.Native.Nat.{_-_, _+_, _^_, _<_, _≤_};
 ghost use lib.ListN.{length};
 ghost use Rattle.rules.specs.Text.{isSome};
 ghost use Rattle.rules.specs.Area.{decode, holds, textsPlace};
@@ -30,8 +30,8 @@ fn above(a: u64, b: u64) -> u64
 
 // The sums with one position more.
 fn with_position(s: Sums, p: Position) -> Sums
-    requires { ⌜ s .refunded + p .transferred < 18446744073709551616 ⌝ }
-    requires { ⌜ s .collected + p .detailed < 18446744073709551616 ⌝ }
+    requires { ⌜ s .refunded + p .transferred < 2 ^ 64 ⌝ }
+    requires { ⌜ s .collected + p .detailed < 2 ^ 64 ⌝ }
     ensures { λ r. ⌜ Adds (positionValue p) s r ⌝ }
 {
     if p.detailed == 0 {
