@@ -44,7 +44,16 @@ loop-less : tie.Need-loop-less Inv-loop μ-loop
 loop-less c = search (returning, needs)
 
 loop-again : tie.Need-loop-again Inv-loop μ-loop
-loop-again c = (search needs, passing-more _ _ _ _ _ _ _ ((c .before .before .before .before .before .before .before .before .before .loop .inv .1)) _ _ ((c .before .before .before .before .before .before .before .before .loop-test .taken)) _ ((c .before .before .before .before .before .before .judged-at .ensures)) _ ((c .before .before .before .before .before .is-returned .ensures)) ((c .before .before .before .before .if2 .taken)) ((c .before .before .before .before .before .before .before .if1 .left)), rows-more _ _ _ _ _ ((c .before .before .before .before .before .before .before .before .before .loop .inv .2)) _ _ ((c .before .before .before .before .before .before .before .before .before .before .before .before .pre .0)) ((c .before .before .before .before .before .before .before .before .loop-test .taken)) _ ((c .before .before .before .before .before .before .judged-at .ensures)) _ ((c .before .before .before .before .before .is-returned .ensures)) ((c .before .before .before .before .if2 .taken)) ((c .before .before .before .before .before .before .before .if1 .left)) ((c .before .before .put-returned-rows .ensures)))
+loop-again c =
+    let rows = c .before .before in
+    let second = rows .before .before in
+    let returned = second .before in
+    let judged = returned .before in
+    let first = judged .before in
+    let test = first .before in
+    let turn = test .before in
+    let start = turn .before .before .before in
+    (search needs, passing-more _ _ _ _ _ _ _ (turn .loop .inv .1) _ _ (test .loop-test .taken) _ (judged .judged-at .ensures) _ (returned .is-returned .ensures) (second .if2 .taken) (first .if1 .left), rows-more _ _ _ _ _ (turn .loop .inv .2) _ _ (start .pre .0) (test .loop-test .taken) _ (judged .judged-at .ensures) _ (returned .is-returned .ensures) (second .if2 .taken) (first .if1 .left) (rows .put-returned-rows .ensures))
 
 add-i-2 : tie.Need-add-i-2 Inv-loop μ-loop
 add-i-2 c = search (returning, needs)
@@ -53,7 +62,13 @@ loop-less-2 : tie.Need-loop-less-2 Inv-loop μ-loop
 loop-less-2 c = search (returning, needs)
 
 loop-again-2 : tie.Need-loop-again-2 Inv-loop μ-loop
-loop-again-2 c = (search needs, passing-on _ _ _ _ _ _ _ ((c .before .before .before .before .before .loop .inv .1)) _ _ ((c .before .before .before .before .loop-test .taken)) _ ((c .before .before .judged-at .ensures)) _ ((c .before .is-returned .ensures)) ((c .if2 .left)), rows-pass _ _ _ _ ((c .before .before .before .before .before .loop .m)) ((c .before .before .before .before .before .loop .inv .2)) _ _ ((c .before .before .before .before .before .before .before .before .pre .0)) ((c .before .before .before .before .loop-test .taken)) _ ((c .before .before .judged-at .ensures)) _ ((c .before .is-returned .ensures)) ((c .if2 .left)))
+loop-again-2 c =
+    let returned = c .before in
+    let judged = returned .before in
+    let test = judged .before .before in
+    let turn = test .before in
+    let start = turn .before .before .before in
+    (search needs, passing-on _ _ _ _ _ _ _ (turn .loop .inv .1) _ _ (test .loop-test .taken) _ (judged .judged-at .ensures) _ (returned .is-returned .ensures) (c .if2 .left), rows-pass _ _ _ _ (turn .loop .m) (turn .loop .inv .2) _ _ (start .pre .0) (test .loop-test .taken) _ (judged .judged-at .ensures) _ (returned .is-returned .ensures) (c .if2 .left))
 
 same-length-2 : tie.Need-same-length-2 Inv-loop μ-loop
 same-length-2 c = search (returning, needs)

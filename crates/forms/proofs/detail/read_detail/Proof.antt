@@ -36,7 +36,12 @@ enum-told : tie.Need-enum-told
 enum-told c = search (detailing, needs)
 
 returns : tie.Need-returns
-returns c = let k = detail-three _ _ _ (c .before .before .before .before .before .before .before .before .before .before .before .before .before .before .before .before .read-rows .ensures) (c .before .before .before .before .before .before .before .before .before .before .before .before .before .before .if1 .taken) in search (detailing, needs)
+returns c =
+    let k = (
+    let held = c .before .before .before .before .before .before .before .before .before .before .before .before .before .before in
+    let rows = held .before .before in
+    detail-three _ _ _ (rows .read-rows .ensures) (held .if1 .taken)) in
+    search (detailing, needs)
 
 enum-told-2 : tie.Need-enum-told-2
 enum-told-2 c = search (detailing, needs)
@@ -48,13 +53,28 @@ enum-told-4 : tie.Need-enum-told-4
 enum-told-4 c = search (detailing, needs)
 
 returns-2 : tie.Need-returns-2
-returns-2 c = let k = detail-three _ _ _ (c .before .before .before .before .before .before .before .before .before .before .before .before .before .before .before .before .read-rows .ensures) (c .before .before .before .before .before .before .before .before .before .before .before .before .before .before .if1 .taken) in search (detailing, needs)
+returns-2 c =
+    let k = (
+    let held = c .before .before .before .before .before .before .before .before .before .before .before .before .before .before in
+    let rows = held .before .before in
+    detail-three _ _ _ (rows .read-rows .ensures) (held .if1 .taken)) in
+    search (detailing, needs)
 
 returns-3 : tie.Need-returns-3
-returns-3 c = let k = detail-three _ _ _ (c .before .before .before .before .before .before .before .before .before .before .before .read-rows .ensures) (c .before .before .before .before .before .before .before .before .before .if1 .taken) in search (detailing, needs)
+returns-3 c =
+    let k = (
+    let held = c .before .before .before .before .before .before .before .before .before in
+    let rows = held .before .before in
+    detail-three _ _ _ (rows .read-rows .ensures) (held .if1 .taken)) in
+    search (detailing, needs)
 
 returns-4 : tie.Need-returns-4
-returns-4 c = let k = detail-three _ _ _ (c .before .before .before .before .before .before .read-rows .ensures) (c .before .before .before .before .if1 .taken) in search (detailing, needs)
+returns-4 c =
+    let k = (
+    let held = c .before .before .before .before in
+    let rows = held .before .before in
+    detail-three _ _ _ (rows .read-rows .ensures) (held .if1 .taken)) in
+    search (detailing, needs)
 
 returns-5 : tie.Need-returns-5
 returns-5 c = search (detailing, needs)

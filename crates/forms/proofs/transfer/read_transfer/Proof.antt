@@ -40,7 +40,14 @@ enum-told : tie.Need-enum-told
 enum-told c = search (transferring, needs)
 
 returns : tie.Need-returns
-returns c = let k = transfer-three _ _ (c .before .before .before .before .before .before .before .before .before .before .before .before .before .before .before .before .before .before .read-rows .ensures) (c .before .before .before .before .before .before .before .before .before .before .before .before .before .before .before .before .if1 .taken) _ (c .before .before .before .before .before .before .before .before .before .before .before .before .before .before .before .closes-at .ensures) (c .before .before .before .before .before .before .before .before .before .before .before .before .before .before .if2 .taken) in search (transferring, needs)
+returns c =
+    let k = (
+    let closed = c .before .before .before .before .before .before .before .before .before .before .before .before .before .before in
+    let closing = closed .before in
+    let held = closing .before in
+    let rows = held .before .before in
+    transfer-three _ _ (rows .read-rows .ensures) (held .if1 .taken) _ (closing .closes-at .ensures) (closed .if2 .taken)) in
+    search (transferring, needs)
 
 enum-told-2 : tie.Need-enum-told-2
 enum-told-2 c = search (transferring, needs)
@@ -52,13 +59,34 @@ enum-told-4 : tie.Need-enum-told-4
 enum-told-4 c = search (transferring, needs)
 
 returns-2 : tie.Need-returns-2
-returns-2 c = let k = transfer-three _ _ (c .before .before .before .before .before .before .before .before .before .before .before .before .before .before .before .before .before .before .read-rows .ensures) (c .before .before .before .before .before .before .before .before .before .before .before .before .before .before .before .before .if1 .taken) _ (c .before .before .before .before .before .before .before .before .before .before .before .before .before .before .before .closes-at .ensures) (c .before .before .before .before .before .before .before .before .before .before .before .before .before .before .if2 .taken) in search (transferring, needs)
+returns-2 c =
+    let k = (
+    let closed = c .before .before .before .before .before .before .before .before .before .before .before .before .before .before in
+    let closing = closed .before in
+    let held = closing .before in
+    let rows = held .before .before in
+    transfer-three _ _ (rows .read-rows .ensures) (held .if1 .taken) _ (closing .closes-at .ensures) (closed .if2 .taken)) in
+    search (transferring, needs)
 
 returns-3 : tie.Need-returns-3
-returns-3 c = let k = transfer-three _ _ (c .before .before .before .before .before .before .before .before .before .before .before .before .before .read-rows .ensures) (c .before .before .before .before .before .before .before .before .before .before .before .if1 .taken) _ (c .before .before .before .before .before .before .before .before .before .before .closes-at .ensures) (c .before .before .before .before .before .before .before .before .before .if2 .taken) in search (transferring, needs)
+returns-3 c =
+    let k = (
+    let closed = c .before .before .before .before .before .before .before .before .before in
+    let closing = closed .before in
+    let held = closing .before in
+    let rows = held .before .before in
+    transfer-three _ _ (rows .read-rows .ensures) (held .if1 .taken) _ (closing .closes-at .ensures) (closed .if2 .taken)) in
+    search (transferring, needs)
 
 returns-4 : tie.Need-returns-4
-returns-4 c = let k = transfer-three _ _ (c .before .before .before .before .before .before .before .before .read-rows .ensures) (c .before .before .before .before .before .before .if1 .taken) _ (c .before .before .before .before .before .closes-at .ensures) (c .before .before .before .before .if2 .taken) in search (transferring, needs)
+returns-4 c =
+    let k = (
+    let closed = c .before .before .before .before in
+    let closing = closed .before in
+    let held = closing .before in
+    let rows = held .before .before in
+    transfer-three _ _ (rows .read-rows .ensures) (held .if1 .taken) _ (closing .closes-at .ensures) (closed .if2 .taken)) in
+    search (transferring, needs)
 
 returns-5 : tie.Need-returns-5
 returns-5 c = search (transferring, needs)

@@ -16,7 +16,9 @@ detailed-by-requires : tie.Need-detailed-by-requires
 detailed-by-requires c κs = search needs
 
 add-t7 : tie.Need-add-t7
-add-t7 c = omega (arith, amount-part (not ((c .before .before .before .before .before .args .b .transfer))) ((c .before .before .before .before .before .args .b .amount)))
+add-t7 c =
+    let start = c .before .before .before .before .before in
+    omega (arith, amount-part (not (start .args .b .transfer)) (start .args .b .amount))
 
 returns : tie.Need-returns
 returns c = search needs

@@ -18,13 +18,22 @@ cast-put-parts : tie.Need-cast-put-parts
 cast-put-parts c = search (messages, needs)
 
 put-parts-requires : tie.Need-put-parts-requires
-put-parts-requires c κs = let p = (c .before .before .before .before .before .before .before .before .before .before .before .pre) in record { lines = p .1 .1 .0 .lines-kept; low = omega (arith, (c .before .before .before .before .before .before .before .header-of .ensures .small)); small = p .1 .1 .1 .1 .few }
+put-parts-requires c κs =
+    let header = c .before .before .before .before .before .before .before in
+    let start = header .before .before .before .before in
+    record { lines = start .pre .1 .1 .0 .lines-kept; low = omega (arith, (header .header-of .ensures .small)); small = start .pre .1 .1 .1 .1 .few }
 
 same-length : tie.Need-same-length
 same-length c = search (messages, needs)
 
 returns : tie.Need-returns
-returns c = let p = (c .before .before .before .before .before .before .before .before .before .before .before .before .before .before .pre) in message-wrote _ _ _ (c .before .before .before .before .before .before .before .before .register-text .ensures) (p .1 .1 .0) _ (c .before .before .before .before .before .before .before .before .before .before .header-of .ensures) _ (p .1 .0) _ (p .1 .1 .1 .0) _ (p .1 .1 .1 .1) (c .before .before .before .before .before .before .before .put-postings .ensures) (c .before .before .put-parts .ensures)
+returns c =
+    let parts = c .before .before in
+    let postings = parts .before .before .before .before .before in
+    let register = postings .before in
+    let header = register .before .before in
+    let start = header .before .before .before .before in
+    message-wrote _ _ _ (register .register-text .ensures) (start .pre .1 .1 .0) _ (header .header-of .ensures) _ (start .pre .1 .0) _ (start .pre .1 .1 .1 .0) _ (start .pre .1 .1 .1 .1) (postings .put-postings .ensures) (parts .put-parts .ensures)
 
 pub put-message-text-spec : {M : Type 1} → statement M
 put-message-text-spec =

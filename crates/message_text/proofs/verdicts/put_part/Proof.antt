@@ -33,7 +33,14 @@ same-length : tie.Need-same-length
 same-length c = search (parting, needs)
 
 returns : tie.Need-returns
-returns c = part-wrote _ _ _ _ _ _ _ ((c .before .before .before .before .before .before .before .before .before .before .before .before .before .before .before .before .before .before .before .before .before .pre)) ((c .before .before .before .before .before .before .before .before .before .before .before .before .before .before .before .before .before .first-number .ensures)) ((c .before .before .before .before .before .before .before .before .before .before .before .before .before .before .before .put-opened199 .ensures)) ((c .before .before .before .before .before .before .before .before .before .before .before .put-position79 .ensures)) ((c .before .before .before .before .before .before .before .put-returned .ensures)) ((c .before .before .before .put-closed79 .ensures))
+returns c =
+    let closed = c .before .before .before in
+    let returned = closed .before .before .before .before in
+    let position = returned .before .before .before .before in
+    let opened = position .before .before .before .before in
+    let number = opened .before .before in
+    let start = number .before .before .before .before in
+    part-wrote _ _ _ _ _ _ _ (start .pre) (number .first-number .ensures) (opened .put-opened199 .ensures) (position .put-position79 .ensures) (returned .put-returned .ensures) (closed .put-closed79 .ensures)
 
 pub put-part-spec : {M : Type 1} → statement M
 put-part-spec =

@@ -41,7 +41,13 @@ same-length : tie.Need-same-length
 same-length c = search (writing, needs)
 
 returns-2 : tie.Need-returns-2
-returns-2 c = amount-wrote _ _ _ (c .before .before .before .before .before .before .before .before .before .before .before .before .before .before .before .before .width-levs .ensures .0) _ _ refl (c .before .before .before .before .before .before .before .before .before .before .before .before .before .before .eight .ensures) (c .before .before .before .before .before .before .before .before .before .before .before .put-levs .ensures) (c .before .before .before .before .before .before .before .put-byte .ensures) (c .before .before .put-part .ensures)
+returns-2 c =
+    let decimals = c .before .before in
+    let mark = decimals .before .before .before .before .before in
+    let levs = mark .before .before .before .before in
+    let eight = levs .before .before .before in
+    let width = eight .before .before in
+    amount-wrote _ _ _ (width .width-levs .ensures .0) _ _ refl (eight .eight .ensures) (levs .put-levs .ensures) (mark .put-byte .ensures) (decimals .put-part .ensures)
 
 pub put-amount-spec : {M : Type 1} → statement M
 put-amount-spec =

@@ -34,7 +34,13 @@ same-length c = search needs
 
 returns : tie.Need-returns
 unfolding field72
-returns c = wrote-5 (c .before .before .before .before .before .before .before .before .before .before .before .before .before .before .before .before .before .before .before .before .before .put-baeref .ensures) (c .before .before .before .before .before .before .before .before .before .before .before .before .before .before .before .before .put-date-field .ensures) (c .before .before .before .before .before .before .before .before .before .before .before .put-bytes .ensures) (c .before .before .before .before .before .before .put-amount-field .ensures) (c .before .before .put-detailed-row .ensures)
+returns c =
+    let detailed = c .before .before in
+    let amount = detailed .before .before .before .before in
+    let bytes = amount .before .before .before .before .before in
+    let date = bytes .before .before .before .before .before in
+    let baeref = date .before .before .before .before .before in
+    wrote-5 (baeref .put-baeref .ensures) (date .put-date-field .ensures) (bytes .put-bytes .ensures) (amount .put-amount-field .ensures) (detailed .put-detailed-row .ensures)
 
 pub put-field72-spec : {M : Type 1} → statement M
 put-field72-spec =
