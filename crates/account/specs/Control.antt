@@ -1,5 +1,5 @@
 -- The control of an IBAN: a number carried along sign by sign that has the remainder by 97 of the whole, and a law for each way that the code goes.
--- Assumes nothing.
+--
 use mathlib.Core.Path.{_≡_, refl, sym, ap, _∙_}
 use mathlib.Core.Bool.{Bool, true, false, _&&_, _||_, cond}
 use mathlib.Core.List.{List, [], _∷_, _++_}

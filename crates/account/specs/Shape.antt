@@ -1,4 +1,4 @@
--- The shapes of a BIC and an IBAN in runs of one class, and what a right shape tells of each run. Assumes nothing.
+-- The shapes of a BIC and an IBAN in runs of one class, and what a right shape tells of each run.
 use mathlib.Core.Path.{_≡_, refl, sym, ap, _∙_}
 use mathlib.Core.Bool.{Bool, true, false, _&&_, cond}
 use mathlib.Core.List.{List, [], _∷_}

@@ -1,4 +1,4 @@
--- The accounts that posting lines name are IBANs: the temporary account of a register that passed 9, and the account of a detail that is credited. Assumes nothing.
+-- The accounts that posting lines name are IBANs: the temporary account of a register that passed 9, and the account of a detail that is credited.
 use mathlib.Core.Path.{_≡_, refl}
 use mathlib.Core.Bool.{Bool, true, false, not, cond}
 use mathlib.Core.List.{List, [], _∷_}

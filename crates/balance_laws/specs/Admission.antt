@@ -1,4 +1,4 @@
--- What is known of an accepted message: its posting lines can be read back, it is dated as 11 asks, and its details are worth something. Assumes nothing.
+-- What is known of an accepted message: its posting lines can be read back, it is dated as 11 asks, and its details are worth something.
 use mathlib.Core.Path.{_≡_}
 use mathlib.Core.Bool.{true, false, not}
 use mathlib.Core.List.{List, [], _∷_}

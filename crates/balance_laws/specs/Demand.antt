@@ -1,4 +1,4 @@
--- Demand 3, over any list of message and turn calls behind an accepted opening: by induction on the list, since each call leaves a running card and settles. Assumes nothing.
+-- Demand 3, over any list of message and turn calls behind an accepted opening: by induction on the list, since each call leaves a running card and settles.
 use mathlib.Core.Path.{_≡_, refl, sym, ap, _∙_}
 use mathlib.Core.Bool.{Bool, true, false, _&&_, not, cond}
 use mathlib.Core.List.{List, [], _∷_, _++_, append-nil, append-assoc}
@@ -12,7 +12,7 @@ use Rattle.rules.specs.Register.{registerOf}
 use Rattle.rules.specs.Engine.{Position, hasDetails}
 use Rattle.rules.specs.Calls.{opened}
 use Rattle.rules.specs.Area.{Result, cardOpen}
-use Rattle.rules.specs.Ledger.{Kind, Event, fedWith, isTurn, messageOf, ledgerFrom, ledgerOf, transferredOf, detailedOf, held, sumOf, afterTurn, accepted, untouched}
+use Rattle.rules.specs.Ledger.{Kind, Event, fedWith, isTurn, messageOf, ledgerFrom, ledgerOf, transferredOf, detailedOf, held, sumOf, sinceTurn, accepted, untouched}
 use Rattle.rules.specs.Demand3.{Call, result, Ran, ran, Demand3}
 use Rattle.engine_laws.specs.Facts.{never}
 use Rattle.engine_laws.specs.Calls.{Opens, open-accepted, done-holds}
@@ -33,9 +33,9 @@ module _ (e : Event) (es : List Event) where
   unfolding ledgerFrom
   ledger-next ledger = picked (λ (l : List Position). ledgerFrom l es) (eqb (e .number) 0) (fedWith (e .fed) ledger) ledger
 
-  turned-next : (b : Bool) → afterTurn b (e ∷ es) ≡ afterTurn (afterTurn b (e ∷ [])) es
-  unfolding afterTurn
-  turned-next b = picked (λ (t : Bool). afterTurn t es) (eqb (e .number) 0) (isTurn (e .fed)) b
+  turned-next : (b : Bool) → sinceTurn b (e ∷ es) ≡ sinceTurn (sinceTurn b (e ∷ [])) es
+  unfolding sinceTurn
+  turned-next b = picked (λ (t : Bool). sinceTurn t es) (eqb (e .number) 0) (isTurn (e .fed)) b
 
   accepted-next : (sent : List Message) → sent ++ accepted (e ∷ es) ≡ sent ++ accepted (e ∷ []) ++ accepted es
   unfolding accepted
@@ -51,13 +51,13 @@ module _ (e : Event) (es : List Event) where
 
 -- what the calls leave, and that all of them settle
 pub record Ended (temporary : List ℕ) (ledger : List Position) (sent : List Message) (turned : Bool) (r : Ran) : Type 0 where
-  pub end : Running temporary (r .area) (ledgerFrom ledger (r .events)) (sent ++ accepted (r .events)) (afterTurn turned (r .events))
+  pub end : Running temporary (r .area) (ledgerFrom ledger (r .events)) (sent ++ accepted (r .events)) (sinceTurn turned (r .events))
   pub settles : (bank : ℕ) → bank < 2 ^ 64
       → Settles bank (sumOf (comesIn bank) (r .events)) (sumOf (goesOut temporary bank) (r .events)) ledger (ledgerFrom ledger (r .events))
 
 -- one call, and then the others
 ended-more : (temporary : List ℕ) (ledger : List Position) (sent : List Message) (turned : Bool) (e : Event) {area : List ℕ} (r : Ran) → Stepped temporary ledger sent turned e area
-    → Ended temporary (ledgerFrom ledger (e ∷ [])) (sent ++ accepted (e ∷ [])) (afterTurn turned (e ∷ [])) r
+    → Ended temporary (ledgerFrom ledger (e ∷ [])) (sent ++ accepted (e ∷ [])) (sinceTurn turned (e ∷ [])) r
     → Ended temporary ledger sent turned record { events = e ∷ r .events; area = r .area }
 ended-more temporary ledger sent turned e r s more = record {
   end = rw (ledger-next e (r .events) ledger, accepted-next e (r .events) sent, turned-next e (r .events) turned) (more .end);
@@ -67,7 +67,7 @@ ended-more temporary ledger sent turned e r s more = record {
 
 pub ended : (temporary area : List ℕ) (ledger : List Position) (sent : List Message) (turned : Bool) (cs : List Call) → Running temporary area ledger sent turned
     → Ended temporary ledger sent turned (ran area cs)
-unfolding ran event ledgerFrom accepted afterTurn sumOf
+unfolding ran event ledgerFrom accepted sinceTurn sumOf
 ended temporary area ledger sent turned [] w = record { end = rw append-nil w; settles = λ bank l. settles-none bank ledger }
 ended temporary area ledger sent turned (c ∷ cs) w =
     let r : Result = result (c .fed) area (c .output) in

@@ -1,5 +1,5 @@
 -- The details of a message in form: what an MT199 repeats of them is short, and there is one at least. A row of a form is a line of the message, which holds no CR or LF, or is
--- left out. Assumes nothing.
+-- left out.
 use mathlib.Core.Path.{_≡_, refl}
 use mathlib.Core.Bool.{Bool, true, false, cond}
 use mathlib.Core.List.{List, [], _∷_}
@@ -13,8 +13,8 @@ use Rattle.rules.specs.Text.{ascii, every, run, equal, fits}
 use Rattle.rules.specs.Dates.{date}
 use Rattle.rules.specs.Amounts.{amount}
 use Rattle.rules.specs.Lines.{Line, Taken, line, lead, closing, type, sender, body}
-use Rattle.rules.specs.Forms.{Row, Rowed, nothing, account, fitsRest, fitsRow, leadRows, rowed, transferRows, orderRows, detailRows, detail52D, detail59, detailBaeref}
-use Rattle.rules.specs.Messages.{Message, mt103, mt101, Transfer, Order, Detail, lineOf, amount32B, dateCentrb, dateBaeref, detailOf, detailed, details, readTransfer, readOrder, read, transferOf}
+use Rattle.rules.specs.Forms.{Row, TakenRows, nothing, account, fitsRest, fitsRow, leadRows, takeRows, transferRows, orderRows, detailRows, detail52D, detail59, detailBaeref}
+use Rattle.rules.specs.Messages.{Message, mt103, mt101, Transfer, Order, Detail, lineOf, amount32B, dateCentrb, dateBaeref, detailOf, takeDetail, details, readTransfer, readOrder, read, transferOf}
 use Rattle.laws.specs.Tests.{and-left, and-right, between-high}
 use Rattle.rule_laws.specs.Options.{Came, came, gave, some-is}
 use Rattle.engine_laws.specs.Layout.{All, All.none, All.more}
@@ -50,15 +50,15 @@ pub data Rows : List Row → List Line → Type 0 where
   end : Rows [] []
   row : {r : Row} {l : Line} {rs : List Row} {ls : List Line} → Stands r l → Rows rs ls → Rows (r ∷ rs) (l ∷ ls)
 
-pub rowed-rows : (rs : List Row) (cs : List ℕ) (x : Rowed) → rowed rs cs ≡ some x → Rows rs (x .rows)
-unfolding rowed leadRows
+pub rowed-rows : (rs : List Row) (cs : List ℕ) (x : TakenRows) → takeRows rs cs ≡ some x → Rows rs (x .rows)
+unfolding takeRows leadRows
 rowed-rows [] cs x h = let q : record { rows = []; others = cs } ≡ x = cc in rw (← q) end
 rowed-rows (r ∷ rs) cs x h =
     let t : Came (line cs) _ x = came _ _ h in
-    go (t .value .line) (rowed rs (t .value .others)) (rowed rs cs) (fitsRow r (t .value .line)) (r .optional) refl (line-plain cs (t .value) (t .is))
+    go (t .value .line) (takeRows rs (t .value .others)) (takeRows rs cs) (fitsRow r (t .value .line)) (r .optional) refl (line-plain cs (t .value) (t .is))
     (rowed-rows rs (t .value .others)) (rowed-rows rs cs) (t .gives)
   where
-    go : (l : Line) (o u : Option Rowed) (b c : Bool) → fitsRow r l ≡ b → every inLine l ≡ true → ((y : Rowed) → o ≡ some y → Rows rs (y .rows)) → ((y : Rowed) → u ≡ some y → Rows rs (y .rows))
+    go : (l : Line) (o u : Option TakenRows) (b c : Bool) → fitsRow r l ≡ b → every inLine l ≡ true → ((y : TakenRows) → o ≡ some y → Rows rs (y .rows)) → ((y : TakenRows) → u ≡ some y → Rows rs (y .rows))
         → cond b (leadRows (l ∷ []) o) (cond c (leadRows ([] ∷ []) u) none) ≡ some x → Rows (r ∷ rs) (x .rows)
     go l none u true c e p f g k = no-some k
     go l (some y) u true c e p f g k = let q : record { rows = l ∷ y .rows; others = y .others } ≡ x = cc in rw (← q) (row (here e p) (f y refl))
@@ -114,11 +114,11 @@ pub record Listed (ds : List Detail) : Type 0 where
   pub some : 1 ≤ length ds
 
 details-listed : (k : ℕ) (cs : List ℕ) (ds : List Detail) → details k cs ≡ some ds → Listed ds
-unfolding details detailed
+unfolding details takeDetail
 details-listed zero cs ds h = no-some h
 details-listed (suc k) cs ds h =
-    let d : Came (detailed cs) _ ds = came _ _ h in
-    let r : Came (rowed detailRows cs) _ (d .value) = came _ _ (d .is) in
+    let d : Came (takeDetail cs) _ ds = came _ _ h in
+    let r : Came (takeRows detailRows cs) _ (d .value) = came _ _ (d .is) in
     let x : Came (detailOf (r .value .rows)) _ (d .value) = came _ _ (r .gives) in
     let e : record { detail = x .value; others = r .value .others } ≡ d .value = some-is (x .gives) in
     let f : Sent (d .value .detail) = rw (← e) (detail-sent (r .value .rows) (x .value) (rowed-rows detailRows cs (r .value) (r .is)) (x .is)) in
@@ -140,12 +140,12 @@ read-details s m h = go (equal (type s) (ascii "103")) h
   where
     go : (t : Bool) → cond t (readTransfer s) (readOrder s) ≡ some m → Details m
     go true k =
-        let r : Came (rowed transferRows (body s)) _ m = came _ _ k in
+        let r : Came (takeRows transferRows (body s)) _ m = came _ _ k in
         let t : Came (transferOf (sender s) (r .value .rows)) _ m = came _ _ (r .gives) in
         let e : mt103 (t .value) ≡ m = gave (closing (r .value .others)) (mt103 (t .value)) (t .gives) .is in
         rw (← e) transfer
     go false k =
-        let r : Came (rowed orderRows (body s)) _ m = came _ _ k in
+        let r : Came (takeRows orderRows (body s)) _ m = came _ _ k in
         let d : Came (details 4096 (r .value .others)) _ m = came _ _ (r .gives) in
         let e : mt101 record { sender = sender s; rows = r .value .rows; details = d .value } ≡ m = some-is (d .gives) in
         rw (← e) (order (details-listed 4096 (r .value .others) (d .value) (d .is)))

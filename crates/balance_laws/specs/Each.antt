@@ -1,4 +1,4 @@
--- What holds of each of a list holds of each of a part of it, of one more, and of a list to which it is handed on. Assumes nothing.
+-- What holds of each of a list holds of each of a part of it, of one more, and of a list to which it is handed on.
 use mathlib.Core.List.{List, [], _∷_, _++_}
 use Prim.Native.Nat.{ℕ, zero, suc}
 use lib.ListN.{take, drop}

@@ -1,4 +1,4 @@
--- What the lines of an accepted message tell: in comes what it transfers, out goes what it details, credited and returned both. Assumes nothing.
+-- What the lines of an accepted message tell: in comes what it transfers, out goes what it details, credited and returned both.
 use mathlib.Core.Path.{_≡_, refl, sym}
 use mathlib.Core.Bool.{Bool, true, false, cond}
 use mathlib.Core.List.{List, [], _∷_}
@@ -10,7 +10,7 @@ use Rattle.rules.specs.Register.{Register, register, registerOf}
 use Rattle.rules.specs.Verdict.{Verdict, credited, returned, isReturned, accountAt}
 use Rattle.rules.specs.Engine.{Engine, bic}
 use Rattle.rules.specs.Written.{Book, posting, verdicts}
-use Rattle.rules.specs.Calls.{bankOf, verdictOf, returnedOf, detailPosting, detailPostings, postings, judged, after, messageText}
+use Rattle.rules.specs.Calls.{bankOf, verdictOf, returnedOf, detailPosting, detailPostings, postings, hasVerdict, after, messageText}
 use Rattle.rules.specs.Ledger.{Kind, Fed, isParty}
 use Rattle.engine_laws.specs.Layout.{All, All.none, All.more}
 use Rattle.balance_laws.specs.Told.{Tells, tells-none, tells-join, tells-same, tells-mute, Mute, mute-none}
@@ -89,9 +89,9 @@ pub record Postable (e : Engine) (m : Message) : Type 0 where
 
 module _ (e : Engine) (m : Message) (w : Postable e m) where
   -- the verdicts that follow tell nothing
-  mute-judged : Mute (cond (judged m (after e m)) (verdicts (e .day) (e .count) (after e m) (returnedOf (registerOf (e .register)) (detailsOf m))) [])
+  mute-judged : Mute (cond (hasVerdict m (after e m)) (verdicts (e .day) (e .count) (after e m) (returnedOf (registerOf (e .register)) (detailsOf m))) [])
   unfolding bookOf after detailsOf
-  mute-judged = go (judged m (after e m)) (w .details)
+  mute-judged = go (hasVerdict m (after e m)) (w .details)
     where
       go : (t : Bool) {n : Message} → Details n → Mute (cond t (verdicts (e .day) (e .count) (after e m) (returnedOf (registerOf (e .register)) (detailsOf n))) [])
       go true transfer = mute-verdicts (e .day) (e .count) (after e m) (w .book .known) (returned-sent (registerOf (e .register)) none)

@@ -1,4 +1,4 @@
--- Written messages are mute: no line of an MT199, MT204 or MT205 is long enough for a posting line. Assumes nothing.
+-- Written messages are mute: no line of an MT199, MT204 or MT205 is long enough for a posting line.
 use mathlib.Core.Path.{_≡_, refl, subst}
 use mathlib.Core.Bool.{Bool, true, false, cond}
 use mathlib.Core.List.{List, [], _++_, append-assoc}
@@ -11,7 +11,7 @@ use Rattle.rules.specs.Amounts.{written, withComma, withPoint}
 use Rattle.rules.specs.Accounts.{isBic, ibanShape}
 use Rattle.rules.specs.Messages.{Detail, branch, account59, baerefDate, baerefName}
 use Rattle.rules.specs.Engine.{Position, bic, limit}
-use Rattle.rules.specs.Written.{reference, opened, field, size, returnedRows, allReturned, linked, position79, closed79, mt199, partsOf, mt199s, verdicts, field72, mt204, mt205}
+use Rattle.rules.specs.Written.{reference, firstLine, field, size, returnedRows, allReturned, linked, position79, closed79, mt199, partsOf, mt199s, verdicts, field72, mt204, mt205}
 use Rattle.laws.specs.Digits.{places-length, width-bound, width-most}
 use Rattle.engine_laws.specs.Layout.{All, All.none, All.more}
 use Rattle.balance_laws.specs.Each.{all-take, all-drop}
@@ -37,8 +37,8 @@ mute-field : {m n : ℕ} {tag value : List ℕ} → Short m tag → Short n valu
 unfolding field
 mute-field s t h = mute-line (s ⊕ t) h
 
-mute-opened : (bank : ℕ) (type : List ℕ) → Short 3 type → isBic (bic bank) ≡ true → Mute (opened type bank)
-unfolding opened every inLine
+mute-opened : (bank : ℕ) (type : List ℕ) → Short 3 type → isBic (bic bank) ≡ true → Mute (firstLine type bank)
+unfolding firstLine every inLine
 mute-opened bank type s h = mute-line (s ⊕ short-text (ascii ",BNBGBGSD,") refl ⊕ short-bic (bic bank) h) refl
 
 -- ---- MT199

@@ -1,4 +1,4 @@
--- A posting line that the card wrote, read back: its six parts are those that were written. Assumes nothing.
+-- A posting line that the card wrote, read back: its six parts are those that were written.
 use mathlib.Core.Path.{_≡_, refl, ap, _∙_}
 use mathlib.Core.Bool.{Bool, true, false, _||_}
 use mathlib.Core.List.{List, [], _∷_, _++_, append-assoc}

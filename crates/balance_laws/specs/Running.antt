@@ -1,5 +1,5 @@
 -- One call of the list: the card that runs stays as the ledger and the messages accepted so far say, and what the call wrote settles with what it changed of the ledger.
--- Assumes nothing.
+--
 use mathlib.Core.Path.{_≡_, refl, sym, _∙_, subst}
 use mathlib.Core.Bool.{Bool, true, false, and-false}
 use mathlib.Core.List.{List, [], _∷_, _++_, append-nil}
@@ -13,9 +13,9 @@ use Rattle.rules.specs.Messages.{Message, dateOf, transferredBy, detailedBy}
 use Rattle.rules.specs.Register.{registerOf}
 use Rattle.rules.specs.Text.{ordered}
 use Rattle.rules.specs.Engine.{Position, Engine, earlier, sameKey}
-use Rattle.rules.specs.Calls.{bankOf, added, afterMessage, afterTurn as laterEngine}
+use Rattle.rules.specs.Calls.{bankOf, added, afterMessage, afterTurn}
 use Rattle.rules.specs.Area.{Result, cardMessage, cardTurn, holds}
-use Rattle.rules.specs.Ledger.{Fed, message, turn, Event, fedWith, enteredBy, ledgerFrom, isTurn, afterTurn, listed, messageOf, accepted, sumOf}
+use Rattle.rules.specs.Ledger.{Fed, message, turn, Event, fedWith, enteredBy, ledgerFrom, isTurn, sinceTurn, listed, messageOf, accepted, sumOf}
 use Rattle.rules.specs.Demand3.{result}
 use Rattle.rule_laws.specs.Options.{some-is}
 use Rattle.engine_laws.specs.Facts.{never}
@@ -58,7 +58,7 @@ event f r = record { fed = f; number = r .number; bytes = take (r .written) (r .
 
 -- what a call leaves, and that it settles
 pub record Stepped (temporary : List ℕ) (ledger : List Position) (sent : List Message) (turned : Bool) (e : Event) (area : List ℕ) : Type 0 where
-  pub next : Running temporary area (ledgerFrom ledger (e ∷ [])) (sent ++ accepted (e ∷ [])) (afterTurn turned (e ∷ []))
+  pub next : Running temporary area (ledgerFrom ledger (e ∷ [])) (sent ++ accepted (e ∷ [])) (sinceTurn turned (e ∷ []))
   pub settles : (bank : ℕ) → bank < 2 ^ 64 → Settles bank (sumOf (comesIn bank) (e ∷ [])) (sumOf (goesOut temporary bank) (e ∷ [])) ledger (ledgerFrom ledger (e ∷ []))
 
 -- an entry of the ledger stands there once
@@ -88,7 +88,7 @@ module _ (temporary area : List ℕ) (ledger : List Position) (sent : List Messa
 
   -- refused
   step-refused : (f : Fed) (out : List ℕ) (r : Result) → (r .number ≡ 0 → ⊥) → Stays r area out → Stepped temporary ledger sent turned (event f r) (r .area)
-  unfolding event ledgerFrom accepted afterTurn
+  unfolding event ledgerFrom accepted sinceTurn
   step-refused f out r n s = record {
     next = rw (ne-eqb (r .number) 0 n, append-nil, s .area) w;
     settles = λ bank l.
@@ -99,7 +99,7 @@ module _ (temporary area : List ℕ) (ledger : List Position) (sent : List Messa
 
   -- an accepted message
   step-message : (s out : List ℕ) → cardMessage s area out .number ≡ 0 → Stepped temporary ledger sent turned (event (message s) (cardMessage s area out)) (cardMessage s area out .area)
-  unfolding event ledgerFrom accepted afterTurn fedWith enteredBy messageOf listed isTurn afterMessage
+  unfolding event ledgerFrom accepted sinceTurn fedWith enteredBy messageOf listed isTurn afterMessage
   step-message s out a =
       let t : Takes s area out = message-accepted s area out a in
       let e : Engine = t .engine in
@@ -128,7 +128,7 @@ module _ (temporary area : List ℕ) (ledger : List Position) (sent : List Messa
 
   -- an accepted turn
   step-turn : (day : ℕ) (out : List ℕ) → cardTurn day area out .number ≡ 0 → Stepped temporary ledger sent turned (event (turn day) (cardTurn day area out)) (cardTurn day area out .area)
-  unfolding event ledgerFrom accepted afterTurn fedWith messageOf isTurn laterEngine
+  unfolding event ledgerFrom accepted sinceTurn fedWith messageOf isTurn afterTurn
   step-turn day out a =
       let t : Turns day area out = turn-accepted day area out a in
       let e : Engine = t .engine in
@@ -136,7 +136,7 @@ module _ (temporary area : List ℕ) (ledger : List Position) (sent : List Messa
       let l : Limits e = limits e (held area e (t .holding) .good) in
       record {
         next = rw (a, append-nil sent) record {
-          engine = laterEngine e day;
+          engine = afterTurn e day;
           holding = done-holds (t .done);
           agrees = record {
             account = g .account;

@@ -1,4 +1,4 @@
--- One accepted call on the ledger: what comes in with it and what goes out are what it changes of the bank's totals. Assumes nothing.
+-- One accepted call on the ledger: what comes in with it and what goes out are what it changes of the bank's totals.
 use mathlib.Core.Path.{_≡_, refl}
 use mathlib.Core.List.{List}
 use Prim.Native.Nat.{ℕ, _+_}

@@ -1,4 +1,4 @@
--- Letters and digits: what dates, amounts, banks and accounts are made of, so that they stand in a line and hold no comma. Assumes nothing.
+-- Letters and digits: what dates, amounts, banks and accounts are made of, so that they stand in a line and hold no comma.
 use mathlib.Core.Path.{_≡_, refl, sym}
 use mathlib.Core.Bool.{Bool, true, false, _||_, cond}
 use mathlib.Core.List.{List, [], _∷_}

@@ -1,5 +1,5 @@
 -- Texts made of whole lines, as the card writes them, read back line by line: the lines of a text behind a text, of one line, and the parts that a line
--- is made of. Assumes nothing.
+-- is made of.
 use mathlib.Core.Path.{_≡_, refl}
 use mathlib.Core.Bool.{Bool, true, false, _&&_, not, cond}
 use mathlib.Core.List.{List, [], _∷_, _++_}

@@ -1,5 +1,5 @@
 -- What a text tells a reader of posting lines: the sum of a kind over its lines. A text of short lines tells nothing, since a posting line has at least 42 bytes;
--- texts one behind the other tell the sum of both. Assumes nothing.
+-- texts one behind the other tell the sum of both.
 use mathlib.Core.Path.{_≡_, refl, _∙_}
 use mathlib.Core.Bool.{Bool, true, false, _||_, cond}
 use mathlib.Core.List.{List, [], _∷_, _++_}

@@ -1,4 +1,4 @@
--- What the lines of an accepted turn tell: in comes what is collected, out goes what is refunded, position by position. Assumes nothing.
+-- What the lines of an accepted turn tell: in comes what is collected, out goes what is refunded, position by position.
 use mathlib.Core.Path.{_≡_, refl}
 use mathlib.Core.Bool.{Bool, true, false, _&&_, not, cond}
 use mathlib.Core.List.{List, _++_}

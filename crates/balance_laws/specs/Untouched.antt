@@ -1,5 +1,5 @@
 -- Transfers that no detail has met: what the ledger's entries without details hold of a bank is what its accepted messages have transferred for the dates for which none of its
--- details has been accepted. Kept over the calls for any choice of dates, since accepted details take their date out of the choice. Assumes nothing.
+-- details has been accepted. Kept over the calls for any choice of dates, since accepted details take their date out of the choice.
 use mathlib.Core.Path.{_≡_, refl, sym, ap₂, _∙_}
 use mathlib.Core.Bool.{Bool, true, false, _&&_, _||_, not, cond, and-false, or-true, or-false}
 use mathlib.Core.List.{List, [], _∷_, _++_}

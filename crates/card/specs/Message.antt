@@ -25,7 +25,7 @@ use Rattle.engine_laws.specs.Held.{held}
 use Rattle.engine.specs.Totals.{TotalsOf}
 use Rattle.engine.specs.Texts.{RegisterOf}
 use Rattle.engine.specs.declared.held.Totals.{Totals}
-use Rattle.engine_change.specs.Booking.{Booking as CanBook, booking-clear, bookedWith, booked-after}
+use Rattle.engine_change.specs.Booking.{CanBook, booking-clear, bookedWith, booked-after}
 use Rattle.engine_change.specs.Filing.{reference}
 use Rattle.outgoing_number.specs.declared.Numbered.{Numbered}
 use Rattle.details.specs.Message.{messageIn}

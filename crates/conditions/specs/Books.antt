@@ -1,4 +1,4 @@
--- What booking a message needs of it, read off its bytes. Assumes nothing.
+-- What booking a message needs of it, read off its bytes.
 use mathlib.Core.Path.{_≡_, refl, sym, ap, _∙_}
 use mathlib.Core.Bool.{Bool, true, false, not}
 use mathlib.Core.List.{List, []}

@@ -11,7 +11,7 @@ use lib.Seq.{take-all}
 use borrow.Author.Tests.{leb-true}
 use Rattle.rules.specs.Text.{ascii, equal, number, then, twice}
 use Rattle.rules.specs.Lines.{Line, lines, inLines, opening, framed, type, sender, receiver, body}
-use Rattle.rules.specs.Forms.{rowed, orderRows, message20}
+use Rattle.rules.specs.Forms.{takeRows, orderRows, message20}
 use Rattle.rules.specs.Engine.{slashed}
 use Rattle.rules.specs.Messages as M
 use Rattle.rules.specs.Messages.{Message, mt103, mt101, field20, detailsOf, referenceOf, dateOf, firstDate, sumOf, readTransfer, readOrder, read, past}
@@ -118,7 +118,7 @@ all-stops temporary bank rows ds n low b t e f g h = rw (e, f, g) (order-many (l
 module _ (s : List ℕ) (rows : Rows) (w : RowsAt s 23 0 1 rows) where
   pub order-rowless : {amounts places : List ℕ} → rows .ok ≡ false → OrderChecked s (Refused 3) amounts places
   unfolding readOrder
-  order-rowless h = let e : none ≡ rowed orderRows (body s) = rw (h, order-rows, body-from) at (w .same) in record { with = λ u. formless u s (readOrder s) (rw (← e)) }
+  order-rowless h = let e : none ≡ takeRows orderRows (body s) = rw (h, order-rows, body-from) at (w .same) in record { with = λ u. formless u s (readOrder s) (rw (← e)) }
 
   -- the message of some details
   abbrev order : List M.Detail → M.Order
@@ -128,7 +128,7 @@ module _ (s : List ℕ) (rows : Rows) (w : RowsAt s 23 0 1 rows) where
     order-read : readOrder s ≡ then (M.details 4096 (from s (rows .next))) (λ ds. some (mt101 (order ds)))
     unfolding readOrder
     order-read =
-        let e : some record { rows = held s (rows .spans) 1; others = from s (rows .next) } ≡ rowed orderRows (body s) = rw (h, order-rows, body-from) at (w .same) in
+        let e : some record { rows = held s (rows .spans) 1; others = from s (rows .next) } ≡ takeRows orderRows (body s) = rw (h, order-rows, body-from) at (w .same) in
         rw (← e)
 
     pub order-formless : t .ok ≡ false → OrderChecked s (Refused 3) amounts places

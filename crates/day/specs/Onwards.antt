@@ -1,4 +1,4 @@
--- One turn over a window of the input, as a step of the replay in pieces. Assumes nothing.
+-- One turn over a window of the input, as a step of the replay in pieces.
 use mathlib.Core.Path.{_≡_, refl, sym, ap, _∙_}
 use mathlib.Core.List.{List, [], _∷_, _++_, append-nil}
 use mathlib.Core.Option.{none, some}

@@ -1,4 +1,4 @@
--- The replay of a day: the commands from a place of the input on, carried out one after the other. Assumes nothing.
+-- The replay of a day: the commands from a place of the input on, carried out one after the other.
 use mathlib.Core.Path.{_≡_, refl, sym, _∙_, subst}
 use mathlib.Core.List.{List, _++_}
 use mathlib.Core.Option.{Option, none, some}
@@ -10,7 +10,7 @@ use Rattle.rules.specs.Engine.{Engine}
 use Rattle.rules.specs.Calls.{Answer, openCall, messageCall, turnCall}
 use Rattle.rules.specs.Area.{holds, areaSize}
 use Rattle.rules.specs.Replay as R
-use Rattle.rules.specs.Replay.{Commanded, command, called, printed, run}
+use Rattle.rules.specs.Replay.{Commanded, command, called, printed, replayFrom}
 use Rattle.laws.specs.Parts.{cut, from, from-all}
 use Rattle.laws.specs.Writing.{Wrote, wrote-length, Left, left-turn, left-none}
 use Rattle.commands.specs.Answers.{commandedOf, Placed, Commanding}
@@ -139,14 +139,14 @@ pub record Replaying (s : List ℕ) (at k o room span : ℕ) (area out shown who
   pub lent : length area ≡ span
   pub size : length out ≡ room
   pub shows : length shown ≡ length start
-  pub left : Left (run k room (holds area) (from s at)) o shown whole 0 start
+  pub left : Left (replayFrom k room (holds area) (from s at)) o shown whole 0 start
 
-pub replay-starts : (s area out start : List ℕ) → areaSize ≤ length area → length start ≤ 2 ^ 63 → Replaying s 0 (length s) 0 (length out) (length area) area out start (run (length s) (length out) (holds area) s) start
+pub replay-starts : (s area out start : List ℕ) → areaSize ≤ length area → length start ≤ 2 ^ 63 → Replaying s 0 (length s) 0 (length out) (length area) area out start (replayFrom (length s) (length out) (holds area) s) start
 replay-starts s area out start l f = record { within = omega arith; long = l; lent = refl; size = refl; shows = refl; left = rw from-all record { cursor = refl; output = refl; short = f } }
 
 module _ {s area out shown whole start : List ℕ} {at k o room span : ℕ} (m : Replaying s at k o room span area out shown whole start) where
   pub replay-out : k ≤ 0 → Wrote whole 0 start o shown
-  unfolding run
+  unfolding replayFrom
   replay-out h = let e : k ≡ 0 = omega arith in left-none (rw e at (m .left))
 
   module _ (h : 0 < k) {area' out' shown' : List ℕ} {r : Step} (w : Stepped s at area area' out out' shown o shown' r) where
@@ -156,7 +156,7 @@ module _ {s area out shown whole start : List ℕ} {at k o room span : ℕ} (m :
     pub replay-goes : (next o' : ℕ) → r ≡ Done next o' → Replaying s next (k - 1) o' room span area' out' shown' whole start
     replay-goes next o' e =
         let t : Moved s at next area area' out out' shown o o' shown' = step-moved w next o' e in
-        let b : Left (printed (called (length out) (holds area) (t .found .command)) ++ run (k - 1) room (holds area') (from s next)) o shown whole 0 start =
+        let b : Left (printed (called (length out) (holds area) (t .found .command)) ++ replayFrom (k - 1) room (holds area') (from s next)) o shown whole 0 start =
         rw (t .leaves, t .others, m .size) (rw (run-goes (from s at) k room (holds area) h (t .found) (t .stands)) at (m .left)) in record {
           within = t .within;
           long = rw (t .size) (m .long);

@@ -1,4 +1,4 @@
--- A call on areas answers what the call on the engine answers that the area holds, and leaves the next engine there. Assumes nothing.
+-- A call on areas answers what the call on the engine answers that the area holds, and leaves the next engine there.
 use mathlib.Core.Path.{_≡_, refl, sym, ap, _∙_}
 use mathlib.Core.Bool.{Bool, true, false, not, cond}
 use mathlib.Core.List.{List, [], _∷_, _++_}

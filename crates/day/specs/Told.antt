@@ -1,4 +1,4 @@
--- What the card answered to a command, as document 01's calls on an engine say it, and how it is printed. Assumes nothing.
+-- What the card answered to a command, as document 01's calls on an engine say it, and how it is printed.
 use mathlib.Core.Path.{_≡_, refl, sym, ap, _∙_}
 use mathlib.Core.Bool.{Bool, true, false, cond}
 use mathlib.Core.List.{List, [], _∷_, _++_}

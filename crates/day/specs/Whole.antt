@@ -1,5 +1,5 @@
 -- The whole input by its pieces: carrying out the commands that stand in what is read, and reading on where none does, prints what document 01's
--- replay of all the pieces prints, wherever the input is cut. Assumes nothing.
+-- replay of all the pieces prints, wherever the input is cut.
 use mathlib.Core.Path.{_≡_, sym, ap, _∙_}
 use mathlib.Core.List.{List, [], _∷_, _++_, append-assoc, append-nil}
 use mathlib.Core.Option.{Option, none, some}
@@ -8,7 +8,7 @@ use native.Mathlib.Omega.{arith}
 use lib.ListN.{length, length-append}
 use Rattle.rules.specs.Engine.{Engine}
 use Rattle.rules.specs.Area.{joined}
-use Rattle.rules.specs.Replay.{Commanded, command, called, printed, run}
+use Rattle.rules.specs.Replay.{Commanded, command, called, printed, replayFrom}
 use Rattle.commands.specs.Pieces.{command-more, command-behind}
 use Rattle.day.specs.Runs.{run-ends, run-goes, run-alike}
 
@@ -25,7 +25,7 @@ pub data InPieces (room : ℕ) : Option Engine → List ℕ → List (List ℕ) 
   -- no command stands there, whatever follows
   stops : (held : Option Engine) (w : List ℕ) (ps : List (List ℕ)) → ((more : List ℕ) → command (w ++ more) ≡ none) → InPieces room held w ps []
 
-pub whole : (room : ℕ) (held : Option Engine) (w : List ℕ) (ps : List (List ℕ)) (text : List ℕ) → InPieces room held w ps text → (k : ℕ) → length (w ++ joined ps) ≤ k → run k room held (w ++ joined ps) ≡ text
+pub whole : (room : ℕ) (held : Option Engine) (w : List ℕ) (ps : List (List ℕ)) (text : List ℕ) → InPieces room held w ps text → (k : ℕ) → length (w ++ joined ps) ≤ k → replayFrom k room held (w ++ joined ps) ≡ text
 unfolding joined
 whole room held w ps text (performs _ _ _ t c e h) k l =
     let a : length (w ++ joined ps) ≡ length w + length (joined ps) = length-append w (joined ps) in
@@ -37,6 +37,6 @@ whole room held w ps text (reads _ _ v p qs t f n h) k l =
     let a : length (w ++ (p ++ joined qs)) ≡ length w + length (p ++ joined qs) = length-append w (p ++ joined qs) in
     let b : length (v ++ (p ++ joined qs)) ≡ length v + length (p ++ joined qs) = length-append v (p ++ joined qs) in
     let d : v ++ p ++ joined qs ≡ v ++ (p ++ joined qs) = append-assoc v p (joined qs) in
-    sym (run-alike (v ++ (p ++ joined qs)) k room held (w ++ (p ++ joined qs)) (f (p ++ joined qs))) ∙ ap (run k room held) (sym d) ∙ whole room held (v ++ p) qs t h k (rw d (omega arith))
+    sym (run-alike (v ++ (p ++ joined qs)) k room held (w ++ (p ++ joined qs)) (f (p ++ joined qs))) ∙ ap (replayFrom k room held) (sym d) ∙ whole room held (v ++ p) qs t h k (rw d (omega arith))
 whole room held w ps text (ends _ _ e) k l = run-ends (w ++ []) k room held (ap command (append-nil w) ∙ e)
 whole room held w ps text (stops _ _ _ f) k l = run-ends (w ++ joined ps) k room held (f (joined ps))

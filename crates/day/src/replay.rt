@@ -6,7 +6,7 @@ use commands::read_command;
 ghost use mathlib.Core.Path.{_≡_};
 ghost use Prim.Native.Nat.{_≤_};
 ghost use lib.ListN.{length};
-ghost use Rattle.rules.specs.Replay.{run};
+ghost use Rattle.rules.specs.Replay.{replayFrom};
 ghost use Rattle.rules.specs.Area.{holds, areaSize};
 ghost use Rattle.laws.specs.Writing.{Wrote};
 ghost use Rattle.day.specs.Replaying.{isEnd, nextOf, Stepped};
@@ -66,7 +66,7 @@ pub fn carry_out(
 // Carries out the commands of the input one after the other and prints their answers, as far as `printed` reaches; answers how many bytes they are.
 pub fn replay_day(input: &[u8], area: &mut [u8], out: &mut [u8], printed: &mut [u8]) -> usize
     requires { ⌜ areaSize ≤ length (now area) ⌝ }
-    ensures { λ r. ⌜ Wrote (run (length (now (input .entry))) (length (now (out .entry))) (holds (now (area .entry))) (now (input .entry))) 0 (now (printed .entry)) r (now (printed .exit)) ⌝ }
+    ensures { λ r. ⌜ Wrote (replayFrom (length (now (input .entry))) (length (now (out .entry))) (holds (now (area .entry))) (now (input .entry))) 0 (now (printed .entry)) r (now (printed .exit)) ⌝ }
 {
     let mut at: usize = 0;
     let mut o: usize = 0;

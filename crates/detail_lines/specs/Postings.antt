@@ -1,4 +1,4 @@
--- The posting lines of a message's details, each by its verdict. Assumes nothing.
+-- The posting lines of a message's details, each by its verdict.
 use mathlib.Core.Path.{_≡_, refl, sym, ap, _∙_}
 use mathlib.Core.Bool.{true}
 use mathlib.Core.List.{List, [], _++_}

@@ -1,4 +1,4 @@
--- The returned details of a message, as the code's loops count them and write them. What is left of the walk gives the answer. Assumes nothing.
+-- The returned details of a message, as the code's loops count them and write them. What is left of the walk gives the answer.
 use mathlib.Core.Path.{_≡_, refl, sym, ap, _∙_}
 use mathlib.Core.Bool.{Bool, true, false, cond}
 use mathlib.Core.List.{List, [], _∷_, _++_}

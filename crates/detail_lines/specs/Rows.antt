@@ -1,4 +1,4 @@
--- The rows of a returned detail, off the parts of its lines. Assumes nothing.
+-- The rows of a returned detail, off the parts of its lines.
 use mathlib.Core.Path.{_≡_}
 use mathlib.Core.List.{List, _++_}
 use Prim.Native.Nat.{ℕ, _+_, _-_, _≤_, _<_}

@@ -1,4 +1,4 @@
--- The header of an area: its numbers as they stand, which are those of the engine that the area holds. Assumes nothing.
+-- The header of an area: its numbers as they stand, which are those of the engine that the area holds.
 use mathlib.Core.Path.{_≡_, sym, ap, _∙_}
 use mathlib.Core.Bool.{true}
 use mathlib.Core.List.{List}

@@ -1,4 +1,4 @@
--- Looked up in an area that holds an engine: what is found among its records is found among the engine's references; a position is found at its place. Assumes nothing.
+-- Looked up in an area that holds an engine: what is found among its records is found among the engine's references; a position is found at its place.
 use mathlib.Core.Path.{_≡_, sym, _∙_}
 use mathlib.Core.Bool.{Bool, true}
 use mathlib.Core.List.{List}

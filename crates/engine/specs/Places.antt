@@ -1,4 +1,4 @@
--- The place of a key among positions in their order: what is booked there stands in the position's place if it is open, else before the first one behind it. Assumes nothing.
+-- The place of a key among positions in their order: what is booked there stands in the position's place if it is open, else before the first one behind it.
 use mathlib.Core.Path.{_≡_, refl, sym, _∙_}
 use mathlib.Core.Bool.{Bool, true, false}
 use mathlib.Core.List.{List, [], _∷_, _++_, append-assoc}

@@ -1,4 +1,4 @@
--- The positions of an area walked from one to the next, up to the place of a key. Assumes nothing.
+-- The positions of an area walked from one to the next, up to the place of a key.
 use mathlib.Core.Path.{_≡_, refl, sym, _∙_}
 use mathlib.Core.Bool.{Bool, true, false}
 use mathlib.Core.List.{List, _∷_, map}

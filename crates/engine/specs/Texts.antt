@@ -1,4 +1,4 @@
--- The texts of an area: the place of text k by the lengths of those before it, the register's text in an area that holds an engine, and the temporary account at its front. Assumes nothing.
+-- The texts of an area: the place of text k by the lengths of those before it, the register's text in an area that holds an engine, and the temporary account at its front.
 use mathlib.Core.Path.{_≡_, refl, sym, _∙_}
 use mathlib.Core.Bool.{true}
 use mathlib.Core.List.{List}

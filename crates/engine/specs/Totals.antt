@@ -1,4 +1,4 @@
--- The totals of a key's position, looked up at its place. Assumes nothing.
+-- The totals of a key's position, looked up at its place.
 use mathlib.Core.Path.{_≡_, refl, sym, ap, _∙_}
 use mathlib.Core.Bool.{Bool, true, false}
 use mathlib.Core.List.{List}

@@ -1,4 +1,4 @@
--- A message booked in an area: its position raised or put in its place, its reference put in its place, the header's numbers. Assumes nothing.
+-- A message booked in an area: its position raised or put in its place, its reference put in its place, the header's numbers.
 use mathlib.Core.Path.{_≡_, refl, sym, ap, _∙_}
 use mathlib.Core.Bool.{Bool, true, false, not}
 use mathlib.Core.List.{List, _∷_, _++_, map}
@@ -57,14 +57,14 @@ unfolding bookedWith afterMessage
 booked-after e m = refl
 
 -- there is room for a reference (13), the position is open or there is room for it (14), and both its totals stay within the limit (15)
-pub record Booking (e : Engine) (q : Position) : Type 0 where
+pub record CanBook (e : Engine) (q : Position) : Type 0 where
   pub today : length (e .references) < 64
   pub few : length (booked q (e .positions)) ≤ 32
   pub transferred : positionOf (q .key) (e .positions) .transferred + q .transferred ≤ limit
   pub detailed : positionOf (q .key) (e .positions) .detailed + q .detailed ≤ limit
 
 -- where none of 13 to 15 holds of a message
-pub booking-clear : (e : Engine) (m : Message) → within e ≡ true → length (e .references) < 64 → noRoom e m ≡ false → overLimit e m ≡ false → Booking e (added m)
+pub booking-clear : (e : Engine) (m : Message) → within e ≡ true → length (e .references) < 64 → noRoom e m ≡ false → overLimit e m ≡ false → CanBook e (added m)
 unfolding noRoom overLimit after
 booking-clear e m w t n o =
     let l : Limits e = limits e w in record {
@@ -122,7 +122,7 @@ module _ (a : List ℕ) (n i : ℕ) (q : Position) (m : Many a n) (p : PlaceOf (
     standing : positionAt a at ≡ positionOf (q .key) (decode a .positions)
     standing = rw place (sym (here .is))
 
-    pub raise-fits : Booking (decode a) q → Raises a at q
+    pub raise-fits : CanBook (decode a) q → Raises a at q
     raise-fits g = record { inside = omega (arith, place, here .inside, m .few, m .long); transferred = rw standing (g .transferred); detailed = rw standing (g .detailed) }
 
     pub raise-done : {r : ℕ} {b : List ℕ} → isSome (holds a) ≡ true → Wrote (positionRecord (raisedAt a at q)) at a r b → Positions (booked q (decode a .positions)) a n b
@@ -144,10 +144,10 @@ module _ (a : List ℕ) (n i : ℕ) (q : Position) (m : Many a n) (p : PlaceOf (
     grown : length (booked q (decode a .positions)) ≡ n + 1
     grown = rw after-place (inserted-length i q (decode a .positions) (p .within) ∙ omega (arith, m .same))
 
-    pub insert-fits : Booking (decode a) q → Opens positionsPlace recordSize n i (length a)
+    pub insert-fits : CanBook (decode a) q → Opens positionsPlace recordSize n i (length a)
     insert-fits g = opens positionsPlace 24 n i (length a) (omega (arith, p .within, m .same)) (omega (arith, g .few, grown, m .long))
 
-    pub insert-done : {r : ℕ} {b c : List ℕ} → isSome (holds a) ≡ true → Booking (decode a) q
+    pub insert-done : {r : ℕ} {b c : List ℕ} → isSome (holds a) ≡ true → CanBook (decode a) q
         → b ≡ moved (positionsPlace + recordSize * i) (positionsPlace + recordSize * i + recordSize) (recordSize * (n - i)) a → Wrote (positionRecord q) at b r c → Positions (booked q (decode a .positions)) a (n + 1) c
     unfolding positionPart
     insert-done {b = b} {c = c} h g u w =
@@ -163,7 +163,7 @@ pub reference-wide : (r : Reference) → length (r .text) ≤ 16 → length (ref
 unfolding referenceRecord
 reference-wide r h = rw (length-append, places-length, padded-length 16 (r .text) h)
 
-module _ (a : List ℕ) (x : Header) (q : Position) (bank : ℕ) (text : List ℕ) (from to count : ℕ) (h : isSome (holds a) ≡ true) (n : HeaderOf a x) (g : Booking (decode a) q) where
+module _ (a : List ℕ) (x : Header) (q : Position) (bank : ℕ) (text : List ℕ) (from to count : ℕ) (h : isSome (holds a) ≡ true) (n : HeaderOf a x) (g : CanBook (decode a) q) where
   module _ {i : ℕ} (f : FiledAt (reference bank (cut text from to)) (decode a .references) i) {k : ℕ} {b : List ℕ} (p : Positions (booked q (decode a .positions)) a k b) where
     -- there is room for the reference
     pub file-fits : Opens referencesPlace recordSize (x .references) i (length b)

@@ -1,4 +1,4 @@
--- The place of a reference among those of an area, which stand by sender in byte order and then text: it is put before the first one that does not precede it. Assumes nothing.
+-- The place of a reference among those of an area, which stand by sender in byte order and then text: it is put before the first one that does not precede it.
 use mathlib.Core.Path.{_≡_, refl, sym, ap, _∙_}
 use mathlib.Core.Bool.{Bool, true, false}
 use mathlib.Core.List.{List, [], _∷_, _++_, append-assoc}

@@ -1,4 +1,4 @@
--- The header of an area in its two halves: what changes from call to call, and what an opening leaves for good. Assumes nothing.
+-- The header of an area in its two halves: what changes from call to call, and what an opening leaves for good.
 use mathlib.Core.Path.{_≡_, refl}
 use mathlib.Core.List.{List, _++_}
 use Prim.Native.Nat.{ℕ}

@@ -1,4 +1,4 @@
--- An opening written from the first byte of the area on. Assumes nothing.
+-- An opening written from the first byte of the area on.
 use mathlib.Core.Path.{_≡_, refl, _∙_}
 use mathlib.Core.Bool.{true}
 use mathlib.Core.List.{List, [], _∷_, _++_, append-nil}

@@ -1,4 +1,4 @@
--- The laws that the search is handed at the needs of the steps. Assumes nothing.
+-- The laws that the search is handed at the needs of the steps.
 use Rattle.laws.specs.Writing.{wrote-then, wrote-length}
 use Rattle.laws.specs.Moving.{keeping-none, keeping-keep, keeping-skip, keeping-end, lowers}
 use Rattle.engine_change.specs.Texts.{padded-wrote, text-wrote, length-wrote, none-wrote}

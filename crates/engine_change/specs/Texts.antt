@@ -1,4 +1,4 @@
--- Texts and lengths written one behind the other, with zeros behind the last. Assumes nothing.
+-- Texts and lengths written one behind the other, with zeros behind the last.
 use mathlib.Core.Path.{_≡_}
 use mathlib.Core.List.{List, [], _∷_, _++_, append-assoc}
 use Prim.Native.Nat.{ℕ, _-_, _≤_}

@@ -1,4 +1,4 @@
--- A turn made in an area. Assumes nothing.
+-- A turn made in an area.
 use mathlib.Core.Path.{_≡_, refl, ap, _∙_}
 use mathlib.Core.Bool.{Bool, true, false, not, cond}
 use mathlib.Core.List.{List, [], _∷_, _++_, map}

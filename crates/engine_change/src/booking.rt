@@ -24,7 +24,7 @@ ghost use Rattle.laws.specs.Writing.{Wrote};
 ghost use Rattle.position.specs.Values.{keyValue, positionValue};
 ghost use Rattle.engine.specs.Records.{Many};
 ghost use Rattle.engine_change.specs.Filing.{reference};
-ghost use Rattle.engine_change.specs.Booking.{raisedAt, Raises, Booking, Positions, bookedWith};
+ghost use Rattle.engine_change.specs.Booking.{raisedAt, Raises, CanBook, Positions, bookedWith};
 
 // A key, and the byte for its block.
 fn put_key(area: &mut [u8], at: usize, k: Key) -> usize
@@ -63,7 +63,7 @@ fn raise(area: &mut [u8], at: usize, p: Position) -> usize
 fn book_position(area: &mut [u8], n: u32, p: Position) -> u32
     requires { ⌜ isSome (holds (now area)) ≡ true ⌝ }
     requires { ⌜ Many (now area) n ⌝ }
-    requires { ⌜ Booking (decode (now area)) (positionValue p) ⌝ }
+    requires { ⌜ CanBook (decode (now area)) (positionValue p) ⌝ }
     ensures { λ r. ⌜ Positions (booked (positionValue p) (decode (now (area .entry)) .positions)) (now (area .entry)) r (now (area .exit)) ⌝ }
 {
     let i = place_of(area, n, p.key);
@@ -80,7 +80,7 @@ fn book_position(area: &mut [u8], n: u32, p: Position) -> u32
 // A bank's message booked: what it adds to its position, its reference, the bytes of s from a up to b, and the outgoing count behind it.
 pub fn book_area(area: &mut [u8], s: &[u8], a: usize, b: usize, p: Position, count: u32)
     requires { ⌜ isSome (holds (now area)) ≡ true ⌝ }
-    requires { ⌜ Booking (decode (now area)) (positionValue p) ⌝ }
+    requires { ⌜ CanBook (decode (now area)) (positionValue p) ⌝ }
     requires { ⌜ a ≤ b ⌝ }
     requires { ⌜ b ≤ length (now s) ⌝ }
     requires { ⌜ b - a ≤ 16 ⌝ }

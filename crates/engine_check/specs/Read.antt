@@ -1,4 +1,4 @@
--- Number 10 by the numbers of the header as they were read: each test is that of the bytes where they stand, and the texts end where the last one does. Assumes nothing.
+-- Number 10 by the numbers of the header as they were read: each test is that of the bytes where they stand, and the texts end where the last one does.
 use mathlib.Core.Path.{_≡_}
 use mathlib.Core.Bool.{Bool, false, not}
 use mathlib.Core.List.{List}

@@ -1,4 +1,4 @@
--- What a message that 1 to 8 let pass has: the sender is a bank, field 20 a reference, and its date exists. Assumes nothing.
+-- What a message that 1 to 8 let pass has: the sender is a bank, field 20 a reference, and its date exists.
 use mathlib.Core.Path.{_≡_, refl, sym, ap, _∙_}
 use mathlib.Core.Bool.{Bool, true, false, _&&_, cond}
 use mathlib.Core.List.{List, [], _∷_, _++_}
@@ -14,8 +14,8 @@ use Rattle.rules.specs.Dates.{exists, date}
 use Rattle.rules.specs.Amounts.{amount}
 use Rattle.rules.specs.Accounts.{isBic}
 use Rattle.rules.specs.Lines.{Line, line, opening, closing, lines, inLines, framed, type, sender, body}
-use Rattle.rules.specs.Forms.{Row, Rowed, reference, fitsRest, fitsRow, leadRows, rowed, transferRows, orderRows, detailRows}
-use Rattle.rules.specs.Messages.{Message, mt103, mt101, Transfer, Detail, lineOf, past, date32A, amount32A, baerefDate103, amount32B, dateCentrb, dateBaeref, transferOf, detailOf, detailed, details, readTransfer, readOrder, read, senderOf, referenceOf, firstDate, dateOf}
+use Rattle.rules.specs.Forms.{Row, TakenRows, reference, fitsRest, fitsRow, leadRows, takeRows, transferRows, orderRows, detailRows}
+use Rattle.rules.specs.Messages.{Message, mt103, mt101, Transfer, Detail, lineOf, past, date32A, amount32A, baerefDate103, amount32B, dateCentrb, dateBaeref, transferOf, detailOf, takeDetail, details, readTransfer, readOrder, read, senderOf, referenceOf, firstDate, dateOf}
 use Rattle.rules.specs.Engine.{isBank}
 use Rattle.laws.specs.Numbers.{bic-number, bic-small}
 use Rattle.laws.specs.Parts.{cut, from, from-take}
@@ -26,16 +26,16 @@ use Rattle.engine_laws.specs.Facts.{never, cond-left, cond-both}
 
 -- ---- the first row of a form, which no message leaves out
 
-pub row-first : (r : Row) (rs : List Row) (cs : List ℕ) (x : Rowed) → r .optional ≡ false → rowed (r ∷ rs) cs ≡ some x → fitsRow r (lineOf (x .rows) 0) ≡ true
-unfolding rowed leadRows
+pub row-first : (r : Row) (rs : List Row) (cs : List ℕ) (x : TakenRows) → r .optional ≡ false → takeRows (r ∷ rs) cs ≡ some x → fitsRow r (lineOf (x .rows) 0) ≡ true
+unfolding takeRows leadRows
 row-first r rs cs x m h =
-    let t : Came (line cs) _ x = came _ _ h in go (t .value .line) (rowed rs (t .value .others)) (leadRows ([] ∷ []) (rowed rs cs)) (fitsRow r (t .value .line)) refl (t .gives)
+    let t : Came (line cs) _ x = came _ _ h in go (t .value .line) (takeRows rs (t .value .others)) (leadRows ([] ∷ []) (takeRows rs cs)) (fitsRow r (t .value .line)) refl (t .gives)
   where
-    go : (l : Line) (y without : Option Rowed) (b : Bool) → fitsRow r l ≡ b → cond b (leadRows (l ∷ []) y) (cond (r .optional) without none) ≡ some x → fitsRow r (lineOf (x .rows) 0) ≡ true
+    go : (l : Line) (y without : Option TakenRows) (b : Bool) → fitsRow r l ≡ b → cond b (leadRows (l ∷ []) y) (cond (r .optional) without none) ≡ some x → fitsRow r (lineOf (x .rows) 0) ≡ true
     go l none w true e k = absurd (let z : _≡_ {A = ℕ} 0 1 = cc in omega arith)
     go l (some y) w true e k =
         let q : record { rows = l ∷ y .rows; others = y .others } ≡ x = cc in rw (← q) e
-    go l y w false e k = absurd (let k' : cond (r .optional) w none ≡ some x = k in let n : _≡_ {A = Option Rowed} none (some x) = rw m at k' in let z : _≡_ {A = ℕ} 0 1 = cc in omega arith)
+    go l y w false e k = absurd (let k' : cond (r .optional) w none ≡ some x = k in let n : _≡_ {A = Option TakenRows} none (some x) = rw m at k' in let z : _≡_ {A = ℕ} 0 1 = cc in omega arith)
 
 -- ---- MT103 and MT101
 
@@ -80,7 +80,7 @@ detail-date ls x h =
 pub transfer-has : (s : List ℕ) (m : Message) → readTransfer s ≡ some m → Has s m
 unfolding readTransfer senderOf referenceOf dateOf
 transfer-has s m h =
-    let r : Came (rowed transferRows (body s)) _ m = came _ _ h in
+    let r : Came (takeRows transferRows (body s)) _ m = came _ _ h in
     let t : Came (transferOf (sender s) (r .value .rows)) _ m = came _ _ (r .gives) in
     let e : mt103 (t .value) ≡ m = gave (closing (r .value .others)) (mt103 (t .value)) (t .gives) .is in
     let o : TransferOf (sender s) (r .value .rows) (t .value) = transfer-of (sender s) (r .value .rows) (t .value) (t .is) in
@@ -92,11 +92,11 @@ transfer-has s m h =
 
 -- "one or more details": the first one's date exists
 details-date : (k : ℕ) (cs : List ℕ) (ds : List Detail) → details k cs ≡ some ds → exists (firstDate ds) ≡ true
-unfolding details detailed firstDate
+unfolding details takeDetail firstDate
 details-date zero cs ds h = absurd (let z : _≡_ {A = ℕ} 0 1 = cc in omega arith)
 details-date (suc k) cs ds h =
-    let d : Came (detailed cs) _ ds = came _ _ h in
-    let r : Came (rowed detailRows cs) _ (d .value) = came _ _ (d .is) in
+    let d : Came (takeDetail cs) _ ds = came _ _ h in
+    let r : Came (takeRows detailRows cs) _ (d .value) = came _ _ (d .is) in
     let x : Came (detailOf (r .value .rows)) _ (d .value) = came _ _ (r .gives) in
     let e : record { detail = x .value; others = r .value .others } ≡ d .value = some-is (x .gives) in
     let f : exists (d .value .detail .date) ≡ true = rw (← e) (detail-date _ (x .value) (x .is)) in
@@ -110,7 +110,7 @@ details-date (suc k) cs ds h =
 pub order-has : (s : List ℕ) (m : Message) → readOrder s ≡ some m → Has s m
 unfolding readOrder senderOf referenceOf dateOf
 order-has s m h =
-    let r : Came (rowed orderRows (body s)) _ m = came _ _ h in
+    let r : Came (takeRows orderRows (body s)) _ m = came _ _ h in
     let d : Came (details 4096 (r .value .others)) _ m = came _ _ (r .gives) in
     let e : mt101 record { sender = sender s; rows = r .value .rows; details = d .value } ≡ m = some-is (d .gives) in
     rw (← e) record {

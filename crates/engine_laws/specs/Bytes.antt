@@ -1,4 +1,4 @@
--- A slice holds bytes. Assumes nothing.
+-- A slice holds bytes.
 use mathlib.Core.List.{List}
 use Prim.Native.Nat.{ℕ, _<_}
 use lib.ListN.{getD}

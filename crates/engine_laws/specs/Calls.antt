@@ -1,4 +1,4 @@
--- The three calls on areas: an acceptance leaves an area that holds the next engine and writes its text, a refusal leaves all as it was. Assumes nothing.
+-- The three calls on areas: an acceptance leaves an area that holds the next engine and writes its text, a refusal leaves all as it was.
 use mathlib.Core.Path.{_≡_, refl, sym, _∙_}
 use mathlib.Core.Bool.{Bool, true, false, not, cond}
 use mathlib.Core.List.{List, [], _++_}

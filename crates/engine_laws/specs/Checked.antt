@@ -1,4 +1,4 @@
--- Records that pass their tests, one behind the other: all of them are within the limits, in order, distinct, and written as they stand. Assumes nothing.
+-- Records that pass their tests, one behind the other: all of them are within the limits, in order, distinct, and written as they stand.
 use mathlib.Core.Path.{_≡_, refl, sym, ap, _∙_}
 use mathlib.Core.Bool.{Bool, true, false, not, cond}
 use mathlib.Core.List.{List, [], _∷_, _++_, map}

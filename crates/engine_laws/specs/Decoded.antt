@@ -1,4 +1,4 @@
--- What is read off an area that holds an engine: the engine is what it says, the numbers of its header are those of its positions and references, and its texts stand in it. Assumes nothing.
+-- What is read off an area that holds an engine: the engine is what it says, the numbers of its header are those of its positions and references, and its texts stand in it.
 use mathlib.Core.Path.{_≡_, sym}
 use mathlib.Core.Bool.{true}
 use mathlib.Core.List.{List}

@@ -1,4 +1,4 @@
--- What a test that holds tells of its parts. Assumes nothing.
+-- What a test that holds tells of its parts.
 use mathlib.Core.Path.{_≡_, refl, sym}
 use mathlib.Core.Bool.{Bool, true, false, _&&_, _||_, cond}
 use mathlib.Core.List.{List, [], _∷_}

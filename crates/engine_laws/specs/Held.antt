@@ -1,4 +1,4 @@
--- What an area holds: the area that `encode` gives holds that engine, whatever stands behind it, and an area holds at most one engine. Assumes nothing.
+-- What an area holds: the area that `encode` gives holds that engine, whatever stands behind it, and an area holds at most one engine.
 use mathlib.Core.Path.{_≡_, refl, sym, ap, _∙_}
 use mathlib.Core.Bool.{true, _&&_}
 use mathlib.Core.List.{List, [], _∷_, _++_, map, append-assoc, append-nil}

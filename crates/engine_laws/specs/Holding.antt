@@ -1,4 +1,4 @@
--- Number 10: an area holds an engine exactly if its bytes pass the tests of the layout. Assumes nothing.
+-- Number 10: an area holds an engine exactly if its bytes pass the tests of the layout.
 use mathlib.Core.Path.{_≡_, refl, sym, ap, _∙_}
 use mathlib.Core.Bool.{Bool, true, _&&_}
 use mathlib.Core.List.{List, [], _++_, map, append-assoc}

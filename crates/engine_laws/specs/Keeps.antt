@@ -1,4 +1,4 @@
--- Accepted calls keep the engine within its limits: an opening, a message and a turn. Assumes nothing.
+-- Accepted calls keep the engine within its limits: an opening, a message and a turn.
 use mathlib.Core.Path.{_≡_, refl}
 use mathlib.Core.Bool.{Bool, true, false, not, cond}
 use mathlib.Core.List.{List, [], _∷_}
@@ -15,7 +15,7 @@ use Rattle.rules.specs.Register.{Register, register, registerOf}
 use Rattle.rules.specs.Verdict.{isReturned}
 use Rattle.rules.specs.Engine.{Position, Engine, limit, slashed, isBank, goodPositions, sameReference, goodReference, goodReferences, within}
 use Rattle.rules.specs.Written.{partsOf}
-use Rattle.rules.specs.Calls.{firstOf, holdsOf, openStops, opened, addressed, badReference, badAmount, badAccount, manyDates, misdated, messageText, bankOf, ownReference, added, after, noRoom, overLimit, verdictOf, returnedOf, judged, writes, afterMessage, inputStops, stateStops, messageStops, turnStops, afterTurn}
+use Rattle.rules.specs.Calls.{firstOf, holdsOf, openStops, opened, addressed, badReference, badAmount, badAccount, manyDates, misdated, messageText, bankOf, ownReference, added, after, noRoom, overLimit, verdictOf, returnedOf, hasVerdict, writes, afterMessage, inputStops, stateStops, messageStops, turnStops, afterTurn}
 use Rattle.rule_laws.specs.Clear.{OpenClear, open-clear, Clear, clear, TurnClear, turn-clear}
 use Rattle.engine_laws.specs.Facts.{or-left, or-right}
 use Rattle.engine_laws.specs.Limits.{Limits, limits, limits-within}
@@ -64,7 +64,7 @@ parts-few n h = go (eqb n 0)
 -- a message writes at most two parts of an MT199
 pub writes-few : (e : Engine) (m : Message) → length (detailsOf m) ≤ 16 → writes e m ≤ 2
 unfolding writes
-writes-few e m h = go (judged m (after e m))
+writes-few e m h = go (hasVerdict m (after e m))
   where
     n : ℕ
     n = length (returnedOf (registerOf (e .register)) (detailsOf m))

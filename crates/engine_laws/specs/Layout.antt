@@ -1,4 +1,4 @@
--- The layout of an area, read back: every part of `encode e` stands at its place and says what the engine has. Assumes nothing.
+-- The layout of an area, read back: every part of `encode e` stands at its place and says what the engine has.
 use mathlib.Core.Path.{_≡_, refl, ap, _∙_}
 use mathlib.Core.Bool.{true, false}
 use mathlib.Core.List.{List, [], _∷_, _++_, map, append-assoc, append-nil}

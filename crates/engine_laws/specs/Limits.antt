@@ -1,4 +1,4 @@
--- An engine within its limits (10): the limits one by one, and that its numbers fit the bytes of the layout. Assumes nothing.
+-- An engine within its limits (10): the limits one by one, and that its numbers fit the bytes of the layout.
 use mathlib.Core.Path.{_≡_}
 use mathlib.Core.Bool.{true}
 use Prim.Native.Nat.{ℕ, _+_, _*_, _/_, _≤_, _<_}

@@ -1,4 +1,4 @@
--- Lists in order by a relation that goes from one to the next and on: each stands before all behind it. Positions and references are such lists. Assumes nothing.
+-- Lists in order by a relation that goes from one to the next and on: each stands before all behind it. Positions and references are such lists.
 use mathlib.Core.Path.{_≡_, refl}
 use mathlib.Core.Bool.{Bool, true}
 use mathlib.Core.List.{List, [], _∷_}

@@ -1,4 +1,4 @@
--- Positions in their order: what `booked` and `kept` leave is in order again, and within the limits if the totals are. Assumes nothing.
+-- Positions in their order: what `booked` and `kept` leave is in order again, and within the limits if the totals are.
 use mathlib.Core.Path.{_≡_, refl, sym, ap}
 use mathlib.Core.Bool.{Bool, true, false, _&&_, _||_, not, cond, and-false}
 use mathlib.Core.List.{List, [], _∷_}

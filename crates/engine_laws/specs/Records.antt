@@ -1,4 +1,4 @@
--- The record tests against the definitions: a record of 24 bytes passes exactly if what it says is within the limits and is written as it stands. Assumes nothing.
+-- The record tests against the definitions: a record of 24 bytes passes exactly if what it says is within the limits and is written as it stands.
 use mathlib.Core.Path.{_≡_, refl, sym, ap, _∙_}
 use mathlib.Core.Bool.{Bool, true, false, _&&_, not, cond}
 use mathlib.Core.List.{List, [], _∷_, _++_, append-nil, append-assoc}

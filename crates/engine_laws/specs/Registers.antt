@@ -1,4 +1,4 @@
--- A register that passes 9 is short: the line of the temporary account has 24 bytes, and each of at most 40 account lines has 38. Assumes nothing.
+-- A register that passes 9 is short: the line of the temporary account has 24 bytes, and each of at most 40 account lines has 38.
 use mathlib.Core.Path.{_≡_, refl, sym}
 use mathlib.Core.Bool.{Bool, true, false, _&&_, cond}
 use mathlib.Core.List.{List, [], _∷_}

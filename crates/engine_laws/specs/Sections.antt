@@ -1,4 +1,4 @@
--- The four sections of an area, header, references, positions and texts: where each stands, and that an area with an engine's sections is the engine's. Assumes nothing.
+-- The four sections of an area, header, references, positions and texts: where each stands, and that an area with an engine's sections is the engine's.
 use mathlib.Core.Path.{_≡_, _∙_}
 use mathlib.Core.Bool.{true}
 use mathlib.Core.List.{List, _++_, map, append-assoc}

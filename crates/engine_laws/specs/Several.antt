@@ -1,5 +1,5 @@
 -- Texts one behind the other, with their lengths in the header, for any list of texts: text k of an area is the k-th of those that stand there, and the first n texts of an area, with zeros behind them, are its bytes.
--- Assumes nothing.
+--
 use mathlib.Core.Path.{_≡_, refl, sym, ap, _∙_}
 use mathlib.Core.Bool.{true}
 use mathlib.Core.List.{List, [], _∷_, _++_, map, append-assoc, append-nil}

@@ -1,4 +1,4 @@
--- Number 10 as tests of an area's bytes, in the order of the layout: what the code asks of header, references, positions and texts. Assumes nothing.
+-- Number 10 as tests of an area's bytes, in the order of the layout: what the code asks of header, references, positions and texts.
 use mathlib.Core.Bool.{Bool, _&&_, _||_, not}
 use mathlib.Core.List.{List}
 use Prim.Native.Nat.{ℕ, _+_, _-_, _*_}

@@ -1,4 +1,4 @@
--- A reference's text in 16 bytes, tested by how many bytes of a text there are at first. Assumes nothing.
+-- A reference's text in 16 bytes, tested by how many bytes of a text there are at first.
 use mathlib.Core.Path.{_≡_, refl, sym, ap, _∙_}
 use mathlib.Core.Bool.{Bool, true, false, _&&_, not, cond}
 use mathlib.Core.List.{List, [], _∷_}

@@ -1,4 +1,4 @@
--- A walk over records of 24 bytes: a test at each place, and the law for each way on and out of the loop that makes it. Assumes nothing.
+-- A walk over records of 24 bytes: a test at each place, and the law for each way on and out of the loop that makes it.
 use mathlib.Core.Path.{_≡_}
 use mathlib.Core.Bool.{Bool, true, false, cond}
 use Prim.Native.Nat.{ℕ, zero, suc, _+_, _-_, _≤_, _<_}

@@ -1,4 +1,4 @@
--- The ways on and out of the tests of an area: a law for each, with the facts as branches and calls hand them out. Assumes nothing.
+-- The ways on and out of the tests of an area: a law for each, with the facts as branches and calls hand them out.
 use mathlib.Core.Path.{_≡_, sym, ap, _∙_}
 use mathlib.Core.Bool.{Bool, true, false, _&&_, not}
 use mathlib.Core.List.{List}

@@ -8,9 +8,9 @@ use native.Mathlib.Omega.{arith}
 use lib.ListN.{length}
 use Rattle.rules.specs.Dates.{date}
 use Rattle.rules.specs.Amounts.{amount}
-use Rattle.rules.specs.Forms.{rowed, detailRows, detail32B, detailCentrb, detailBaeref}
+use Rattle.rules.specs.Forms.{takeRows, detailRows, detail32B, detailCentrb, detailBaeref}
 use Rattle.rules.specs.Messages as M
-use Rattle.rules.specs.Messages.{Detailed, detailOf, detailed}
+use Rattle.rules.specs.Messages.{TakenDetail, detailOf, takeDetail}
 use Rattle.laws.specs.Parts.{from}
 use Rattle.forms.specs.Table.{table, part}
 use Rattle.forms.specs.Spans.{Within, within-at, held, held-line}
@@ -24,12 +24,12 @@ abbrev pub detailHeld : List ℕ → Detail → M.Detail
 detailHeld s r = record { rows = held s (r .spans) 17; date = r .date; amount = r .amount }
 
 -- and what stands behind it
-abbrev pub detailedOf : List ℕ → Detail → Option Detailed
+abbrev pub detailedOf : List ℕ → Detail → Option TakenDetail
 detailedOf s r = cond (r .ok) (some record { detail = detailHeld s r; others = from s (r .next) }) none
 
 -- it is the detail that begins at `at`
 pub record DetailAt (s : List ℕ) (at : ℕ) (r : Detail) : Type 0 where
-  pub same : detailedOf s r ≡ detailed (from s at)
+  pub same : detailedOf s r ≡ takeDetail (from s at)
   pub next : r .next ≤ length s
   pub within : Within s (r .spans)
   pub small : r .amount < 10 ^ 16
@@ -39,18 +39,18 @@ unfolding part table
 detail-rows = refl
 
 module _ (s : List ℕ) (at : ℕ) (r : Rows) (w : RowsAt s at 23 17 r) where
-  pub detail-none : r .ok ≡ false → none ≡ detailed (from s at)
-  unfolding detailed
-  detail-none h = let e : none ≡ rowed detailRows (from s at) = rw (h, detail-rows) at (w .same) in rw (← e)
+  pub detail-none : r .ok ≡ false → none ≡ takeDetail (from s at)
+  unfolding takeDetail
+  detail-none h = let e : none ≡ takeRows detailRows (from s at) = rw (h, detail-rows) at (w .same) in rw (← e)
 
-  pub detail-three : r .ok ≡ true → detailed (from s at) ≡ three
+  pub detail-three : r .ok ≡ true → takeDetail (from s at) ≡ three
       (λ a d b. record { detail = record { rows = held s (r .spans) 17; date = d; amount = a }; others = from s (r .next) })
       (sumIn s (r .spans) detail32B 8)
       (dateIn s (r .spans) detailCentrb 10)
       (dateIn s (r .spans) detailBaeref 6)
-  unfolding detailed detailOf three
+  unfolding takeDetail detailOf three
   detail-three h =
-      let e : some record { rows = held s (r .spans) 17; others = from s (r .next) } ≡ rowed detailRows (from s at) = rw (h, detail-rows) at (w .same) in
+      let e : some record { rows = held s (r .spans) 17; others = from s (r .next) } ≡ takeRows detailRows (from s at) = rw (h, detail-rows) at (w .same) in
       rw (← e, held-line s (r .spans) 17 detail32B (omega arith), held-line s (r .spans) 17 detailCentrb (omega arith), held-line s (r .spans) 17 detailBaeref (omega arith))
       (three-on (λ d. record { detail = d; others = from s (r .next) }) (λ a d b. record { rows = held s (r .spans) 17; date = d; amount = a }) (sumIn s (r .spans) detail32B 8) (dateIn s (r .spans) detailCentrb 10) (dateIn s (r .spans) detailBaeref 6))
 

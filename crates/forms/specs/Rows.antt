@@ -9,7 +9,7 @@ use native.Mathlib.Omega.{arith}
 use lib.ListN.{length, set, length-set, replicate, length-replicate}
 use Rattle.rules.specs.Lines.{Line, Taken, line}
 use Rattle.rules.specs.Forms as F
-use Rattle.rules.specs.Forms.{fitsRow, Rowed, leadRows, rowed}
+use Rattle.rules.specs.Forms.{fitsRow, TakenRows, leadRows, takeRows}
 use Rattle.laws.specs.Parts.{cut, from, cut-done}
 use Rattle.laws.specs.Tests.{never}
 use Rattle.lines.specs.Answers.{LineAt, LineEnd, NoLine, line-told, no-line-told}
@@ -22,12 +22,12 @@ use Rattle.forms.specs.declared.rows.Rows.{Rows}
 use Rattle.forms.specs.declared.table.Row.{Row}
 
 -- the lines by rows that an answer holds
-abbrev pub rowsOf : List ℕ → ℕ → Rows → Option Rowed
+abbrev pub rowsOf : List ℕ → ℕ → Rows → Option TakenRows
 rowsOf s count r = cond (r .ok) (some record { rows = held s (r .spans) count; others = from s (r .next) }) none
 
 -- they are what the rows make of the text from `at` on
 pub record RowsAt (s : List ℕ) (at first count : ℕ) (r : Rows) : Type 0 where
-  pub same : rowsOf s count r ≡ rowed (part first count) (from s at)
+  pub same : rowsOf s count r ≡ takeRows (part first count) (from s at)
   pub next : r .next ≤ length s
   pub within : Within s (r .spans)
 
@@ -37,38 +37,38 @@ lead-none : (ls : List Line) → leadRows ls none ≡ none
 unfolding leadRows
 lead-none ls = refl
 
-lead-nil : (o : Option Rowed) → leadRows [] o ≡ o
+lead-nil : (o : Option TakenRows) → leadRows [] o ≡ o
 unfolding leadRows
 lead-nil none = refl
 lead-nil (some r) = refl
 
-lead-more : (ls : List Line) (l : Line) (o : Option Rowed) → leadRows (ls ++ (l ∷ [])) o ≡ leadRows ls (leadRows (l ∷ []) o)
+lead-more : (ls : List Line) (l : Line) (o : Option TakenRows) → leadRows (ls ++ (l ∷ [])) o ≡ leadRows ls (leadRows (l ∷ []) o)
 unfolding leadRows
 lead-more ls l none = refl
-lead-more ls l (some r) = ap {B = Option Rowed} (λ (x : List Line). some record { rows = x; others = r .others }) (append-assoc ls (l ∷ []) (r .rows))
+lead-more ls l (some r) = ap {B = Option TakenRows} (λ (x : List Line). some record { rows = x; others = r .others }) (append-assoc ls (l ∷ []) (r .rows))
 
-lead-done : (ls : List Line) (cs : List ℕ) → leadRows ls (rowed [] cs) ≡ some record { rows = ls; others = cs }
-unfolding leadRows rowed
-lead-done ls cs = ap {B = Option Rowed} (λ (x : List Line). some record { rows = x; others = cs }) (append-nil ls)
+lead-done : (ls : List Line) (cs : List ℕ) → leadRows ls (takeRows [] cs) ≡ some record { rows = ls; others = cs }
+unfolding leadRows takeRows
+lead-done ls cs = ap {B = Option TakenRows} (λ (x : List Line). some record { rows = x; others = cs }) (append-nil ls)
 
 -- ---- a text against its first row
 
 module _ (r : F.Row) (rs : List F.Row) (cs : List ℕ) where
-  row-none : line cs ≡ none → rowed (r ∷ rs) cs ≡ none
-  unfolding rowed
+  row-none : line cs ≡ none → takeRows (r ∷ rs) cs ≡ none
+  unfolding takeRows
   row-none e = rw e
 
   module _ (t : Taken) (e : line cs ≡ some t) where
-    row-with : fitsRow r (t .line) ≡ true → rowed (r ∷ rs) cs ≡ leadRows (t .line ∷ []) (rowed rs (t .others))
-    unfolding rowed
+    row-with : fitsRow r (t .line) ≡ true → takeRows (r ∷ rs) cs ≡ leadRows (t .line ∷ []) (takeRows rs (t .others))
+    unfolding takeRows
     row-with h = rw (e, h)
 
-    row-without : fitsRow r (t .line) ≡ false → r .optional ≡ true → rowed (r ∷ rs) cs ≡ leadRows ([] ∷ []) (rowed rs cs)
-    unfolding rowed
+    row-without : fitsRow r (t .line) ≡ false → r .optional ≡ true → takeRows (r ∷ rs) cs ≡ leadRows ([] ∷ []) (takeRows rs cs)
+    unfolding takeRows
     row-without h m = rw (e, h, m)
 
-    row-bad : fitsRow r (t .line) ≡ false → r .optional ≡ false → rowed (r ∷ rs) cs ≡ none
-    unfolding rowed
+    row-bad : fitsRow r (t .line) ≡ false → r .optional ≡ false → takeRows (r ∷ rs) cs ≡ none
+    unfolding takeRows
     row-bad h m = rw (e, h, m)
 
 -- ---- the line at a place held against row k
@@ -84,8 +84,8 @@ pub record ToHold (s : List ℕ) (at k : ℕ) (n : Next) : Type 0 where
 pub record HeldAt (s : List ℕ) (at k : ℕ) (r : Held) : Type 0 where
   pub place : r .at ≤ length s
   pub within : SpanIn s (r .span)
-  pub goes : r .ok ≡ true → (rs : List F.Row) → rowed (rowOf (codeAt k) ∷ rs) (from s at) ≡ leadRows (spanOf s (r .span) ∷ []) (rowed rs (from s (r .at)))
-  pub stops : r .ok ≡ false → (rs : List F.Row) → rowed (rowOf (codeAt k) ∷ rs) (from s at) ≡ none
+  pub goes : r .ok ≡ true → (rs : List F.Row) → takeRows (rowOf (codeAt k) ∷ rs) (from s at) ≡ leadRows (spanOf s (r .span) ∷ []) (takeRows rs (from s (r .at)))
+  pub stops : r .ok ≡ false → (rs : List F.Row) → takeRows (rowOf (codeAt k) ∷ rs) (from s at) ≡ none
 
 none-in : (s : List ℕ) → SpanIn s noSpan
 none-in s = record { order = omega arith; room = omega arith }
@@ -127,7 +127,7 @@ pub record Rowing (s : List ℕ) (at first count : ℕ) (l : List Span) (pos i :
   pub few : i ≤ count
   pub place : pos ≤ length s
   pub size : length l ≡ 23
-  pub same : leadRows (held s l i) (rowed (part (first + i) (count - i)) (from s pos)) ≡ rowed (part first count) (from s at)
+  pub same : leadRows (held s l i) (takeRows (part (first + i) (count - i)) (from s pos)) ≡ takeRows (part first count) (from s at)
   pub within : Within s l
 
 module _ (s : List ℕ) (at f n : ℕ) where
@@ -138,14 +138,14 @@ module _ (s : List ℕ) (at f n : ℕ) where
     pub rows-done : n ≤ i → RowsAt s at f n record { ok = true; next = pos; spans = l }
     rows-done k = record { same = go _ (inv .same); next = inv .place; within = inv .within }
       where
-        go : (x : Option Rowed) → leadRows (held s l i) (rowed (part (f + i) (n - i)) (from s pos)) ≡ x → some record { rows = held s l n; others = from s pos } ≡ x
+        go : (x : Option TakenRows) → leadRows (held s l i) (takeRows (part (f + i) (n - i)) (from s pos)) ≡ x → some record { rows = held s l n; others = from s pos } ≡ x
         go x g =
             let e : n - i ≡ 0 = omega (arith, k) in
             let d : i ≡ n = omega (arith, k, inv .few) in
             rw (← d) (sym (lead-done (held s l i) (from s pos)) ∙ (rw (e, part-none) at g))
 
     module _ (b : f + n ≤ 40) (h : i < n) (r : Held) (w : HeldAt s pos (f + i) r) where
-      step : leadRows (held s l i) (rowed (rowOf (codeAt (f + i)) ∷ part (f + (i + 1)) (n - (i + 1))) (from s pos)) ≡ rowed (part f n) (from s at)
+      step : leadRows (held s l i) (takeRows (rowOf (codeAt (f + i)) ∷ part (f + (i + 1)) (n - (i + 1))) (from s pos)) ≡ takeRows (part f n) (from s at)
       step =
           let u : f + (i + 1) ≡ f + i + 1 = omega arith in
           let v : n - (i + 1) ≡ n - i - 1 = omega arith in

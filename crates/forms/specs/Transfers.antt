@@ -7,7 +7,7 @@ use Prim.Native.Nat.{ℕ, _^_, _<_}
 use native.Mathlib.Omega.{arith}
 use Rattle.rules.specs.Text.{then, given}
 use Rattle.rules.specs.Lines.{closing, sender, body}
-use Rattle.rules.specs.Forms.{rowed, transferRows, transfer32A, transferBaeref}
+use Rattle.rules.specs.Forms.{takeRows, transferRows, transfer32A, transferBaeref}
 use Rattle.rules.specs.Messages as M
 use Rattle.rules.specs.Messages.{Message, mt103, transferOf, readTransfer}
 use Rattle.laws.specs.Parts.{from}
@@ -43,10 +43,10 @@ never f (some a) = refl
 module _ (s : List ℕ) (r : Rows) (w : RowsAt s 23 0 23 r) where
   pub transfer-none : r .ok ≡ false → none ≡ readTransfer s
   unfolding readTransfer
-  transfer-none h = let e : none ≡ rowed transferRows (body s) = rw (h, transfer-rows, body-from) at (w .same) in rw (← e)
+  transfer-none h = let e : none ≡ takeRows transferRows (body s) = rw (h, transfer-rows, body-from) at (w .same) in rw (← e)
 
   module _ (h : r .ok ≡ true) (t : Bool) (u : t ≡ closing (from s (r .next))) where
-    rows-known : some record { rows = held s (r .spans) 23; others = from s (r .next) } ≡ rowed transferRows (body s)
+    rows-known : some record { rows = held s (r .spans) 23; others = from s (r .next) } ≡ takeRows transferRows (body s)
     rows-known = rw (h, transfer-rows, body-from) at (w .same)
 
     pub transfer-open : t ≡ false → none ≡ readTransfer s

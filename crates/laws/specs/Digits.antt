@@ -1,4 +1,4 @@
--- Numbers in places, to any base: parts of them, groups of them, and how many a decimal number has. Assumes nothing.
+-- Numbers in places, to any base: parts of them, groups of them, and how many a decimal number has.
 use mathlib.Core.Path.{_≡_, refl, sym, ap, _∙_}
 use mathlib.Core.Bool.{Bool, true, false, cond}
 use mathlib.Core.List.{List, [], _∷_, _++_}

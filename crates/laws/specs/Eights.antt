@@ -1,4 +1,4 @@
--- Bytes that all pass a test, gone through eight at a time and the rest by itself: a law for each way on and out. Assumes nothing.
+-- Bytes that all pass a test, gone through eight at a time and the rest by itself: a law for each way on and out.
 use mathlib.Core.Path.{_≡_, refl, sym, ap, _∙_}
 use mathlib.Core.Bool.{Bool, true, false, cond}
 use mathlib.Core.List.{List, [], _∷_, _++_}

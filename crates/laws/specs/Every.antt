@@ -1,4 +1,4 @@
--- Bytes that all pass a test: of texts joined, of parts, of a wider class. Assumes nothing.
+-- Bytes that all pass a test: of texts joined, of parts, of a wider class.
 use mathlib.Core.Path.{_≡_, refl}
 use mathlib.Core.Bool.{Bool, true, false, cond}
 use mathlib.Core.List.{List, [], _∷_, _++_}

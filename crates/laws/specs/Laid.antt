@@ -1,5 +1,5 @@
 -- A text laid over an output: what every writer does. These laws say how texts laid one after the other, apart from each other or
--- inside each other come together. Assumes nothing.
+-- inside each other come together.
 use mathlib.Core.Path.{_≡_, refl, sym, ap, _∙_}
 use mathlib.Core.Logic.{_≢_}
 use mathlib.Core.List.{List, [], _∷_, _++_, append-assoc}

@@ -1,5 +1,5 @@
 -- Bytes moved within an area, up from the last one or down from the first one, and the loop that moves the records to keep to the
--- front of a section. Assumes nothing.
+-- front of a section.
 use mathlib.Core.Path.{_≡_, refl, sym, ap, _∙_}
 use mathlib.Core.Bool.{Bool, true, false}
 use mathlib.Core.List.{List, [], _∷_, _++_, append-nil}

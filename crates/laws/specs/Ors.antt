@@ -1,4 +1,4 @@
--- Bytes or-ed together: the or is 0 exactly where each of them is. Assumes nothing.
+-- Bytes or-ed together: the or is 0 exactly where each of them is.
 use mathlib.Core.Path.{_≡_, refl, sym, ap, _∙_}
 use mathlib.Core.Bool.{Bool, true, false, cond}
 use mathlib.Core.List.{List, [], _∷_}

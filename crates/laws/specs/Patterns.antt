@@ -1,4 +1,4 @@
--- A pattern in runs of equal signs: bytes fit it where each run's bytes are of the class of its sign. Assumes nothing.
+-- A pattern in runs of equal signs: bytes fit it where each run's bytes are of the class of its sign.
 use mathlib.Core.Path.{_≡_, refl, sym, ap, _∙_}
 use mathlib.Core.Bool.{Bool, true, false, _&&_, cond}
 use mathlib.Core.List.{List, [], _∷_, _++_}

@@ -1,5 +1,5 @@
 -- A text written in three to five pieces, one call behind the other. The first piece is asked for first; each call then tells where the next began. A search finds them at
--- once, where it would try every way to part the text if it were handed `wrote-then` alone. Assumes nothing.
+-- once, where it would try every way to part the text if it were handed `wrote-then` alone.
 use mathlib.Core.Path.{_≡_, refl, sym, ap, _∙_}
 use mathlib.Core.Bool.{cond}
 use mathlib.Core.List.{List, [], _++_, append-nil}

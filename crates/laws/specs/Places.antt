@@ -1,5 +1,5 @@
 -- A loop that counts how far a part passes a test, up to the first place that fails: the count is the part's length exactly where the whole part passes.
--- Assumes nothing.
+--
 use mathlib.Core.Path.{_≡_, refl, sym, _∙_}
 use mathlib.Core.Bool.{Bool, true, false, cond}
 use mathlib.Core.List.{List, [], _∷_, _++_}

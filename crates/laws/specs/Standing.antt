@@ -1,5 +1,5 @@
 -- A section at its place in a larger area: what is written into it leaves a section there, and what stands before it and behind
--- it stays. Assumes nothing.
+-- it stays.
 use mathlib.Core.Path.{_≡_, refl, sym, ap, _∙_}
 use mathlib.Core.Bool.{Bool}
 use mathlib.Core.List.{List, [], _∷_, _++_, append-assoc}

@@ -1,4 +1,4 @@
--- Tables as functions of a place: what an arm of a match is told, and a test that is computed over all places. Assumes nothing.
+-- Tables as functions of a place: what an arm of a match is told, and a test that is computed over all places.
 use mathlib.Core.Path.{_≡_, refl, sym, ap, _∙_}
 use mathlib.Core.Bool.{Bool, true, false, cond}
 use Prim.Native.Nat.{ℕ, zero, suc, _+_, _≤_, _<_}

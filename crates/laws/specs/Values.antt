@@ -1,4 +1,4 @@
--- The number of bytes that are known to be digits: read place by place, and in two groups. Assumes nothing.
+-- The number of bytes that are known to be digits: read place by place, and in two groups.
 use mathlib.Core.Path.{_≡_, refl, sym, ap, _∙_}
 use mathlib.Core.Bool.{Bool, true, false, cond}
 use mathlib.Core.List.{List, [], _∷_, _++_}

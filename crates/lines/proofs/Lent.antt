@@ -1,4 +1,4 @@
--- A walk over a text keeps what the text owns and lends it to each call, as it stands or as a reader over it: of a `&` there can be two. Assumes nothing.
+-- A walk over a text keeps what the text owns and lends it to each call, as it stands or as a reader over it: of a `&` there can be two.
 use mathlib.Core.Path.{refl}
 use Prim.Native.Nat.{ℕ, _<_, _^_}
 use mathlib.Core.List.{List, [], _∷_}

@@ -1,4 +1,4 @@
--- The text of a message that is booked, off its bytes and the area. Assumes nothing.
+-- The text of a message that is booked, off its bytes and the area.
 use mathlib.Core.Path.{_≡_, refl, sym, ap, _∙_}
 use mathlib.Core.Bool.{Bool, true, false, not, cond}
 use mathlib.Core.List.{List, [], _++_}
@@ -11,7 +11,7 @@ use Rattle.rules.specs.Messages.{Message, dateOf, detailsOf}
 use Rattle.rules.specs.Register.{register, registerOf}
 use Rattle.rules.specs.Engine.{Engine, Position, hasDetails}
 use Rattle.rules.specs.Written.{mt199s, partsOf, verdicts}
-use Rattle.rules.specs.Calls.{bankOf, judged, after, returnedOf, postings, messageText, writes}
+use Rattle.rules.specs.Calls.{bankOf, hasVerdict, after, returnedOf, postings, messageText, writes}
 use Rattle.rules.specs.Area.{decode, holds}
 use Rattle.laws.specs.Writing.{Wrote, wrote-then}
 use Rattle.engine.specs.Totals.{TotalsOf}
@@ -51,11 +51,11 @@ verdictFollows false detailed = true
 pub transfer-follows : (t : Bool) (detailed : ℕ) → t ≡ true → leb 1 detailed ≡ verdictFollows t detailed
 transfer-follows t detailed e = rw e
 
-follows-is : (s : List ℕ) (b : Booking) → Books s (messageIn s) b → (p : P.Position) → judged (messageIn s) (positionValue p) ≡ verdictFollows (b .transfer) (p .detailed)
-unfolding judged hasDetails
+follows-is : (s : List ℕ) (b : Booking) → Books s (messageIn s) b → (p : P.Position) → hasVerdict (messageIn s) (positionValue p) ≡ verdictFollows (b .transfer) (p .detailed)
+unfolding hasVerdict hasDetails
 follows-is s b k p = go (b .transfer) refl
   where
-    go : (t : Bool) → b .transfer ≡ t → judged (messageIn s) (positionValue p) ≡ verdictFollows t (p .detailed)
+    go : (t : Bool) → b .transfer ≡ t → hasVerdict (messageIn s) (positionValue p) ≡ verdictFollows t (p .detailed)
     go true e = rw (transfer-is s b k e .same)
     go false e = rw (order-is s b k e .same)
 
@@ -79,7 +79,7 @@ pub record Writes (e : Engine) (m : Message) (r : ℕ) : Type 0 where
   pub few : r ≤ 4096
 
 module _ (a s : List ℕ) (b : Booking) (k : Books s (messageIn s) b) (p : P.Position) (q : positionValue p ≡ after (decode a) (messageIn s)) where
-  judged-is : judged (messageIn s) (after (decode a) (messageIn s)) ≡ verdictFollows (b .transfer) (p .detailed)
+  judged-is : hasVerdict (messageIn s) (after (decode a) (messageIn s)) ≡ verdictFollows (b .transfer) (p .detailed)
   judged-is = rw (← q) (follows-is s b k p)
 
   pub writes-told : (amounts places verdicts : List ℕ) → JudgedIn (decode a .register) s amounts places verdicts (b .count) → {n : ℕ} → ReturnedCount verdicts (b .count) n → {r : ℕ} → WritesOf b p n r → Writes (decode a) (messageIn s) r
@@ -107,7 +107,7 @@ text-is : (e : Engine) (m : Message)
     ≡ postings (registerOf (e .register)) (record { day = e .day; temporary = registerOf (e .register) .temporary; bank = bankOf m; date = dateOf m }) m
     ++ mt199s (writes e m) (e .day) (e .count) (after e m) 1 (writes e m) (returnedOf (registerOf (e .register)) (detailsOf m))
 unfolding messageText writes verdicts mt199s
-text-is e m = go (judged m (after e m))
+text-is e m = go (hasVerdict m (after e m))
   where
     go : (t : Bool)
         → postings (registerOf (e .register)) (record { day = e .day; temporary = registerOf (e .register) .temporary; bank = bankOf m; date = dateOf m }) m

@@ -1,4 +1,4 @@
--- The parts of an MT199, as a loop writes them. Assumes nothing.
+-- The parts of an MT199, as a loop writes them.
 use mathlib.Core.Path.{_≡_, refl, ap, _∙_}
 use mathlib.Core.Bool.{Bool, true, false}
 use mathlib.Core.List.{List, _++_}
@@ -10,7 +10,7 @@ use lib.Dec.{leb}
 use borrow.Author.Tests.{eq-eqb, ne-eqb, leb-true, leb-false}
 use Rattle.rules.specs.Text.{ascii}
 use Rattle.rules.specs.Engine.{Position}
-use Rattle.rules.specs.Written.{opened, field, reference, linked, position79, closed79, mt199, mt199s, partsOf}
+use Rattle.rules.specs.Written.{firstLine, field, reference, linked, position79, closed79, mt199, mt199s, partsOf}
 use Rattle.laws.specs.Writing.{Wrote, Left, left-turn, left-none, left-length, furthest}
 use Rattle.laws.specs.Pieces.{wrote-4, left-all}
 use Rattle.details.specs.Kept.{LinesIn}
@@ -83,7 +83,7 @@ pub record PartPut (r : Reference) (p : Position) (parts : ℕ) (s verdicts : Li
   pub first : t' .first + partAt parts t ≡ r .number + 1
 
 module _ (r : Reference) (p : Position) (parts : ℕ) (s verdicts : List ℕ) (n : ℕ) (t : Parting) {first a b e : ℕ} {c : Place} {places out out₁ out₂ out₃ out₄ : List ℕ} (d : PartDue r parts s places n t) (f : FirstOf (partAt parts t) (r .number) (t .first) first) where
-  pub part-wrote : Wrote (opened (ascii "199") (p .key .bank) ++ field (ascii ":20:") (reference (r .day) (r .number)) ++ linked (r .day) (first - 1) (partAt parts t)) (t .out) out a out₁ → Wrote (position79 (p .key .date) (p .transferred) (p .detailed)) a out₁ b out₂
+  pub part-wrote : Wrote (firstLine (ascii "199") (p .key .bank) ++ field (ascii ":20:") (reference (r .day) (r .number)) ++ linked (r .day) (first - 1) (partAt parts t)) (t .out) out a out₁ → Wrote (position79 (p .key .date) (p .transferred) (p .detailed)) a out₁ b out₂
       → RowsPut s verdicts (t .detail) n 14 b out₂ c out₃ → Wrote (closed79 (partAt parts t) parts) (c .out) out₃ e out₄ → PartPut r p parts s verdicts n t out (record { out = e; detail = c .at; left = t .left - 1; first = first }) out₄
   unfolding mt199
   part-wrote u v w x =

@@ -1,4 +1,4 @@
--- The posting lines of a message that is booked. Assumes nothing.
+-- The posting lines of a message that is booked.
 use mathlib.Core.Path.{_≡_, subst}
 use mathlib.Core.Bool.{true, false}
 use mathlib.Core.List.{List}

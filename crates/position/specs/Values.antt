@@ -1,4 +1,4 @@
--- What the code's key and position say in the paper's words. Assumes nothing.
+-- What the code's key and position say in the paper's words.
 use Rattle.rules.specs.Engine as E
 use Rattle.position.specs.declared.Key.{Key}
 use Rattle.position.specs.declared.Position.{Position}

@@ -1,4 +1,4 @@
--- Numbers written by groups of eight places: what a writer of such a group lays, and how groups make up a number and an amount. Assumes nothing.
+-- Numbers written by groups of eight places: what a writer of such a group lays, and how groups make up a number and an amount.
 use mathlib.Core.Path.{_≡_, sym, ap, _∙_}
 use mathlib.Core.Logic.{_⊎_, inl, inr}
 use mathlib.Core.List.{List, [], _∷_, _++_}

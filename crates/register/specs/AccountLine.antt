@@ -1,4 +1,4 @@
--- An account line, by tests alone: where the line has its form, both bounds are numbers. Assumes nothing.
+-- An account line, by tests alone: where the line has its form, both bounds are numbers.
 use mathlib.Core.Path.{_≡_, refl}
 use mathlib.Core.Bool.{Bool, true, false, _&&_, cond}
 use mathlib.Core.List.{List, [], _∷_}

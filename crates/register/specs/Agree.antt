@@ -1,4 +1,4 @@
--- A text passes 9 exactly where the tests at its places hold, and then the register is what stands there. Assumes nothing.
+-- A text passes 9 exactly where the tests at its places hold, and then the register is what stands there.
 use mathlib.Core.Path.{_≡_, refl, sym, ap, subst, _∙_}
 use mathlib.Core.Bool.{Bool, true, false, _&&_, not}
 use mathlib.Core.List.{List, [], _∷_, map}

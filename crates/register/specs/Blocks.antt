@@ -1,4 +1,4 @@
--- A line of fixed length stands at a place exactly where the bytes there fit its pattern and CR LF. Assumes nothing.
+-- A line of fixed length stands at a place exactly where the bytes there fit its pattern and CR LF.
 use mathlib.Core.Path.{_≡_, refl, sym, ap, subst, _∙_}
 use mathlib.Core.Bool.{Bool, true, false, _||_, not, cond}
 use mathlib.Core.List.{List, [], _∷_}

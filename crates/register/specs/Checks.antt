@@ -1,4 +1,4 @@
--- The checks of a register's text: a law for each way out, the tests as calls answered them. Assumes nothing.
+-- The checks of a register's text: a law for each way out, the tests as calls answered them.
 use mathlib.Core.Path.{_≡_, refl, sym, _∙_}
 use mathlib.Core.Bool.{Bool, true, false, _&&_, not}
 use mathlib.Core.List.{List}

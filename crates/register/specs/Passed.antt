@@ -1,4 +1,4 @@
--- What a register's text that passed 9 is, for those who read it. Assumes nothing.
+-- What a register's text that passed 9 is, for those who read it.
 use mathlib.Core.Path.{_≡_, refl, sym, ap, _∙_}
 use mathlib.Core.Bool.{Bool, true, false}
 use mathlib.Core.List.{List, map}

@@ -1,4 +1,4 @@
--- The laws that the search is handed at the needs of this crate. Assumes nothing.
+-- The laws that the search is handed at the needs of this crate.
 use Rattle.register.specs.Turns.{turns}
 use Rattle.register.specs.Formed.{formed}
 use Rattle.register.specs.Checks.{checks}

@@ -1,4 +1,4 @@
--- What the loop of the replay program keeps from turn to turn. Assumes nothing.
+-- What the loop of the replay program keeps from turn to turn.
 use mathlib.Core.Path.{_≡_, refl, _∙_, subst}
 use mathlib.Core.List.{List}
 use Prim.Native.Nat.{ℕ, _+_, _-_, _≤_, min}

@@ -1,4 +1,4 @@
--- What an accepted call tells of its conditions: none of them holds, each read by its number. Assumes nothing.
+-- What an accepted call tells of its conditions: none of them holds, each read by its number.
 use mathlib.Core.Path.{_≡_, refl}
 use mathlib.Core.Bool.{true, false}
 use mathlib.Core.List.{List}

@@ -1,4 +1,4 @@
--- Lists of conditions of refusal: the first that holds in lists one behind the other, and what an accepted list tells of each of its conditions, by its number. Assumes nothing.
+-- Lists of conditions of refusal: the first that holds in lists one behind the other, and what an accepted list tells of each of its conditions, by its number.
 use mathlib.Core.Path.{_≡_, refl, sym, _∙_}
 use mathlib.Core.Bool.{Bool, true, false, cond}
 use mathlib.Core.List.{List, [], _∷_, _++_}

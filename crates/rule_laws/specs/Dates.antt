@@ -1,4 +1,4 @@
--- Dates that exist: six digits at most, and every date that is read. Assumes nothing.
+-- Dates that exist: six digits at most, and every date that is read.
 use mathlib.Core.Path.{_≡_}
 use mathlib.Core.Bool.{Bool, true, false, cond}
 use mathlib.Core.List.{List}

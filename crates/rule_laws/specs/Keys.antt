@@ -1,4 +1,4 @@
--- Keys of positions: their order, "by BIC in byte order and then date", and when two are the same. Assumes nothing.
+-- Keys of positions: their order, "by BIC in byte order and then date", and when two are the same.
 use mathlib.Core.Path.{_≡_, refl, sym, _∙_}
 use mathlib.Core.Bool.{Bool, true, false, _&&_, _||_, not, and-false}
 use Prim.Native.Nat.{ℕ, _≤_, _<_}

@@ -1,4 +1,4 @@
--- The lines of a text, taken apart. Assumes nothing.
+-- The lines of a text, taken apart.
 use mathlib.Core.Path.{_≡_, refl}
 use mathlib.Core.Bool.{Bool, true, false, cond}
 use mathlib.Core.List.{List, [], _∷_}

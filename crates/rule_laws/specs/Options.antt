@@ -1,4 +1,4 @@
--- What an option that is there tells of how it was made. Assumes nothing.
+-- What an option that is there tells of how it was made.
 use mathlib.Core.Path.{_≡_, refl}
 use mathlib.Core.Bool.{Bool, true, false}
 use mathlib.Core.Option.{Option, none, some}

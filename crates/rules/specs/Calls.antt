@@ -171,13 +171,13 @@ postings r b (mt103 t) = fromBank b (t .amount)
 postings r b (mt101 o) = detailPostings r b (o .details)
 
 -- "MT199 follows every accepted MT101, and an MT103 whose position has details."
-unfoldable pub judged : Message → Position → Bool
-judged (mt103 t) p = hasDetails p
-judged (mt101 o) p = true
+unfoldable pub hasVerdict : Message → Position → Bool
+hasVerdict (mt103 t) p = hasDetails p
+hasVerdict (mt101 o) p = true
 
 -- how many messages are written
 unfoldable pub writes : Engine → Message → ℕ
-writes e m = cond (judged m (after e m)) (partsOf (length (returnedOf (registerOf (e .register)) (detailsOf m)))) 0
+writes e m = cond (hasVerdict m (after e m)) (partsOf (length (returnedOf (registerOf (e .register)) (detailsOf m)))) 0
 
 -- all that an accepted message makes the card write: posting lines, then the parts of the MT199
 unfoldable pub messageText : Engine → Message → List ℕ
@@ -185,7 +185,7 @@ messageText e m =
     let r = registerOf (e .register) in
     let p = after e m in
     let b : Book = record { day = e .day; temporary = r .temporary; bank = bankOf m; date = dateOf m } in
-    postings r b m ++ cond (judged m p) (verdicts (e .day) (e .count) p (returnedOf r (detailsOf m))) []
+    postings r b m ++ cond (hasVerdict m p) (verdicts (e .day) (e .count) p (returnedOf r (detailsOf m))) []
 
 -- the engine after the message
 unfoldable pub afterMessage : Engine → Message → Engine

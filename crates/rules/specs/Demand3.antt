@@ -9,7 +9,7 @@ use lib.ListN.{take}
 use Rattle.rules.specs.Register.{registerOf}
 use Rattle.rules.specs.Engine.{Position, Engine}
 use Rattle.rules.specs.Area.{Result, cardOpen, cardMessage, cardTurn, holds}
-use Rattle.rules.specs.Ledger.{Fed, message, turn, Event, ledgerOf, held, times, isTransfer, isCollection, isReturn, isRefund, isCredit, sumOf, afterTurn, accepted, untouched}
+use Rattle.rules.specs.Ledger.{Fed, message, turn, Event, ledgerOf, held, times, isTransfer, isCollection, isReturn, isRefund, isCredit, sumOf, sinceTurn, accepted, untouched}
 
 -- a call of the list: a message or a turn, and the output area lent to it
 pub record Call : Type 0 where
@@ -49,7 +49,7 @@ pub record Balanced (temporary : List ℕ) (r : Ran) : Type 0 where
   -- "the open positions in the area are exactly that ledger's"
   pub positions : (p : Position) → times p (engine .positions) ≡ times p (ledgerOf (r .events))
   -- "From each accepted turn until the next accepted message, held is exactly .."
-  pub untouchedHeld : afterTurn false (r .events) ≡ true → (bank : ℕ) → bank < 2 ^ 64
+  pub untouchedHeld : sinceTurn false (r .events) ≡ true → (bank : ℕ) → bank < 2 ^ 64
       → held bank (ledgerOf (r .events)) ≡ pos (untouched bank (accepted (r .events)) (accepted (r .events)))
 
 -- "After any list of message and turn calls (refused ones included) behind an accepted opening"

@@ -143,20 +143,20 @@ pub named : headsOf transferRows (message20 ∷ transfer32A ∷ transfer59 ∷ t
 named = refl
 
 -- lines by rows, an empty one for a row that is left out, and the bytes behind them
-pub record Rowed : Type 0 where
+pub record TakenRows : Type 0 where
   pub rows : List Line
   pub others : List ℕ
 
 -- the lines ls before
-unfoldable pub leadRows : List Line → Option Rowed → Option Rowed
+unfoldable pub leadRows : List Line → Option TakenRows → Option TakenRows
 leadRows ls none = none
 leadRows ls (some r) = some record { rows = ls ++ r .rows; others = r .others }
 
 -- "Fields stand in this order, none left out.": the lines of a text held against the rows
-unfoldable pub rowed : List Row → List ℕ → Option Rowed
-rowed [] cs = some record { rows = []; others = cs }
-rowed (r ∷ rs) cs =
+unfoldable pub takeRows : List Row → List ℕ → Option TakenRows
+takeRows [] cs = some record { rows = []; others = cs }
+takeRows (r ∷ rs) cs =
     then (line cs) (λ t.
-    let with = leadRows (t .line ∷ []) (rowed rs (t .others)) in
-    let without = leadRows ([] ∷ []) (rowed rs cs) in
+    let with = leadRows (t .line ∷ []) (takeRows rs (t .others)) in
+    let without = leadRows ([] ∷ []) (takeRows rs cs) in
     cond (fitsRow r (t .line)) with (cond (r .optional) without none))

@@ -169,9 +169,9 @@ isTurn (message s) = false
 isTurn (turn day) = true
 
 -- "From each accepted turn until the next accepted message": the last call accepted is a turn
-unfoldable pub afterTurn : Bool → List Event → Bool
-afterTurn b [] = b
-afterTurn b (e ∷ es) = let on = afterTurn (isTurn (e .fed)) es in let same = afterTurn b es in cond (eqb (e .number) 0) on same
+unfoldable pub sinceTurn : Bool → List Event → Bool
+sinceTurn b [] = b
+sinceTurn b (e ∷ es) = let on = sinceTurn (isTurn (e .fed)) es in let same = sinceTurn b es in cond (eqb (e .number) 0) on same
 
 -- a message, if there is one
 unfoldable pub listed : Option Message → List Message

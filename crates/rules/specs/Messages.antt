@@ -9,7 +9,7 @@ use Rattle.rules.specs.Text.{ascii, equal, then, given}
 use Rattle.rules.specs.Dates.{date}
 use Rattle.rules.specs.Amounts.{amount}
 use Rattle.rules.specs.Lines.{Line, closing, type, sender, body}
-use Rattle.rules.specs.Forms.{Rowed, rowed, transferRows, orderRows, detailRows, message20, transfer32A, transfer59, transferBaeref, detail21, detail32B, detail50H, detail52D, detail59, detailCentrb, detailBaeref}
+use Rattle.rules.specs.Forms.{TakenRows, takeRows, transferRows, orderRows, detailRows, message20, transfer32A, transfer59, transferBaeref, detail21, detail32B, detail50H, detail52D, detail59, detailCentrb, detailBaeref}
 
 -- the line of a row
 abbrev pub lineOf : List Line → ℕ → Line
@@ -115,19 +115,19 @@ detailOf ls =
     some record { rows = ls; date = d; amount = a })))
 
 -- the first detail of a text, and what stands behind it
-pub record Detailed : Type 0 where
+pub record TakenDetail : Type 0 where
   pub detail : Detail
   pub others : List ℕ
 
 -- the first detail, in form and with dates that exist
-unfoldable pub detailed : List ℕ → Option Detailed
-detailed cs = then (rowed detailRows cs) (λ r. then (detailOf (r .rows)) (λ d. some record { detail = d; others = r .others }))
+unfoldable pub takeDetail : List ℕ → Option TakenDetail
+takeDetail cs = then (takeRows detailRows cs) (λ r. then (detailOf (r .rows)) (λ d. some record { detail = d; others = r .others }))
 
 -- "one or more details", up to the closing line; k is more than there can be
 unfoldable pub details : ℕ → List ℕ → Option (List Detail)
 details zero cs = none
 details (suc k) cs =
-    then (detailed cs) (λ d.
+    then (takeDetail cs) (λ d.
     let more = Option·map (λ ds. d .detail ∷ ds) (details k (d .others)) in
     cond (closing (d .others)) (some (d .detail ∷ [])) more)
 
@@ -147,14 +147,14 @@ pub data Message : Type 0 where
 -- an MT103, from its bytes
 unfoldable pub readTransfer : List ℕ → Option Message
 readTransfer s =
-    then (rowed transferRows (body s)) (λ r.
+    then (takeRows transferRows (body s)) (λ r.
     then (transferOf (sender s) (r .rows)) (λ t.
     given (closing (r .others)) (mt103 t)))
 
 -- an MT101, from its bytes
 unfoldable pub readOrder : List ℕ → Option Message
 readOrder s =
-    then (rowed orderRows (body s)) (λ r.
+    then (takeRows orderRows (body s)) (λ r.
     then (details 4096 (r .others)) (λ ds.
     some (mt101 record { sender = sender s; rows = r .rows; details = ds })))
 

@@ -68,14 +68,14 @@ onward none f = []
 onward (some c) f = f c
 
 -- the commands one after the other, at most k; "input outside this form .. ends it"
-unfoldable pub run : ℕ → ℕ → Option Engine → List ℕ → List ℕ
-run zero room held cs = []
-run (suc k) room held cs =
-    onward (command cs) (λ c. let a = called room held (c .command) in printed a ++ run k room (a .next) (c .others))
+unfoldable pub replayFrom : ℕ → ℕ → Option Engine → List ℕ → List ℕ
+replayFrom zero room held cs = []
+replayFrom (suc k) room held cs =
+    onward (command cs) (λ c. let a = called room held (c .command) in printed a ++ replayFrom k room (a .next) (c .others))
 
 -- with another room than 32,768; "the area begins as zeros", which hold no engine
 unfoldable pub replayIn : ℕ → List ℕ → List ℕ
-replayIn room cs = run (length cs) room none cs
+replayIn room cs = replayFrom (length cs) room none cs
 
 -- "Output has 32,768 bytes"
 abbrev pub replay : List ℕ → List ℕ

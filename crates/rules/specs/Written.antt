@@ -45,8 +45,8 @@ unfoldable pub reference : ℕ → ℕ → List ℕ
 reference day n = fixed 6 day ++ ascii "GA" ++ fixed 6 n
 
 -- "Written messages open with type, BNBGBGSD, bank"
-unfoldable pub opened : List ℕ → ℕ → List ℕ
-opened type bank = type ++ ascii ",BNBGBGSD," ++ bic bank ++ ascii "\r\n"
+unfoldable pub firstLine : List ℕ → ℕ → List ℕ
+firstLine type bank = type ++ ascii ",BNBGBGSD," ++ bic bank ++ ascii "\r\n"
 
 -- a field of one line, by its tag
 unfoldable pub field : List ℕ → List ℕ → List ℕ
@@ -87,7 +87,7 @@ closed79 part parts = decimal part ++ ascii "/" ++ decimal parts ++ ascii "\r\n-
 -- one part of an MT199 on a position, after n messages written today
 unfoldable pub mt199 : ℕ → ℕ → Position → ℕ → ℕ → List Detail → List ℕ
 mt199 day n p part parts ds =
-    (opened (ascii "199") (p .key .bank) ++ field (ascii ":20:") (reference day (n + part)) ++ linked day n part)
+    (firstLine (ascii "199") (p .key .bank) ++ field (ascii ":20:") (reference day (n + part)) ++ linked day n part)
     ++ position79 (p .key .date) (p .transferred) (p .detailed)
     ++ allReturned ds
     ++ closed79 part parts
@@ -119,7 +119,7 @@ field72 day n p =
 -- MT204: "both 20 and 72's BAEREF carry one number, 30 the day, 19 and 32B the amount"
 unfoldable pub mt204 : ℕ → List ℕ → ℕ → Position → ℕ → List ℕ
 mt204 day temporary n p v =
-    (opened (ascii "204") (p .key .bank) ++ field (ascii ":20:") (reference day n) ++ field (ascii ":19:") (withComma v) ++ field (ascii ":30:") (fixed 6 day))
+    (firstLine (ascii "204") (p .key .bank) ++ field (ascii ":20:") (reference day n) ++ field (ascii ":19:") (withComma v) ++ field (ascii ":30:") (fixed 6 day))
     ++ (field (ascii ":58D:/") temporary ++ ascii "SMETKA ZA RAZPREDELENIE NA PREVODI\r\n" ++ field (ascii ":20:") (reference day n))
     ++ (field (ascii ":32B:BGN") (withComma v) ++ field (ascii ":53A:") (bic (p .key .bank)))
     ++ field72 day n p
@@ -127,7 +127,7 @@ mt204 day temporary n p v =
 -- "MT205: 20; 21, the same; 32A day, BGN, amount; 52A BNBGBGSD; 58A bank; 72 as in the MT204"
 unfoldable pub mt205 : ℕ → ℕ → Position → ℕ → List ℕ
 mt205 day n p v =
-    (opened (ascii "205") (p .key .bank) ++ field (ascii ":20:") (reference day n) ++ field (ascii ":21:") (reference day n))
+    (firstLine (ascii "205") (p .key .bank) ++ field (ascii ":20:") (reference day n) ++ field (ascii ":21:") (reference day n))
     ++ (ascii ":32A:" ++ fixed 6 day ++ ascii "BGN" ++ withComma v ++ ascii "\r\n")
     ++ (ascii ":52A:BNBGBGSD\r\n" ++ field (ascii ":58A:") (bic (p .key .bank)))
     ++ field72 day n p

@@ -1,4 +1,4 @@
--- The conditions 11 to 15, as the code tests them: one law for each way out. Assumes nothing.
+-- The conditions 11 to 15, as the code tests them: one law for each way out.
 use mathlib.Core.Path.{_≡_, refl, sym, ap, _∙_}
 use mathlib.Core.Bool.{Bool, true, false, _&&_, _||_, not, cond}
 use mathlib.Core.List.{List, [], _∷_}

@@ -1,4 +1,4 @@
--- A number of some bytes at a place. Assumes nothing.
+-- A number of some bytes at a place.
 use mathlib.Core.Path.{_≡_, sym, ap, _∙_}
 use mathlib.Core.List.{List}
 use Prim.Native.Nat.{ℕ, _+_, _^_, _≤_, _<_}

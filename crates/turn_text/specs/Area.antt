@@ -1,4 +1,4 @@
--- The text of a turn of an area that holds an engine. Assumes nothing.
+-- The text of a turn of an area that holds an engine.
 use mathlib.Core.Path.{_≡_, sym, _∙_}
 use mathlib.Core.Bool.{true}
 use mathlib.Core.List.{List, _++_}

@@ -1,4 +1,4 @@
--- What a turn refunds and collects, summed position by position. Assumes nothing.
+-- What a turn refunds and collects, summed position by position.
 use mathlib.Core.Path.{_≡_, refl, subst, sym, ap, _∙_}
 use mathlib.Core.Bool.{Bool, true, false, cond}
 use mathlib.Core.List.{List, [], _∷_}

@@ -1,4 +1,4 @@
--- The text of a turn, walked position by position: a law for each way through the loops' bodies, with the loop's invariant first. Assumes nothing.
+-- The text of a turn, walked position by position: a law for each way through the loops' bodies, with the loop's invariant first.
 use mathlib.Core.Path.{_≡_, refl, ap, _∙_}
 use mathlib.Core.Bool.{Bool, true, false, not, cond}
 use mathlib.Core.List.{List, [], _++_}

@@ -1,4 +1,4 @@
--- A law for each way that a judgement goes, the tests as calls answered them. Assumes nothing.
+-- A law for each way that a judgement goes, the tests as calls answered them.
 use mathlib.Core.Path.{_≡_, refl, sym, ap, _∙_}
 use mathlib.Core.Logic.{_⊎_, inl, inr}
 use mathlib.Core.Bool.{Bool, true, false, _&&_, _||_, not, cond}

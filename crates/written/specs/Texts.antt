@@ -1,4 +1,4 @@
--- The written texts, as the code's branches and tables lead to them. Assumes nothing.
+-- The written texts, as the code's branches and tables lead to them.
 use mathlib.Core.Path.{_≡_}
 use mathlib.Core.List.{List, []}
 use Prim.Native.Nat.{ℕ, _+_, _-_, _≤_, _<_}

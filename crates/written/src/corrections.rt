@@ -13,7 +13,7 @@ ghost use mathlib.Core.List.{_++_};
 ghost use Rattle.rules.specs.Text.{ascii, fixed};
 ghost use Rattle.rules.specs.Amounts.{withComma, withPoint};
 ghost use Rattle.rules.specs.Engine.{bic};
-ghost use Rattle.rules.specs.Written.{reference, opened, field, field72, mt204, mt205, correctionPosting, correction};
+ghost use Rattle.rules.specs.Written.{reference, firstLine, field, field72, mt204, mt205, correctionPosting, correction};
 ghost use Rattle.laws.specs.Writing.{Wrote};
 ghost use Rattle.position.specs.Values.{positionValue};
 
@@ -48,7 +48,7 @@ fn put_field72(out: &mut [u8], at: usize, day: u32, n: u32, p: Position) -> usiz
 
 // First line and fields 20, 19 and 30 of an MT204.
 fn put_opened204(out: &mut [u8], at: usize, day: u32, n: u32, bank: u64, v: u64) -> usize
-    ensures { λ r. ⌜ Wrote (opened (ascii "204") bank ++ field (ascii ":20:") (reference day n) ++ field (ascii ":19:") (withComma v) ++ field (ascii ":30:") (fixed 6 day)) at (now (out .entry)) r (now (out .exit)) ⌝ }
+    ensures { λ r. ⌜ Wrote (firstLine (ascii "204") bank ++ field (ascii ":20:") (reference day n) ++ field (ascii ":19:") (withComma v) ++ field (ascii ":30:") (fixed 6 day)) at (now (out .entry)) r (now (out .exit)) ⌝ }
 {
     let a = put_opened(out, at, b"204", bank);
     let b = put_reference_field(out, a, b":20:", day, n);
@@ -93,7 +93,7 @@ fn put_mt204(
 
 // First line and fields 20 and 21 of an MT205.
 fn put_opened205(out: &mut [u8], at: usize, day: u32, n: u32, bank: u64) -> usize
-    ensures { λ r. ⌜ Wrote (opened (ascii "205") bank ++ field (ascii ":20:") (reference day n) ++ field (ascii ":21:") (reference day n)) at (now (out .entry)) r (now (out .exit)) ⌝ }
+    ensures { λ r. ⌜ Wrote (firstLine (ascii "205") bank ++ field (ascii ":20:") (reference day n) ++ field (ascii ":21:") (reference day n)) at (now (out .entry)) r (now (out .exit)) ⌝ }
 {
     let a = put_opened(out, at, b"205", bank);
     let b = put_reference_field(out, a, b":20:", day, n);

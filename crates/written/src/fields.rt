@@ -3,7 +3,7 @@ ghost use mathlib.Core.List.{[], _∷_};
 ghost use Rattle.rules.specs.Text.{fixed};
 ghost use Rattle.rules.specs.Amounts.{written};
 ghost use Rattle.rules.specs.Engine.{bic};
-ghost use Rattle.rules.specs.Written.{reference, opened, field};
+ghost use Rattle.rules.specs.Written.{reference, firstLine, field};
 ghost use Rattle.laws.specs.Writing.{Wrote};
 
 // A message's reference: the day, `GA`, its number in six digits.
@@ -17,7 +17,7 @@ pub fn put_reference(out: &mut [u8], at: usize, day: u32, n: u32) -> usize
 
 // The first line of a written message: type, BNBGBGSD, bank.
 pub fn put_opened(out: &mut [u8], at: usize, kind: &[u8], bank: u64) -> usize
-    ensures { λ r. ⌜ Wrote (opened (now (kind .entry)) bank) at (now (out .entry)) r (now (out .exit)) ⌝ }
+    ensures { λ r. ⌜ Wrote (firstLine (now (kind .entry)) bank) at (now (out .entry)) r (now (out .exit)) ⌝ }
 {
     let a = put::put_bytes(out, at, kind);
     let b = put::put_bytes(out, a, b",BNBGBGSD,");

@@ -7,7 +7,7 @@ ghost use mathlib.Core.List.{[], _++_};
 ghost use Prim.Native.Nat.{_-_, _<_};
 ghost use Rattle.rules.specs.Text.{ascii};
 ghost use Rattle.rules.specs.Amounts.{withComma};
-ghost use Rattle.rules.specs.Written.{reference, opened, field, size, linked, position79, closed79};
+ghost use Rattle.rules.specs.Written.{reference, firstLine, field, size, linked, position79, closed79};
 ghost use Rattle.laws.specs.Writing.{Wrote};
 
 // Field 21, from part 2 on: part 1's reference, by its number.
@@ -32,7 +32,7 @@ pub fn put_opened199(
     part: u32,
 ) -> usize
     requires { ⌜ 0 < first ⌝ }
-    ensures { λ r. ⌜ Wrote (opened (ascii "199") bank ++ field (ascii ":20:") (reference day number) ++ linked day (first - 1) part) at (now (out .entry)) r (now (out .exit)) ⌝ }
+    ensures { λ r. ⌜ Wrote (firstLine (ascii "199") bank ++ field (ascii ":20:") (reference day number) ++ linked day (first - 1) part) at (now (out .entry)) r (now (out .exit)) ⌝ }
 {
     let a = put_opened(out, at, b"199", bank);
     let b = put_reference_field(out, a, b":20:", day, number);

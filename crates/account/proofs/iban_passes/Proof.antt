@@ -1,4 +1,4 @@
--- `account::iban_passes` meets its contract: shape, then control. Assumes nothing.
+-- `account::iban_passes` meets its contract: shape, then control.
 use borrow.Author.Needs.{needs}
 use Rattle.account.specs.Control.{controls}
 use Rattle.account.proofs.iban_passes.Statement.{statement}

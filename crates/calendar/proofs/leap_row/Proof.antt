@@ -1,4 +1,4 @@
--- `calendar::leap_row` meets its contract: row 1 where four divides the year, else row 0. Assumes nothing.
+-- `calendar::leap_row` meets its contract: row 1 where four divides the year, else row 0.
 use borrow.Author.Needs.{needs}
 use Rattle.calendar.specs.Days.{days}
 use Rattle.calendar.proofs.leap_row.Statement.{statement}

@@ -1,4 +1,4 @@
--- `calendar::month_length` meets its contract: the table is that of the definition, read at the year's row. Assumes nothing.
+-- `calendar::month_length` meets its contract: the table is that of the definition, read at the year's row.
 use borrow.Author.Needs.{needs}
 use Rattle.calendar.specs.Days.{days}
 use Rattle.calendar.proofs.month_length.Statement.{statement}

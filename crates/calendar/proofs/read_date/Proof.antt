@@ -1,4 +1,4 @@
--- `calendar::read_date` meets its contract: the number of six digits is a date where it exists. Assumes nothing.
+-- `calendar::read_date` meets its contract: the number of six digits is a date where it exists.
 use Rattle.calendar.specs.Days.{days}
 use borrow.Author.Needs.{needs}
 use Rattle.calendar.proofs.read_date.Statement.{statement}

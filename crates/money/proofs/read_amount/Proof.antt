@@ -1,4 +1,4 @@
--- `money::read_amount` meets its contract: a text that is too long or begins with no digit is none; else as its levs are. Assumes nothing.
+-- `money::read_amount` meets its contract: a text that is too long or begins with no digit is none; else as its levs are.
 use borrow.Author.Needs.{needs}
 use Rattle.money.specs.Sums.{sums}
 use Rattle.money.proofs.read_amount.Statement.{statement}

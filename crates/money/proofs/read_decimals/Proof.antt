@@ -1,4 +1,4 @@
--- `money::read_decimals` meets its contract: none, one, two or more bytes behind the comma, each a clause of the definition. Assumes nothing.
+-- `money::read_decimals` meets its contract: none, one, two or more bytes behind the comma, each a clause of the definition.
 use borrow.Author.Needs.{needs}
 use Rattle.money.specs.Sums.{sums}
 use Rattle.money.proofs.read_decimals.Statement.{statement}

@@ -1,4 +1,4 @@
--- `money::read_levs` meets its contract: the digits are counted and read, then no byte, a comma or another byte stands behind them. Assumes nothing.
+-- `money::read_levs` meets its contract: the digits are counted and read, then no byte, a comma or another byte stands behind them.
 use Rattle.money.specs.Sums.{sums}
 use borrow.Author.Needs.{needs}
 use Rattle.money.proofs.read_levs.Statement.{statement}

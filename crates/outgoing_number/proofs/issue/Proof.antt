@@ -1,4 +1,4 @@
--- `outgoing_number::issue` meets its contract, by a walk of its code: the borrow is opened, the count is written, day and count are read, and the borrow is closed at the record stepped forward. Assumes nothing.
+-- `outgoing_number::issue` meets its contract, by a walk of its code: the borrow is opened, the count is written, day and count are read, and the borrow is closed at the record stepped forward.
 use mathlib.Core.Path.{refl}
 use Prim.Native.Nat.{ℕ, _+_, _<_, _^_}
 use mathlib.Core.List.{List, [], _∷_}

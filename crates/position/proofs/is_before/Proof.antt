@@ -1,4 +1,4 @@
--- `position::is_before` meets its contract: banks decide, and dates where the banks are equal. Assumes nothing.
+-- `position::is_before` meets its contract: banks decide, and dates where the banks are equal.
 use borrow.Author.Needs.{needs}
 use Rattle.rule_laws.specs.Keys.{keys}
 use Rattle.position.proofs.is_before.Statement.{statement}

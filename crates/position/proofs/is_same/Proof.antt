@@ -1,4 +1,4 @@
--- `position::is_same` meets its contract: dates decide where the banks are equal. Assumes nothing.
+-- `position::is_same` meets its contract: dates decide where the banks are equal.
 use borrow.Author.Needs.{needs}
 use Rattle.rule_laws.specs.Keys.{keys, same-bank}
 use Rattle.position.proofs.is_same.Statement.{statement}

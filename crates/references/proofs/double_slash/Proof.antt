@@ -1,4 +1,4 @@
--- `references::double_slash` meets its contract. The loop's invariant: what is left from the last byte read has such slashes where the whole has them. Assumes nothing.
+-- `references::double_slash` meets its contract. The loop's invariant: what is left from the last byte read has such slashes where the whole has them.
 use Prim.Native.Nat.{_-_}
 use borrow.Author.Needs.{needs}
 use Rattle.references.specs.Slashes.{Doubling, slashes}

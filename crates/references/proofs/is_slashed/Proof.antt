@@ -1,4 +1,4 @@
--- `references::is_slashed` meets its contract: no bytes, a slash at the beginning, two one behind the other, or as the last byte is. Assumes nothing.
+-- `references::is_slashed` meets its contract: no bytes, a slash at the beginning, two one behind the other, or as the last byte is.
 use Rattle.references.specs.Slashes.{slashed-last, slashes}
 use native.Mathlib.Omega.{arith}
 use borrow.Author.Needs.{needs}

@@ -1,4 +1,4 @@
--- `references::same_parts` meets its contract: parts of different lengths are not equal; else as their bytes are. Assumes nothing.
+-- `references::same_parts` meets its contract: parts of different lengths are not equal; else as their bytes are.
 use Rattle.references.specs.Slashes.{slashes}
 use borrow.Author.Needs.{needs}
 use Rattle.references.proofs.same_parts.Statement.{statement}

@@ -1,4 +1,4 @@
--- `references::two_slashes` meets its contract: a branch of the code for each of the two comparisons. Assumes nothing.
+-- `references::two_slashes` meets its contract: a branch of the code for each of the two comparisons.
 use borrow.Author.Needs.{needs}
 use Rattle.references.specs.Slashes.{slashes}
 use Rattle.references.proofs.two_slashes.Statement.{statement}

@@ -1,4 +1,4 @@
--- A room that was asked for is one that there are bytes for. Assumes nothing.
+-- A room that was asked for is one that there are bytes for.
 use Rattle.replay.specs.Going.{going}
 use borrow.Author.Needs.{needs}
 use Rattle.replay.proofs.main.Statement.{statement}

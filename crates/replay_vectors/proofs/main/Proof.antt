@@ -1,4 +1,4 @@
--- The words are taken three at a time, and their number is bounded. Assumes nothing.
+-- The words are taken three at a time, and their number is bounded.
 use Prim.Native.Nat.{_≤_, _-_}
 use borrow.Author.Needs.{needs}
 use Rattle.replay_vectors.proofs.main.Statement.{statement}

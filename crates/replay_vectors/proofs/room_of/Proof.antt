@@ -1,4 +1,4 @@
--- By whether the word is a room. Assumes nothing.
+-- By whether the word is a room.
 use Rattle.commands.specs.Numbers.{room-small}
 use borrow.Author.Needs.{needs}
 use Rattle.replay_vectors.proofs.room_of.Statement.{statement}

@@ -1,4 +1,4 @@
--- It is safe and ends: each turn leaves one detail fewer. Assumes nothing.
+-- It is safe and ends: each turn leaves one detail fewer.
 use Prim.Native.Nat.{_≤_, _-_}
 use borrow.Author.Needs.{needs}
 use Rattle.try_forms.proofs.say_details.Statement.{statement}

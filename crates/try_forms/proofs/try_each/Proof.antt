@@ -1,4 +1,4 @@
--- `try_forms::try_each` is safe and ends: each message ends behind its name. Assumes nothing.
+-- `try_forms::try_each` is safe and ends: each message ends behind its name.
 use Prim.Native.Nat.{_≤_, _-_}
 use lib.ListN.{length}
 use borrow.Author.Needs.{needs}

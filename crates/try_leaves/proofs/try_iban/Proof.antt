@@ -1,4 +1,4 @@
--- `try_leaves::try_iban` meets its contract: the control is asked only where the shape holds. Assumes nothing.
+-- `try_leaves::try_iban` meets its contract: the control is asked only where the shape holds.
 use Rattle.laws.specs.Tests.{held-told}
 use borrow.Author.Needs.{needs}
 use Rattle.try_leaves.proofs.try_iban.Statement.{statement}

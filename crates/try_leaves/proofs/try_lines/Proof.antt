@@ -1,4 +1,4 @@
--- `try_leaves::try_lines` is safe and ends. The loop's invariant: the line begins at or before i, which is within the input. Assumes nothing.
+-- `try_leaves::try_lines` is safe and ends. The loop's invariant: the line begins at or before i, which is within the input.
 use Prim.Native.Nat.{_≤_, _-_}
 use lib.ListN.{length}
 use borrow.Author.Needs.{needs}

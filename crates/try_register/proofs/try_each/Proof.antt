@@ -1,4 +1,4 @@
--- `try_register::try_each` meets its contract. The loop's invariant: the register stands within the input. Assumes nothing.
+-- `try_register::try_each` meets its contract. The loop's invariant: the register stands within the input.
 use Prim.Native.Nat.{_-_, _≤_}
 use lib.ListN.{length}
 use borrow.Author.Needs.{needs}

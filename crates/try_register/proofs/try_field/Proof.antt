@@ -1,4 +1,4 @@
--- `try_register::try_field` meets its contract: a text that passes has a register. Assumes nothing.
+-- `try_register::try_field` meets its contract: a text that passes has a register.
 use borrow.Author.Needs.{needs}
 use Rattle.laws.specs.Tests.{tests}
 use Rattle.try_register.proofs.try_field.Statement.{statement}

@@ -1,4 +1,4 @@
--- `verdict::is_in_bounds` meets its contract: the code is the number of the six digits behind `PAY`. Assumes nothing.
+-- `verdict::is_in_bounds` meets its contract: the code is the number of the six digits behind `PAY`.
 use borrow.Author.Needs.{needs}
 use Rattle.verdict.specs.Judging.{judging}
 use Rattle.verdict.proofs.is_in_bounds.Statement.{statement}

@@ -1,4 +1,4 @@
--- `verdict::is_shaped` meets its contract: 22 bytes are an IBAN alone, 31 one with a code, and no other length has a shape. Assumes nothing.
+-- `verdict::is_shaped` meets its contract: 22 bytes are an IBAN alone, 31 one with a code, and no other length has a shape.
 use borrow.Author.Needs.{needs}
 use Rattle.verdict.specs.Judging.{judging}
 use Rattle.verdict.proofs.is_shaped.Statement.{statement}

@@ -1,4 +1,4 @@
--- `verdict::judge` meets its contract: shape, control, register and bounds are asked in the order of the definition. Assumes nothing.
+-- `verdict::judge` meets its contract: shape, control, register and bounds are asked in the order of the definition.
 use borrow.Author.Needs.{needs}
 use Rattle.verdict.specs.Judging.{found-listed, judge-shaped}
 use Rattle.verdict.specs.Judging.{judging}

@@ -1,4 +1,4 @@
--- `account::control::digit` meets its contract: a digit is 48 to 57. Assumes nothing.
+-- `account::control::digit` meets its contract: a digit is 48 to 57.
 use Rattle.account.specs.Control.{carrying}
 use borrow.Author.Needs.{needs}
 use Rattle.account.proofs.control.digit.Statement.{statement}

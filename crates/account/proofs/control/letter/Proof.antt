@@ -1,4 +1,4 @@
--- `account::control::letter` meets its contract: a letter is 65 to 90. Assumes nothing.
+-- `account::control::letter` meets its contract: a letter is 65 to 90.
 use Rattle.account.specs.Control.{carrying}
 use borrow.Author.Needs.{needs}
 use Rattle.account.proofs.control.letter.Statement.{statement}

@@ -1,4 +1,4 @@
--- `account::control::letters` meets its contract: by 97 a number with a letter behind it is three times the number and the letter. Assumes nothing.
+-- `account::control::letters` meets its contract: by 97 a number with a letter behind it is three times the number and the letter.
 use Rattle.rules.specs.Text.{isLetter}
 use Rattle.laws.specs.Every.{every-head, every-at}
 use Rattle.account.specs.Control.{carrying}

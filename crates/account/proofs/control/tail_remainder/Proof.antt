@@ -1,4 +1,4 @@
--- `account::control::tail_remainder` meets its contract: the shape tells the class of each run, and each run is carried on. Assumes nothing.
+-- `account::control::tail_remainder` meets its contract: the shape tells the class of each run, and each run is carried on.
 use Rattle.account.specs.Shape.{told-branch, told-account}
 use Rattle.account.specs.Control.{controls}
 use borrow.Author.Needs.{needs}

@@ -1,4 +1,4 @@
--- `account::control::two_digits` meets its contract: both bytes are digits. Assumes nothing.
+-- `account::control::two_digits` meets its contract: both bytes are digits.
 use Rattle.rules.specs.Text.{isDigit}
 use Rattle.laws.specs.Every.{every-head, every-at}
 use Rattle.account.specs.Control.{carrying}

@@ -1,4 +1,4 @@
--- `account::control::with_account` meets its contract: four pairs, one behind the other. Assumes nothing.
+-- `account::control::with_account` meets its contract: four pairs, one behind the other.
 use Rattle.account.specs.Control.{carrying}
 use borrow.Author.Needs.{needs}
 use Rattle.account.proofs.control.with_account.Statement.{statement}

@@ -1,4 +1,4 @@
--- `account::control::with_digits` meets its contract: three pairs, one behind the other, then the remainder. Assumes nothing.
+-- `account::control::with_digits` meets its contract: three pairs, one behind the other, then the remainder.
 use Rattle.account.specs.Control.{carrying}
 use borrow.Author.Needs.{needs}
 use Rattle.account.proofs.control.with_digits.Statement.{statement}

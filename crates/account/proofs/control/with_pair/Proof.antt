@@ -1,4 +1,4 @@
--- `account::control::with_pair` meets its contract: by 97 a number with two digits behind it is three times the number and the digits. Assumes nothing.
+-- `account::control::with_pair` meets its contract: by 97 a number with two digits behind it is three times the number and the digits.
 use Rattle.account.specs.Control.{carrying}
 use borrow.Author.Needs.{needs}
 use Rattle.account.proofs.control.with_pair.Statement.{statement}

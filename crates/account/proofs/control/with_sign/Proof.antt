@@ -1,4 +1,4 @@
--- `account::control::with_sign` meets its contract: a letter or digit below 58 is a digit, any other a letter. Assumes nothing.
+-- `account::control::with_sign` meets its contract: a letter or digit below 58 is a digit, any other a letter.
 use Rattle.account.specs.Control.{carrying}
 use borrow.Author.Needs.{needs}
 use Rattle.account.proofs.control.with_sign.Statement.{statement}

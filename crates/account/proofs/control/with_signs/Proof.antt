@@ -1,4 +1,4 @@
--- `account::control::with_signs` meets its contract: one sign behind the other, then the remainder. Assumes nothing.
+-- `account::control::with_signs` meets its contract: one sign behind the other, then the remainder.
 use Rattle.rules.specs.Text.{isAlnum}
 use Rattle.laws.specs.Every.{every-head, every-at}
 use Rattle.account.specs.Control.{carrying}

@@ -1,4 +1,4 @@
--- `account::differ_at` meets its contract. The loop's invariant: behind k both IBANs are equal. Assumes nothing.
+-- `account::differ_at` meets its contract. The loop's invariant: behind k both IBANs are equal.
 use mathlib.Core.Path.{_≡_}
 use mathlib.Core.Bool.{true}
 use Prim.Native.Nat.{_≤_, _+_}

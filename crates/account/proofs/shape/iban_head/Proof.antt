@@ -1,4 +1,4 @@
--- `account::shape::iban_head` meets its contract: a law for each sign of the pattern in its order. Assumes nothing.
+-- `account::shape::iban_head` meets its contract: a law for each sign of the pattern in its order.
 use Rattle.account.specs.Shape.{shapes}
 use borrow.Author.Needs.{needs}
 use Rattle.account.proofs.shape.iban_head.Statement.{statement}

@@ -1,4 +1,4 @@
--- `account::shape::iban_shape` meets its contract: too few bytes, no head, or as the runs behind it are. Assumes nothing.
+-- `account::shape::iban_shape` meets its contract: too few bytes, no head, or as the runs behind it are.
 use Rattle.account.specs.Shape.{shapes}
 use borrow.Author.Needs.{needs}
 use Rattle.account.proofs.shape.iban_shape.Statement.{statement}

@@ -1,4 +1,4 @@
--- `account::shape::iban_tail` meets its contract: each run in its order, the last as its bytes are counted. Assumes nothing.
+-- `account::shape::iban_tail` meets its contract: each run in its order, the last as its bytes are counted.
 use Rattle.account.specs.Shape.{shapes}
 use borrow.Author.Needs.{needs}
 use Rattle.account.proofs.shape.iban_tail.Statement.{statement}

@@ -1,4 +1,4 @@
--- `account::shape::is_bic` meets its contract: too few bytes, no six letters, or as the two behind them are. Assumes nothing.
+-- `account::shape::is_bic` meets its contract: too few bytes, no six letters, or as the two behind them are.
 use Rattle.account.specs.Shape.{shapes}
 use borrow.Author.Needs.{needs}
 use Rattle.account.proofs.shape.is_bic.Statement.{statement}

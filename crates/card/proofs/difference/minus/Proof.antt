@@ -1,4 +1,4 @@
--- The difference fits 64 bits, whichever is the larger. Assumes nothing.
+-- The difference fits 64 bits, whichever is the larger.
 use Rattle.card.specs.Minus.{difference-up, difference-fits, difference-down}
 use borrow.Author.Needs.{needs}
 use Rattle.card.proofs.difference.minus.Statement.{statement}

@@ -1,4 +1,4 @@
--- What is written, told and booked is the message's. Assumes nothing.
+-- What is written, told and booked is the message's.
 use Rattle.card.specs.Message.{sending}
 use borrow.Author.Needs.{needs}
 use Rattle.card.proofs.message.accept_message.Statement.{statement}

@@ -1,4 +1,4 @@
--- The message's own parts are what is booked. Assumes nothing.
+-- The message's own parts are what is booked.
 use Rattle.card.specs.Message.{booking-of, sending}
 use borrow.Author.Needs.{needs}
 use Rattle.card.proofs.message.book_in.Statement.{statement}

@@ -1,4 +1,4 @@
--- One of 11 to 15, or what the rest of the call answers. Assumes nothing.
+-- One of 11 to 15, or what the rest of the call answers.
 use Rattle.card.specs.Message.{state-none, leaves-told, sending}
 use borrow.Author.Needs.{needs}
 use Rattle.card.proofs.message.book_message.Statement.{statement}

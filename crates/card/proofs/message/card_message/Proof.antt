@@ -1,4 +1,4 @@
--- Number 10 goes before all others. Assumes nothing.
+-- Number 10 goes before all others.
 use Rattle.card.specs.Message.{sending}
 use borrow.Author.Needs.{needs}
 use Rattle.card.proofs.message.card_message.Statement.{statement}

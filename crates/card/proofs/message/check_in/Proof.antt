@@ -1,4 +1,4 @@
--- The temporary account is the engine's. Assumes nothing.
+-- The temporary account is the engine's.
 use Rattle.card.specs.Message.{sending}
 use borrow.Author.Needs.{needs}
 use Rattle.card.proofs.message.check_in.Statement.{statement}

@@ -1,4 +1,4 @@
--- The register's text is the engine's. Assumes nothing.
+-- The register's text is the engine's.
 use Rattle.card.specs.Message.{sending}
 use borrow.Author.Needs.{needs}
 use Rattle.card.proofs.message.judge_in.Statement.{statement}

@@ -1,4 +1,4 @@
--- One of 1 to 8, or what the rest of the call answers. Assumes nothing.
+-- One of 1 to 8, or what the rest of the call answers.
 use Rattle.card.specs.Message.{sending}
 use borrow.Author.Needs.{needs}
 use Rattle.card.proofs.message.message_engine.Statement.{statement}

@@ -1,4 +1,4 @@
--- Writing over an empty output measures the text. Assumes nothing.
+-- Writing over an empty output measures the text.
 use Rattle.card.specs.Message.{sending}
 use borrow.Author.Needs.{needs}
 use Rattle.card.proofs.message.message_size.Statement.{statement}

@@ -1,4 +1,4 @@
--- 16, or the message is written and booked. Assumes nothing.
+-- 16, or the message is written and booked.
 use denote.Ref.{now}
 use native.Mathlib.Omega.{arith}
 use Rattle.card.specs.Message.{ready, text-fits, sent-made, sending}

@@ -1,4 +1,4 @@
--- Opening: each way out answers what the conditions of document 01 give, in their order. Assumes nothing.
+-- Opening: each way out answers what the conditions of document 01 give, in their order.
 use Rattle.card.specs.Opening.{opening}
 use borrow.Author.Needs.{needs}
 use Rattle.card.proofs.opening.card_open.Statement.{statement}

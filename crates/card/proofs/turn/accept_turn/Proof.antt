@@ -1,4 +1,4 @@
--- The text fits, so that the output is the text and what stood behind it; sums, count and area are those of the turn. Assumes nothing.
+-- The text fits, so that the output is the text and what stood behind it; sums, count and area are those of the turn.
 use Rattle.card.specs.Turn.{turning}
 use borrow.Author.Needs.{needs}
 use Rattle.card.proofs.turn.accept_turn.Statement.{statement}

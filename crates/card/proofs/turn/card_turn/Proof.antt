@@ -1,4 +1,4 @@
--- Number 10 goes before all others; an area that passes it holds an engine, which the turn is made on. Assumes nothing.
+-- Number 10 goes before all others; an area that passes it holds an engine, which the turn is made on.
 use Rattle.card.specs.Turn.{turning}
 use borrow.Author.Needs.{needs}
 use Rattle.card.proofs.turn.card_turn.Statement.{statement}

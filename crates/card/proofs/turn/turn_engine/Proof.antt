@@ -1,4 +1,4 @@
--- Each way out answers what the conditions of document 01 give, in their order: 3, 11, 16. Assumes nothing.
+-- Each way out answers what the conditions of document 01 give, in their order: 3, 11, 16.
 use denote.Ref.{now}
 use native.Mathlib.Omega.{arith}
 use Rattle.card.specs.Turn.{turn-fits, turn-made, turning}

@@ -1,4 +1,4 @@
--- The line's first two bytes are the letter and a comma. Assumes nothing.
+-- The line's first two bytes are the letter and a comma.
 use Rattle.commands.specs.Lines.{commanded}
 use borrow.Author.Needs.{needs}
 use Rattle.commands.proofs.command.begins.Statement.{statement}

@@ -1,4 +1,4 @@
--- The line's letter says which command it is. Assumes nothing.
+-- The line's letter says which command it is.
 use Rattle.commands.specs.Lines.{commanded, begins-long}
 use borrow.Author.Needs.{needs}
 use Rattle.commands.proofs.command.line_command.Statement.{statement}

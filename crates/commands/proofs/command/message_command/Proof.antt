@@ -1,4 +1,4 @@
--- A message's command: its length is read, and as many bytes stand behind the line. Assumes nothing.
+-- A message's command: its length is read, and as many bytes stand behind the line.
 use Rattle.commands.specs.Lines.{commanded}
 use borrow.Author.Needs.{needs}
 use Rattle.commands.proofs.command.message_command.Statement.{statement}

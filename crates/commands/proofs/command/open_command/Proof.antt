@@ -1,4 +1,4 @@
--- An opening's command: day, comma, length, and as many bytes behind the line. Assumes nothing.
+-- An opening's command: day, comma, length, and as many bytes behind the line.
 use Rattle.commands.specs.Lines.{commanded}
 use borrow.Author.Needs.{needs}
 use Rattle.commands.proofs.command.open_command.Statement.{statement}

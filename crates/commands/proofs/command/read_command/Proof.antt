@@ -1,4 +1,4 @@
--- The command stands on the next line. Assumes nothing.
+-- The command stands on the next line.
 use Rattle.commands.specs.Lines.{commanded}
 use borrow.Author.Needs.{needs}
 use Rattle.commands.proofs.command.read_command.Statement.{statement}

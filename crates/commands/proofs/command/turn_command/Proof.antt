@@ -1,4 +1,4 @@
--- A turn's command: its day is six digits. Assumes nothing.
+-- A turn's command: its day is six digits.
 use Rattle.commands.specs.Lines.{commanded}
 use borrow.Author.Needs.{needs}
 use Rattle.commands.proofs.command.turn_command.Statement.{statement}

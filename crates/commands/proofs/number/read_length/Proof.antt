@@ -1,4 +1,4 @@
--- A length is one or more digits and at most 8192: a number that is larger stays so, and the loop ends there. Assumes nothing.
+-- A length is one or more digits and at most 8192: a number that is larger stays so, and the loop ends there.
 use mathlib.Core.Path.{_≡_}
 use Prim.Native.Nat.{_≤_, _-_}
 use Rattle.rules.specs.Replay.{lengthOf}

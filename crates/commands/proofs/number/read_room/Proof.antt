@@ -1,4 +1,4 @@
--- By how many digits there are, and their number. Assumes nothing.
+-- By how many digits there are, and their number.
 use Rattle.commands.specs.Numbers.{numbers}
 use borrow.Author.Needs.{needs}
 use Rattle.commands.proofs.number.read_room.Statement.{statement}

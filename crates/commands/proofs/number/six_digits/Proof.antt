@@ -1,4 +1,4 @@
--- Six digits are a day's, and other counts of bytes are none. Assumes nothing.
+-- Six digits are a day's, and other counts of bytes are none.
 use Rattle.commands.specs.Numbers.{numbers}
 use borrow.Author.Needs.{needs}
 use Rattle.commands.proofs.number.six_digits.Statement.{statement}

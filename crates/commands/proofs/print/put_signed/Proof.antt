@@ -1,4 +1,4 @@
--- A number below 0 is a minus and its size, any other its digits. Assumes nothing.
+-- A number below 0 is a minus and its size, any other its digits.
 use Rattle.commands.specs.Print.{print-below, print-cast, print-above}
 use Rattle.laws.specs.Sets.{writing}
 use borrow.Author.Needs.{needs}

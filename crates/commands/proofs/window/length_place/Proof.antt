@@ -1,4 +1,4 @@
--- By the line's first two bytes and its ninth. Assumes nothing.
+-- By the line's first two bytes and its ninth.
 use Rattle.commands.specs.Window.{windows}
 use borrow.Author.Needs.{needs}
 use Rattle.commands.proofs.window.length_place.Statement.{statement}

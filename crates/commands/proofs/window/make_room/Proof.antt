@@ -1,4 +1,4 @@
--- What is left goes to the front, and then loses its zeros. Assumes nothing.
+-- What is left goes to the front, and then loses its zeros.
 use Rattle.commands.specs.Window.{windows}
 use borrow.Author.Needs.{needs}
 use Rattle.commands.proofs.window.make_room.Statement.{statement}

@@ -1,4 +1,4 @@
--- The bytes up to k are zeros, and the rest decides. Assumes nothing.
+-- The bytes up to k are zeros, and the rest decides.
 use Prim.Native.Nat.{_-_}
 use borrow.Author.Needs.{needs}
 use Rattle.laws.specs.Places.{Passing, placing}

@@ -1,4 +1,4 @@
--- By how many zeros the length begins with. Assumes nothing.
+-- By how many zeros the length begins with.
 use Rattle.commands.specs.Window.{windows}
 use borrow.Author.Needs.{needs}
 use Rattle.commands.proofs.window.shorten.Statement.{statement}

@@ -1,4 +1,4 @@
--- `conditions::booking::booking_of` meets its contract: the bank is the number of the sender's bytes. Assumes nothing.
+-- `conditions::booking::booking_of` meets its contract: the bank is the number of the sender's bytes.
 use Rattle.conditions.specs.Books.{booking-made}
 use borrow.Author.Needs.{needs}
 use Rattle.conditions.proofs.booking.booking_of.Statement.{statement}

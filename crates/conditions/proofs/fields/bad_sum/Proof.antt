@@ -1,4 +1,4 @@
--- `conditions::fields::bad_sum` meets its contract: amount 0, too few bytes for a currency, or as the three bytes are. Assumes nothing.
+-- `conditions::fields::bad_sum` meets its contract: amount 0, too few bytes for a currency, or as the three bytes are.
 use Rattle.conditions.specs.Fields.{fielding}
 use borrow.Author.Needs.{needs}
 use Rattle.conditions.proofs.fields.bad_sum.Statement.{statement}

@@ -1,4 +1,4 @@
--- `conditions::fields::is_foreign` meets its contract: too few bytes for an account, one that does not pass, or as its bank's four bytes are. Assumes nothing.
+-- `conditions::fields::is_foreign` meets its contract: too few bytes for an account, one that does not pass, or as its bank's four bytes are.
 use Rattle.conditions.specs.Fields.{fielding}
 use borrow.Author.Needs.{needs}
 use Rattle.conditions.proofs.fields.is_foreign.Statement.{statement}

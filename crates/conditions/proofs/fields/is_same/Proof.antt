@@ -1,4 +1,4 @@
--- `conditions::fields::is_same` meets its contract: the part behind some bytes has the bytes that the definition drops to, and the text is a part of itself. Assumes nothing.
+-- `conditions::fields::is_same` meets its contract: the part behind some bytes has the bytes that the definition drops to, and the text is a part of itself.
 use Rattle.conditions.specs.Fields.{fielding}
 use borrow.Author.Needs.{needs}
 use Rattle.conditions.proofs.fields.is_same.Statement.{statement}

@@ -1,4 +1,4 @@
--- `conditions::fields::slashed_behind` meets its contract: the part behind some bytes has the bytes that the definition drops to. Assumes nothing.
+-- `conditions::fields::slashed_behind` meets its contract: the part behind some bytes has the bytes that the definition drops to.
 use Rattle.conditions.specs.Fields.{fielding}
 use borrow.Author.Needs.{needs}
 use Rattle.conditions.proofs.fields.slashed_behind.Statement.{statement}

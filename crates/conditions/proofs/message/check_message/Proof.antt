@@ -1,4 +1,4 @@
--- `conditions::message::check_message` meets its contract: the conditions 1 and 2, then 3 to 8 by the message's type. Assumes nothing.
+-- `conditions::message::check_message` meets its contract: the conditions 1 and 2, then 3 to 8 by the message's type.
 use Rattle.conditions.specs.Checks.{checking}
 use borrow.Author.Needs.{needs}
 use Rattle.conditions.proofs.message.check_message.Statement.{statement}

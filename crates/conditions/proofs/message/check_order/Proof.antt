@@ -1,4 +1,4 @@
--- `conditions::message::check_order` meets its contract: each way out is a law of the check. Assumes nothing.
+-- `conditions::message::check_order` meets its contract: each way out is a law of the check.
 use Rattle.conditions.specs.Checks.{checking}
 use borrow.Author.Needs.{needs}
 use Rattle.conditions.proofs.message.check_order.Statement.{statement}

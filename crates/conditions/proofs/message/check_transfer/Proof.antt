@@ -1,4 +1,4 @@
--- `conditions::message::check_transfer` meets its contract: not in form, a condition that holds, or the parts read. Assumes nothing.
+-- `conditions::message::check_transfer` meets its contract: not in form, a condition that holds, or the parts read.
 use Rattle.conditions.specs.Checks.{checking}
 use borrow.Author.Needs.{needs}
 use Rattle.conditions.proofs.message.check_transfer.Statement.{statement}

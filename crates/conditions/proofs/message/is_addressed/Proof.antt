@@ -1,4 +1,4 @@
--- `conditions::message::is_addressed` meets its contract: the receiver first, then one type or the other. Assumes nothing.
+-- `conditions::message::is_addressed` meets its contract: the receiver first, then one type or the other.
 use Rattle.conditions.specs.Checks.{checking}
 use borrow.Author.Needs.{needs}
 use Rattle.conditions.proofs.message.is_addressed.Statement.{statement}

@@ -1,4 +1,4 @@
--- `conditions::message::is_type` meets its contract: the first three bytes are the type. Assumes nothing.
+-- `conditions::message::is_type` meets its contract: the first three bytes are the type.
 use Rattle.conditions.specs.Checks.{checking}
 use borrow.Author.Needs.{needs}
 use Rattle.conditions.proofs.message.is_type.Statement.{statement}

@@ -1,4 +1,4 @@
--- `conditions::order::order_stop` meets its contract: the tests are those of the definition, in its order. Assumes nothing.
+-- `conditions::order::order_stop` meets its contract: the tests are those of the definition, in its order.
 use Rattle.conditions.specs.Order.{ordering}
 use borrow.Author.Needs.{needs}
 use Rattle.conditions.proofs.order.order_stop.Statement.{statement}

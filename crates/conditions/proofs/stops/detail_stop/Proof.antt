@@ -1,4 +1,4 @@
--- `conditions::stops::detail_stop` meets its contract: the tests are those of the definition, in its order. Assumes nothing.
+-- `conditions::stops::detail_stop` meets its contract: the tests are those of the definition, in its order.
 use Rattle.conditions.specs.Stops.{stopping}
 use borrow.Author.Needs.{needs}
 use Rattle.conditions.proofs.stops.detail_stop.Statement.{statement}

@@ -1,4 +1,4 @@
--- `conditions::tally::after` meets its contract: each number of the tally is what the call before it tells, and the count grows by one. Assumes nothing.
+-- `conditions::tally::after` meets its contract: each number of the tally is what the call before it tells, and the count grows by one.
 use borrow.Author.Needs.{needs}
 use Rattle.conditions.proofs.tally.after.Statement.{statement}
 use Rattle.conditions.proofs.tally.after.Tie as tie

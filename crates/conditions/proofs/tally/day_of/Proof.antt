@@ -1,4 +1,4 @@
--- `conditions::tally::day_of` meets its contract: the first detail's date is kept. Assumes nothing.
+-- `conditions::tally::day_of` meets its contract: the first detail's date is kept.
 use borrow.Author.Needs.{needs}
 use Rattle.conditions.specs.Tally.{tallying}
 use Rattle.conditions.proofs.tally.day_of.Statement.{statement}

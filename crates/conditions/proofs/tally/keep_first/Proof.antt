@@ -1,4 +1,4 @@
--- `conditions::tally::keep_first` meets its contract: one of the first 16 is kept with the place of its field 21, and of another all stays. Assumes nothing.
+-- `conditions::tally::keep_first` meets its contract: one of the first 16 is kept with the place of its field 21, and of another all stays.
 use Rattle.conditions.specs.Tally.{keeps-none, keeps-one}
 use borrow.Author.Needs.{needs}
 use Rattle.conditions.proofs.tally.keep_first.Statement.{statement}

@@ -1,4 +1,4 @@
--- `conditions::tally::raised` meets its contract: below 16 details the sum grows, then it stays. Assumes nothing.
+-- `conditions::tally::raised` meets its contract: below 16 details the sum grows, then it stays.
 use Rattle.conditions.specs.Tally.{raised-more, raised-kept}
 use borrow.Author.Needs.{needs}
 use Rattle.conditions.proofs.tally.raised.Statement.{statement}

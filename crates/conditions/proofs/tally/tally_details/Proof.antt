@@ -1,4 +1,4 @@
--- `conditions::tally::tally_details` meets its contract. The loop's invariant: some details are told and kept, and with those that are left they are all. Assumes nothing.
+-- `conditions::tally::tally_details` meets its contract. The loop's invariant: some details are told and kept, and with those that are left they are all.
 use Prim.Native.Nat.{_-_, _≤_}
 use lib.ListN.{length}
 use Rattle.conditions.specs.Tally.{Walking, tallying}

@@ -1,4 +1,4 @@
--- `conditions::walk::appears_twice` meets its contract. The loop's invariant: what is left of the fields gives the answer. Assumes nothing.
+-- `conditions::walk::appears_twice` meets its contract. The loop's invariant: what is left of the fields gives the answer.
 use mathlib.Core.Path.{_≡_}
 use Prim.Native.Nat.{_-_, _≤_}
 use Rattle.rules.specs.Text.{twice, equal}

@@ -1,4 +1,4 @@
--- The card's answer to a message is that of the call on the engine. Assumes nothing.
+-- The card's answer to a message is that of the call on the engine.
 use Rattle.day.specs.Told.{told-message}
 use Rattle.day.specs.Replaying.{replaying}
 use borrow.Author.Needs.{needs}

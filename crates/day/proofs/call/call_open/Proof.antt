@@ -1,4 +1,4 @@
--- The card's answer to an opening is that of the call on the engine; it writes nothing. Assumes nothing.
+-- The card's answer to an opening is that of the call on the engine; it writes nothing.
 use Rattle.day.specs.Told.{told-open}
 use Rattle.day.specs.Told.{telling}
 use borrow.Author.Needs.{needs}

@@ -1,4 +1,4 @@
--- The card's answer to a turn is that of the call on the engine. Assumes nothing.
+-- The card's answer to a turn is that of the call on the engine.
 use Rattle.day.specs.Told.{told-turn}
 use Rattle.day.specs.Told.{telling}
 use borrow.Author.Needs.{needs}

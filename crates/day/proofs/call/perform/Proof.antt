@@ -1,4 +1,4 @@
--- Each kind of command is carried out by its call. Assumes nothing.
+-- Each kind of command is carried out by its call.
 use Rattle.day.specs.Replaying.{replaying}
 use borrow.Author.Needs.{needs}
 use Rattle.day.proofs.call.perform.Statement.{statement}

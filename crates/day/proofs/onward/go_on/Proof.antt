@@ -1,4 +1,4 @@
--- By whether a command was carried out. Assumes nothing.
+-- By whether a command was carried out.
 use Rattle.day.specs.Onwards.{onwards}
 use borrow.Author.Needs.{needs}
 use Rattle.day.proofs.onward.go_on.Statement.{statement}

@@ -1,4 +1,4 @@
--- By whether room was made. Assumes nothing.
+-- By whether room was made.
 use Rattle.day.specs.Onwards.{onwards}
 use borrow.Author.Needs.{needs}
 use Rattle.day.proofs.onward.want.Statement.{statement}

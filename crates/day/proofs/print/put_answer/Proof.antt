@@ -1,4 +1,4 @@
--- Number, comma, difference, end of line, and the bytes written, one behind the other. Assumes nothing.
+-- Number, comma, difference, end of line, and the bytes written, one behind the other.
 use Rattle.day.specs.Told.{answer-wrote}
 use Rattle.day.specs.Told.{telling}
 use borrow.Author.Needs.{needs}

@@ -1,4 +1,4 @@
--- By whether a command was read: it is carried out, and its answer printed. Assumes nothing.
+-- By whether a command was read: it is carried out, and its answer printed.
 use Rattle.day.specs.Replaying.{replaying}
 use borrow.Author.Needs.{needs}
 use Rattle.day.proofs.replay.carry_out.Statement.{statement}

@@ -1,4 +1,4 @@
--- By the cases of a command. Assumes nothing.
+-- By the cases of a command.
 use Rattle.day.specs.Replaying.{replaying}
 use borrow.Author.Needs.{needs}
 use Rattle.day.proofs.replay.next_of.Statement.{statement}

@@ -1,8 +1,8 @@
--- What is left to carry out and to print is the run from the place reached. Assumes nothing.
+-- What is left to carry out and to print is the replayFrom from the place reached.
 use native.Mathlib.Omega.{arith}
 use lib.ListN.{length}
 use Rattle.rules.specs.Area.{holds}
-use Rattle.rules.specs.Replay.{run}
+use Rattle.rules.specs.Replay.{replayFrom}
 use Rattle.day.specs.Replaying.{Replaying, replay-starts}
 use borrow.Author.Needs.{needs}
 use Rattle.day.specs.Replaying.{replaying}
@@ -10,7 +10,7 @@ use Rattle.day.proofs.replay.replay_day.Statement.{statement}
 use Rattle.day.proofs.replay.replay_day.Tie as tie
 
 abbrev Inv-loop : tie.InvT-loop
-Inv-loop input area₀ out₀ printed₀ at₀ o₀ k₀ area out printed at o k = Replaying input at k o (length out₀) (length area₀) area out printed (run (length input) (length out₀) (holds area₀) input) printed₀
+Inv-loop input area₀ out₀ printed₀ at₀ o₀ k₀ area out printed at o k = Replaying input at k o (length out₀) (length area₀) area out printed (replayFrom (length input) (length out₀) (holds area₀) input) printed₀
 
 abbrev μ-loop : tie.MeasureT-loop
 μ-loop input area₀ out₀ printed₀ at₀ o₀ k₀ area out printed at o k = k

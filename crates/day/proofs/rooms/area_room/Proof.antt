@@ -1,4 +1,4 @@
--- So many zeros, and their length. Assumes nothing.
+-- So many zeros, and their length.
 use mathlib.Core.Path.{refl, sym}
 use Prim.Native.Nat.{ℕ}
 use lib.ListN.{length-replicate}

@@ -1,4 +1,4 @@
--- A list of so many zeros has that length. Assumes nothing.
+-- A list of so many zeros has that length.
 use mathlib.Core.Path.{sym}
 use Prim.Native.Nat.{ℕ}
 use lib.ListN.{length-replicate}

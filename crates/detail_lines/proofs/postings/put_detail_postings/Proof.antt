@@ -1,4 +1,4 @@
--- `detail_lines::postings::put_detail_postings` meets its contract. The loop's invariant: the posting lines of the details from i on are left to write. Assumes nothing.
+-- `detail_lines::postings::put_detail_postings` meets its contract. The loop's invariant: the posting lines of the details from i on are left to write.
 use Prim.Native.Nat.{_-_, _≤_}
 use native.Mathlib.Omega.{arith}
 use lib.ListN.{drop}

@@ -1,4 +1,4 @@
--- `detail_lines::postings::put_verdict_posting` meets its contract: a credit goes to the account line that the verdict names, a return to the bank. Assumes nothing.
+-- `detail_lines::postings::put_verdict_posting` meets its contract: a credit goes to the account line that the verdict names, a return to the bank.
 use borrow.Author.Needs.{needs}
 use Rattle.detail_lines.specs.Postings.{crediting}
 use Rattle.detail_lines.proofs.postings.put_verdict_posting.Statement.{statement}

@@ -1,4 +1,4 @@
--- `detail_lines::returned::count_returned` meets its contract. The loop's invariant: those counted and those left are all. Assumes nothing.
+-- `detail_lines::returned::count_returned` meets its contract. The loop's invariant: those counted and those left are all.
 use Prim.Native.Nat.{_-_, _≤_}
 use Rattle.detail_lines.specs.Returned.{Counting, returning}
 use borrow.Author.Needs.{needs}

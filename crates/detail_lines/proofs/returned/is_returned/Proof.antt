@@ -1,4 +1,4 @@
--- `detail_lines::returned::is_returned` meets its contract: the case of the verdict is the answer. Assumes nothing.
+-- `detail_lines::returned::is_returned` meets its contract: the case of the verdict is the answer.
 use borrow.Author.Needs.{needs}
 use Rattle.detail_lines.specs.Returned.{returning}
 use Rattle.detail_lines.proofs.returned.is_returned.Statement.{statement}

@@ -1,4 +1,4 @@
--- `detail_lines::returned::put_returned` meets its contract. The loop's invariant: the rows of the returned from detail i on are left to write, m of them at most. Assumes nothing.
+-- `detail_lines::returned::put_returned` meets its contract. The loop's invariant: the rows of the returned from detail i on are left to write, m of them at most.
 use Prim.Native.Nat.{_-_, _≤_}
 use lib.ListN.{take}
 use native.Mathlib.Omega.{arith}

@@ -1,4 +1,4 @@
--- `detail_lines::rows::put_account_row` meets its contract: field 59 behind its slash and line end. Assumes nothing.
+-- `detail_lines::rows::put_account_row` meets its contract: field 59 behind its slash and line end.
 use borrow.Author.Needs.{needs}
 use Rattle.laws.specs.Writing.{wrote-then}
 use Rattle.detail_lines.proofs.rows.put_account_row.Statement.{statement}

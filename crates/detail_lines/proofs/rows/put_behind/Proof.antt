@@ -1,4 +1,4 @@
--- `detail_lines::rows::put_behind` meets its contract: the part behind the first k bytes is written. Assumes nothing.
+-- `detail_lines::rows::put_behind` meets its contract: the part behind the first k bytes is written.
 use borrow.Author.Needs.{needs}
 use Rattle.detail_lines.specs.Rows.{behind-wrote}
 use Rattle.detail_lines.proofs.rows.put_behind.Statement.{statement}

@@ -1,4 +1,4 @@
--- `detail_lines::rows::put_front` meets its contract: the part behind the first k bytes is written up to n bytes, or whole where it is shorter. Assumes nothing.
+-- `detail_lines::rows::put_front` meets its contract: the part behind the first k bytes is written up to n bytes, or whole where it is shorter.
 use borrow.Author.Needs.{needs}
 use Rattle.detail_lines.specs.Rows.{front-short, front-long}
 use Rattle.detail_lines.proofs.rows.put_front.Statement.{statement}

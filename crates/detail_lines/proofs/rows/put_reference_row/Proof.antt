@@ -1,4 +1,4 @@
--- `detail_lines::rows::put_reference_row` meets its contract: the row's front, N and line end. Assumes nothing.
+-- `detail_lines::rows::put_reference_row` meets its contract: the row's front, N and line end.
 use borrow.Author.Needs.{needs}
 use Rattle.laws.specs.Pieces.{wrote-3}
 use Rattle.detail_lines.proofs.rows.put_reference_row.Statement.{statement}

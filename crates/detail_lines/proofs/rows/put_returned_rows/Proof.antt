@@ -1,4 +1,4 @@
--- `detail_lines::rows::put_returned_rows` meets its contract: one row behind the other. Assumes nothing.
+-- `detail_lines::rows::put_returned_rows` meets its contract: one row behind the other.
 use borrow.Author.Needs.{needs}
 use Rattle.laws.specs.Writing.{wrote-then}
 use Rattle.detail_lines.proofs.rows.put_returned_rows.Statement.{statement}

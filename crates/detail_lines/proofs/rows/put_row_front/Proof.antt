@@ -1,4 +1,4 @@
--- `detail_lines::rows::put_row_front` meets its contract: BAE and date, a slash behind each. Assumes nothing.
+-- `detail_lines::rows::put_row_front` meets its contract: BAE and date, a slash behind each.
 use borrow.Author.Needs.{needs}
 use Rattle.laws.specs.Pieces.{wrote-4}
 use Rattle.detail_lines.proofs.rows.put_row_front.Statement.{statement}

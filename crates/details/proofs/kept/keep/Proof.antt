@@ -1,4 +1,4 @@
--- `details::kept::keep` meets its contract: the amount and the three lines of its place are set. Assumes nothing.
+-- `details::kept::keep` meets its contract: the amount and the three lines of its place are set.
 use Rattle.details.specs.Kept.{keeps-done}
 use borrow.Author.Needs.{needs}
 use Rattle.details.proofs.kept.keep.Statement.{statement}

@@ -1,4 +1,4 @@
--- `details::lines::set_line` meets its contract: both numbers of the line are set. Assumes nothing.
+-- `details::lines::set_line` meets its contract: both numbers of the line are set.
 use mathlib.Core.Path.{refl}
 use Rattle.details.specs.Lines.{withLine}
 use borrow.Author.Needs.{needs}

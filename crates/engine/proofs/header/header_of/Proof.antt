@@ -1,4 +1,4 @@
--- The numbers of the header are those of the engine. Assumes nothing.
+-- The numbers of the header are those of the engine.
 use borrow.Author.Needs.{needs}
 use Rattle.engine.specs.Header.{heading}
 use Rattle.engine.proofs.header.header_of.Statement.{statement}

@@ -1,4 +1,4 @@
--- `engine::held::is_used` meets its contract: the records of the area are the engine's references. Assumes nothing.
+-- `engine::held::is_used` meets its contract: the records of the area are the engine's references.
 use borrow.Author.Needs.{needs}
 use Rattle.engine.specs.Held.{looking}
 use Rattle.engine.proofs.held.is_used.Statement.{statement}

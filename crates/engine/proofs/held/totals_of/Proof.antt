@@ -1,4 +1,4 @@
--- `engine::held::totals_of` meets its contract: the position stands at the place of its key, or there is none. Assumes nothing.
+-- `engine::held::totals_of` meets its contract: the position stands at the place of its key, or there is none.
 use Rattle.engine.specs.Held.{looking}
 use borrow.Author.Needs.{needs}
 use Rattle.engine.proofs.held.totals_of.Statement.{statement}

@@ -1,4 +1,4 @@
--- A walk past the positions that stand before a key. The loop's invariant: what is booked is booked among those left. Assumes nothing.
+-- A walk past the positions that stand before a key. The loop's invariant: what is booked is booked among those left.
 use borrow.Author.Needs.{needs}
 use Prim.Native.Nat.{_-_}
 use Rattle.rules.specs.Area.{decode}

@@ -1,4 +1,4 @@
--- The two numbers of a key. Assumes nothing.
+-- The two numbers of a key.
 use Rattle.engine.specs.Positions.{key-read}
 use borrow.Author.Needs.{needs}
 use Rattle.engine.proofs.positions.key_at.Statement.{statement}

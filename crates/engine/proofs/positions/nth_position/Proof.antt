@@ -1,4 +1,4 @@
--- The position at the place of a number. Assumes nothing.
+-- The position at the place of a number.
 use borrow.Author.Needs.{needs}
 use Rattle.engine.specs.Positions.{at-place}
 use Rattle.engine.proofs.positions.nth_position.Statement.{statement}

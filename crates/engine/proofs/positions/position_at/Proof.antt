@@ -1,4 +1,4 @@
--- The key of a record and its two totals. Assumes nothing.
+-- The key of a record and its two totals.
 use Rattle.engine.specs.Positions.{position-read}
 use borrow.Author.Needs.{needs}
 use Rattle.engine.proofs.positions.position_at.Statement.{statement}

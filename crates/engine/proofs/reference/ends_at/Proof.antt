@@ -1,4 +1,4 @@
--- A text of 16 bytes ends at its first zero or where they end. Assumes nothing.
+-- A text of 16 bytes ends at its first zero or where they end.
 use Rattle.engine.specs.References.{used}
 use borrow.Author.Needs.{needs}
 use Rattle.engine.proofs.reference.ends_at.Statement.{statement}

@@ -1,4 +1,4 @@
--- The records from a place on answer for all of them. Assumes nothing.
+-- The records from a place on answer for all of them.
 use Rattle.rules.specs.Text.{any}
 use Rattle.rules.specs.Engine.{sameReference}
 use Rattle.laws.specs.Parts.{cut}

@@ -1,4 +1,4 @@
--- Sender and text are each alike. Assumes nothing.
+-- Sender and text are each alike.
 use Rattle.engine.specs.References.{used}
 use borrow.Author.Needs.{needs}
 use Rattle.engine.proofs.reference.same_reference.Statement.{statement}

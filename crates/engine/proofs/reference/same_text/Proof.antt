@@ -1,4 +1,4 @@
--- The bytes are the first of the 16, and the text ends behind them; a byte of a reference is never zero. Assumes nothing.
+-- The bytes are the first of the 16, and the text ends behind them; a byte of a reference is never zero.
 use borrow.Author.Needs.{needs}
 use Rattle.engine.specs.References.{used}
 use Rattle.engine.proofs.reference.same_text.Statement.{statement}

@@ -1,4 +1,4 @@
--- The register is text 0. Assumes nothing.
+-- The register is text 0.
 use borrow.Author.Needs.{needs}
 use Rattle.engine.specs.Texts.{lettering}
 use Rattle.engine.proofs.texts.register_text.Statement.{statement}

@@ -1,4 +1,4 @@
--- The register's text begins with it. Assumes nothing.
+-- The register's text begins with it.
 use Rattle.engine.specs.Texts.{lettering}
 use borrow.Author.Needs.{needs}
 use Rattle.engine.proofs.texts.temporary.Statement.{statement}

@@ -1,4 +1,4 @@
--- Text k begins behind those before it and is as long as the header says. Assumes nothing.
+-- Text k begins behind those before it and is as long as the header says.
 use Rattle.engine.specs.Texts.{lettering}
 use borrow.Author.Needs.{needs}
 use Rattle.engine.proofs.texts.text_at.Statement.{statement}

@@ -1,4 +1,4 @@
--- The place of text i, then of the next by its length, up to text k. Assumes nothing.
+-- The place of text i, then of the next by its length, up to text k.
 use Rattle.engine.specs.Texts.{PlaceAt, lettering}
 use Prim.Native.Nat.{_-_, _≤_}
 use borrow.Author.Needs.{needs}

@@ -1,5 +1,5 @@
+-- The position, the reference and the numbers of the header, one after the other.
 use Rattle.engine_change.specs.Booking.{book-done}
--- The position, the reference and the numbers of the header, one after the other. Assumes nothing.
 use Rattle.engine_change.specs.Sets.{booking}
 use borrow.Author.Needs.{needs}
 use Rattle.engine_change.proofs.booking.book_area.Statement.{statement}

@@ -1,5 +1,5 @@
+-- An open position is raised at its place; a missing one is put there, those behind it moved up.
 use Rattle.engine_change.specs.Booking.{raise-fits, insert-done}
--- An open position is raised at its place; a missing one is put there, those behind it moved up. Assumes nothing.
 use Rattle.engine_change.specs.Sets.{booking}
 use borrow.Author.Needs.{needs}
 use Rattle.engine_change.proofs.booking.book_position.Statement.{statement}

@@ -1,4 +1,4 @@
--- A key's bytes, one part behind the other. Assumes nothing.
+-- A key's bytes, one part behind the other.
 use Rattle.engine_change.specs.Sets.{booking}
 use borrow.Author.Needs.{needs}
 use Rattle.engine_change.proofs.booking.put_key.Statement.{statement}

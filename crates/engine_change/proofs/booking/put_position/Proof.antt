@@ -1,4 +1,4 @@
--- A position's record, its key and its totals one behind the other. Assumes nothing.
+-- A position's record, its key and its totals one behind the other.
 use Rattle.engine_change.specs.Sets.{booking}
 use borrow.Author.Needs.{needs}
 use Rattle.engine_change.proofs.booking.put_position.Statement.{statement}

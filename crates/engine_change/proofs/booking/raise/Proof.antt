@@ -1,4 +1,4 @@
--- Both totals are read, raised and written with the key of their record; a limit keeps the sums small. Assumes nothing.
+-- Both totals are read, raised and written with the key of their record; a limit keeps the sums small.
 use Rattle.engine_change.specs.Sets.{booking}
 use borrow.Author.Needs.{needs}
 use Rattle.engine_change.proofs.booking.raise.Statement.{statement}

@@ -1,4 +1,4 @@
--- By sender, and where the senders are equal by text. Assumes nothing.
+-- By sender, and where the senders are equal by text.
 use Rattle.engine_change.specs.Sets.{filing}
 use borrow.Author.Needs.{needs}
 use Rattle.engine_change.proofs.filing.is_before.Statement.{statement}

@@ -1,4 +1,4 @@
--- A reference's record, sender and text one behind the other. Assumes nothing.
+-- A reference's record, sender and text one behind the other.
 use Rattle.rules.specs.Area.{referenceRecord}
 use Rattle.engine_change.specs.Sets.{booking}
 use borrow.Author.Needs.{needs}

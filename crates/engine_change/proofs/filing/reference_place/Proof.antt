@@ -1,4 +1,4 @@
--- A walk past the references that precede it. The loop's invariant: it is put among those left. Assumes nothing.
+-- A walk past the references that precede it. The loop's invariant: it is put among those left.
 use Prim.Native.Nat.{_-_}
 use Rattle.rules.specs.Area.{decode}
 use Rattle.laws.specs.Parts.{cut}

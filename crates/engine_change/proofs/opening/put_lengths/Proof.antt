@@ -1,4 +1,4 @@
--- The currency, the length of the text, and zeros where others would stand. Assumes nothing.
+-- The currency, the length of the text, and zeros where others would stand.
 use Rattle.rules.specs.Area.{lengthsOf, lengthRecord}
 use Rattle.engine_change.specs.Header.{lengths}
 use Rattle.engine_change.specs.Sets.{opening}

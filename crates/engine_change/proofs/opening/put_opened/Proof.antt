@@ -1,4 +1,4 @@
--- The parts of an opened engine's area one behind the other. Assumes nothing.
+-- The parts of an opened engine's area one behind the other.
 use Rattle.engine_change.specs.Sets.{opening}
 use borrow.Author.Needs.{needs}
 use Rattle.engine_change.proofs.opening.put_opened.Statement.{statement}

@@ -1,4 +1,4 @@
--- The text, and zeros in the room that it leaves. Assumes nothing.
+-- The text, and zeros in the room that it leaves.
 use Rattle.engine_laws.specs.Sections.{textPart}
 use Rattle.engine_change.specs.Sets.{opening}
 use borrow.Author.Needs.{needs}

@@ -1,4 +1,4 @@
--- The header's numbers one behind the other. Assumes nothing.
+-- The header's numbers one behind the other.
 use Rattle.engine_change.specs.Sets.{opening}
 use borrow.Author.Needs.{needs}
 use Rattle.engine_change.proofs.parts.put_numbers.Statement.{statement}

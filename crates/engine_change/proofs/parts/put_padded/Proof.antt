@@ -1,4 +1,4 @@
--- A part of a text and the zeros behind it. Assumes nothing.
+-- A part of a text and the zeros behind it.
 use Rattle.engine_change.specs.Sets.{opening}
 use borrow.Author.Needs.{needs}
 use Rattle.engine_change.proofs.parts.put_padded.Statement.{statement}

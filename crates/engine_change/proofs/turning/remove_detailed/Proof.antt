@@ -1,4 +1,4 @@
--- Positions without details, moved to the front one by one; then zeros over what they leave. The loop's invariant: of those passed, the ones that stay are at the front. Assumes nothing.
+-- Positions without details, moved to the front one by one; then zeros over what they leave. The loop's invariant: of those passed, the ones that stay are at the front.
 use Prim.Native.Nat.{_-_}
 use Rattle.rules.specs.Area.{positionsPlace}
 use Rattle.laws.specs.Moving.{Keeping, keeping-keep, keeping-end}

@@ -1,4 +1,4 @@
--- A position stays if its record has no details. Assumes nothing.
+-- A position stays if its record has no details.
 use Rattle.engine_change.specs.Sets.{turning}
 use borrow.Author.Needs.{needs}
 use Rattle.engine_change.proofs.turning.stays_at.Statement.{statement}

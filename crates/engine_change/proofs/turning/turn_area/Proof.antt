@@ -1,4 +1,4 @@
--- A turn made: positions, references and numbers are those of the engine then, and all else stays. Assumes nothing.
+-- A turn made: positions, references and numbers are those of the engine then, and all else stays.
 use Rattle.engine_change.specs.Sets.{turning}
 use borrow.Author.Needs.{needs}
 use Rattle.engine_change.proofs.turning.turn_area.Statement.{statement}

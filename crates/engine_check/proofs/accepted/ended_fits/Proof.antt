@@ -1,4 +1,4 @@
--- `engine_check::accepted::ended_fits` meets its contract: the tests of a text by its end, in their order. Assumes nothing.
+-- `engine_check::accepted::ended_fits` meets its contract: the tests of a text by its end, in their order.
 use borrow.Author.Needs.{needs}
 use Rattle.engine_laws.specs.Ways.{limit-held, limit-failed, calling}
 use Rattle.engine_laws.specs.Texts.{endedFits}

@@ -1,4 +1,4 @@
--- `engine_check::accepted::reference_fits` meets its contract: a BIC, and a reference's text behind it. Assumes nothing.
+-- `engine_check::accepted::reference_fits` meets its contract: a BIC, and a reference's text behind it.
 use borrow.Author.Needs.{needs}
 use Rattle.engine_laws.specs.Ways.{calling}
 use Rattle.engine_laws.specs.Tests.{referenceTest}

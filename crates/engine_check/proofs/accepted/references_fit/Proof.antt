@@ -1,4 +1,4 @@
--- `engine_check::accepted::references_fit` meets its contract. The loop's invariant: the records that are left pass where all of them do. Assumes nothing.
+-- `engine_check::accepted::references_fit` meets its contract. The loop's invariant: the records that are left pass where all of them do.
 use mathlib.Core.Path.{_≡_}
 use Prim.Native.Nat.{_≤_, _+_, _*_}
 use borrow.Author.Needs.{needs}

@@ -1,4 +1,4 @@
--- `engine_check::accepted::references_hold` meets its contract: the tests of the section in their order. Assumes nothing.
+-- `engine_check::accepted::references_hold` meets its contract: the tests of the section in their order.
 use borrow.Author.Needs.{needs}
 use Rattle.engine_laws.specs.Ways.{calling}
 use Rattle.engine_laws.specs.Tests.{referencesTest}

@@ -1,4 +1,4 @@
--- `engine_check::accepted::references_ordered` meets its contract. The loop's invariant: the references that are left stand in order where all of them do. Assumes nothing.
+-- `engine_check::accepted::references_ordered` meets its contract. The loop's invariant: the references that are left stand in order where all of them do.
 use mathlib.Core.Path.{_≡_}
 use Prim.Native.Nat.{_≤_, _+_, _-_, _*_}
 use borrow.Author.Needs.{needs}

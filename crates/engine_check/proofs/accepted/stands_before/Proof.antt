@@ -1,4 +1,4 @@
--- Senders compared as they were read, and texts where they are the same. Assumes nothing.
+-- Senders compared as they were read, and texts where they are the same.
 use Rattle.engine_laws.specs.Ways.{filing, limiting}
 use borrow.Author.Needs.{needs}
 use Rattle.engine_check.proofs.accepted.stands_before.Statement.{statement}

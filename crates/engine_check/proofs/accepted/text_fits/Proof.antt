@@ -1,4 +1,4 @@
--- `engine_check::accepted::text_fits` meets its contract: the bytes of a text at first tell where the text ends. Assumes nothing.
+-- `engine_check::accepted::text_fits` meets its contract: the bytes of a text at first tell where the text ends.
 use borrow.Author.Needs.{needs}
 use Rattle.engine_laws.specs.Texts.{ended-text}
 use Rattle.engine_laws.specs.Ways.{limiting}

@@ -1,4 +1,4 @@
--- `engine_check::header::counts_fit` meets its contract: three limits, one behind the other. Assumes nothing.
+-- `engine_check::header::counts_fit` meets its contract: three limits, one behind the other.
 use borrow.Author.Needs.{needs}
 use Rattle.engine_laws.specs.Tests.{countsTest}
 use Rattle.engine_laws.specs.Ways.{limiting}

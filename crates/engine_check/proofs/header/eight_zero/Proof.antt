@@ -1,4 +1,4 @@
--- `engine_check::header::eight_zero` meets its contract: two fours are zero. Assumes nothing.
+-- `engine_check::header::eight_zero` meets its contract: two fours are zero.
 use borrow.Author.Needs.{needs}
 use Rattle.laws.specs.Eights.{eight-ors}
 use Rattle.engine_check.proofs.header.eight_zero.Statement.{statement}

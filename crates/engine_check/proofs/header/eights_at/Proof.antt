@@ -1,4 +1,4 @@
--- `engine_check::header::eights_at` meets its contract. The loop's invariant: the eights that are left are zero where all of them are. Assumes nothing.
+-- `engine_check::header::eights_at` meets its contract. The loop's invariant: the eights that are left are zero where all of them are.
 use mathlib.Core.Path.{_≡_}
 use Prim.Native.Nat.{_≤_, _+_, _*_, _-_}
 use native.Mathlib.Nat.{add-zero}

@@ -1,4 +1,4 @@
--- The tests of the header in their order, by the numbers that were read. Assumes nothing.
+-- The tests of the header in their order, by the numbers that were read.
 use Rattle.engine_laws.specs.Tests.{headerTest}
 use Rattle.engine_laws.specs.Ways.{calling, limiting}
 use Rattle.engine_check.specs.Read.{day-read, counts-read}

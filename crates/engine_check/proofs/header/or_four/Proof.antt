@@ -1,4 +1,4 @@
--- `engine_check::header::or_four` meets its contract: an or is zero where each of its bytes is. Assumes nothing.
+-- `engine_check::header::or_four` meets its contract: an or is zero where each of its bytes is.
 use mathlib.Core.Path.{refl}
 use borrow.Author.Needs.{needs}
 use Rattle.laws.specs.Ors.{four-ors}

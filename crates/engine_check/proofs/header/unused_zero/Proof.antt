@@ -1,4 +1,4 @@
--- `engine_check::header::unused_zero` meets its contract: two parts are zero. Assumes nothing.
+-- `engine_check::header::unused_zero` meets its contract: two parts are zero.
 use borrow.Author.Needs.{needs}
 use Rattle.engine_laws.specs.Ways.{limiting}
 use Rattle.engine_check.proofs.header.unused_zero.Statement.{statement}

@@ -1,4 +1,4 @@
--- `engine_check::header::zeros_at` meets its contract. The loop's invariant: the bytes up to k are zero, and the rest decides. Assumes nothing.
+-- `engine_check::header::zeros_at` meets its contract. The loop's invariant: the bytes up to k are zero, and the rest decides.
 use Prim.Native.Nat.{_-_}
 use borrow.Author.Needs.{needs}
 use Rattle.laws.specs.Places.{Passing, placing}

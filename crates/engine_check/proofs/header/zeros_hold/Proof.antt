@@ -1,4 +1,4 @@
--- `engine_check::header::zeros_hold` meets its contract: the eights are zero, and the bytes behind them. Assumes nothing.
+-- `engine_check::header::zeros_hold` meets its contract: the eights are zero, and the bytes behind them.
 use borrow.Author.Needs.{needs}
 use Rattle.laws.specs.Eights.{eights-failed, eights-passed}
 use Rattle.engine_check.proofs.header.zeros_hold.Statement.{statement}

@@ -1,4 +1,4 @@
--- `engine_check::positions::date_fits` meets its contract: the date exists and is no later than the day. Assumes nothing.
+-- `engine_check::positions::date_fits` meets its contract: the date exists and is no later than the day.
 use borrow.Author.Needs.{needs}
 use Rattle.engine_laws.specs.Ways.{calling}
 use Rattle.engine_laws.specs.Tests.{dateTest}

@@ -1,4 +1,4 @@
--- `engine_check::positions::in_order` meets its contract: keys compared as they were read. Assumes nothing.
+-- `engine_check::positions::in_order` meets its contract: keys compared as they were read.
 use Rattle.engine_check.specs.Read.{positions}
 use borrow.Author.Needs.{needs}
 use Rattle.engine_check.proofs.positions.in_order.Statement.{statement}

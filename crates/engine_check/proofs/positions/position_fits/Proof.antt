@@ -1,4 +1,4 @@
--- `engine_check::positions::position_fits` meets its contract: the tests of a position in their order. Assumes nothing.
+-- `engine_check::positions::position_fits` meets its contract: the tests of a position in their order.
 use Rattle.engine_laws.specs.Tests.{valueAt, positionFits, positionTest}
 use Rattle.engine_laws.specs.Ways.{calling, limiting}
 use Rattle.engine_check.specs.Read.{positions}

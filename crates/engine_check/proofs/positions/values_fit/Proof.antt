@@ -1,4 +1,4 @@
--- `engine_check::positions::values_fit` meets its contract: the date, then both totals. Assumes nothing.
+-- `engine_check::positions::values_fit` meets its contract: the date, then both totals.
 use Rattle.engine_laws.specs.Tests.{valuesTest}
 use Rattle.engine_laws.specs.Ways.{calling, limit-held, limit-failed}
 use borrow.Author.Needs.{needs}

@@ -1,4 +1,4 @@
--- The tests of the area in their order; a header that passed bounds the numbers of records. Assumes nothing.
+-- The tests of the area in their order; a header that passed bounds the numbers of records.
 use Rattle.engine_laws.specs.Tests.{areaTest}
 use Rattle.engine_laws.specs.Ways.{limit-held, limit-failed, calling, limiting}
 use Rattle.engine_check.specs.Read.{read}

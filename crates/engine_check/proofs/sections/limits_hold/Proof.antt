@@ -1,4 +1,4 @@
--- `engine_check::sections::limits_hold` meets its contract: an area of bytes holds an engine exactly if it passes. Assumes nothing.
+-- `engine_check::sections::limits_hold` meets its contract: an area of bytes holds an engine exactly if it passes.
 use mathlib.Core.Path.{_∙_, sym}
 use native.Mathlib.Omega.{arith}
 use borrow.Author.Needs.{needs}

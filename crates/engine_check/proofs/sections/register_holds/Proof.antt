@@ -1,4 +1,4 @@
--- Text k is no longer than a register can be, and is one. Assumes nothing.
+-- Text k is no longer than a register can be, and is one.
 use Rattle.engine_laws.specs.Ways.{lettering}
 use borrow.Author.Needs.{needs}
 use Rattle.engine_check.proofs.sections.register_holds.Statement.{statement}

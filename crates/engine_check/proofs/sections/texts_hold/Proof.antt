@@ -1,4 +1,4 @@
--- The texts in their order, and zeros from the end of the last one on. Assumes nothing.
+-- The texts in their order, and zeros from the end of the last one on.
 use Rattle.engine_laws.specs.Tests.{textsTest}
 use Rattle.engine_check.specs.Read.{read}
 use Rattle.engine_laws.specs.Ways.{calling, lettering}

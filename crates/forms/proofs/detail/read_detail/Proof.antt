@@ -1,4 +1,4 @@
--- `forms::detail::read_detail` meets its contract: where the rows are held, the detail is what the amount and the two dates make of them. Assumes nothing.
+-- `forms::detail::read_detail` meets its contract: where the rows are held, the detail is what the amount and the two dates make of them.
 use Rattle.forms.specs.Details.{detail-three}
 use Rattle.forms.specs.Details.{detailing}
 use borrow.Author.Needs.{needs}

@@ -1,4 +1,4 @@
--- `forms::fields::amount_in` meets its contract: no bytes are no amount; else they lie within the part. Assumes nothing.
+-- `forms::fields::amount_in` meets its contract: no bytes are no amount; else they lie within the part.
 use Rattle.forms.specs.Fields.{fields}
 use borrow.Author.Needs.{needs}
 use Rattle.forms.proofs.fields.amount_in.Statement.{statement}

@@ -1,4 +1,4 @@
--- `forms::fields::date_in` meets its contract: too few bytes are no date; else the six bytes lie within the part. Assumes nothing.
+-- `forms::fields::date_in` meets its contract: too few bytes are no date; else the six bytes lie within the part.
 use Rattle.forms.specs.Fields.{fields}
 use borrow.Author.Needs.{needs}
 use Rattle.forms.proofs.fields.date_in.Statement.{statement}

@@ -1,4 +1,4 @@
--- `forms::fits::rest_fits` meets its contract: each case of the enum has the test that the definition gives it. Assumes nothing.
+-- `forms::fits::rest_fits` meets its contract: each case of the enum has the test that the definition gives it.
 use Rattle.rules.specs.Forms.{fitsRest}
 use Rattle.forms.specs.Fits.{fitting}
 use borrow.Author.Needs.{needs}

@@ -1,4 +1,4 @@
--- `forms::fits::row_fits` meets its contract: a line that is too short, one whose first bytes do not fit the pattern, or as what stands behind fits. Assumes nothing.
+-- `forms::fits::row_fits` meets its contract: a line that is too short, one whose first bytes do not fit the pattern, or as what stands behind fits.
 use borrow.Author.Needs.{needs}
 use Rattle.forms.specs.Fits.{fitting}
 use Rattle.forms.proofs.fits.row_fits.Statement.{statement}

@@ -1,4 +1,4 @@
--- `forms::fits::text_line` meets its contract: a T is not empty, begins with neither sign, and is a run of such bytes. Assumes nothing.
+-- `forms::fits::text_line` meets its contract: a T is not empty, begins with neither sign, and is a run of such bytes.
 use Rattle.forms.specs.Fits.{fitting}
 use borrow.Author.Needs.{needs}
 use Rattle.forms.proofs.fits.text_line.Statement.{statement}

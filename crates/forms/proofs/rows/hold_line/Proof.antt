@@ -1,4 +1,4 @@
--- `forms::rows::hold_line` meets its contract: a law for each way that a row takes a line. Assumes nothing.
+-- `forms::rows::hold_line` meets its contract: a law for each way that a row takes a line.
 use borrow.Author.Needs.{needs}
 use Rattle.lines.specs.Answers.{line-told}
 use Rattle.forms.specs.Rows.{holding}

@@ -1,4 +1,4 @@
--- `forms::table::four_signs` meets its contract: each arm is the number of its four signs, the last one of all that are left. Assumes nothing.
+-- `forms::table::four_signs` meets its contract: each arm is the number of its four signs, the last one of all that are left.
 use mathlib.Core.Path.{refl}
 use Rattle.rules.specs.Text.{numberFrom}
 use Rattle.laws.specs.Parts.{cut}

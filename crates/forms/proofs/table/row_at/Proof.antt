@@ -1,4 +1,4 @@
--- `forms::table::row_at` meets its contract: each arm is the definition's entry of its number, the last one of all that are left. Assumes nothing.
+-- `forms::table::row_at` meets its contract: each arm is the definition's entry of its number, the last one of all that are left.
 use borrow.Author.Needs.{needs}
 use Rattle.laws.specs.Tables.{arm-is, arm-last}
 use Rattle.forms.specs.Table.{codes, codeAt, row-told}

@@ -1,4 +1,4 @@
--- `forms::table::sign_at` meets its contract: the sign is its byte of the number that holds it. Assumes nothing.
+-- `forms::table::sign_at` meets its contract: the sign is its byte of the number that holds it.
 use Rattle.forms.specs.Table.{signs}
 use borrow.Author.Needs.{needs}
 use Rattle.forms.proofs.table.sign_at.Statement.{statement}

@@ -1,5 +1,5 @@
 -- `forms::transfer::read_transfer` meets its contract: where the rows are held and the closing line follows, the transfer is what the amount and the two dates make of them.
--- Assumes nothing.
+--
 use Rattle.forms.specs.Transfers.{transfer-three}
 use Rattle.forms.specs.Transfers.{transferring}
 use borrow.Author.Needs.{needs}

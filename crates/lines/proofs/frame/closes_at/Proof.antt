@@ -1,4 +1,4 @@
--- `lines::frame::closes_at` meets its contract: three bytes are left, and they are those of the closing line. Assumes nothing.
+-- `lines::frame::closes_at` meets its contract: three bytes are left, and they are those of the closing line.
 use Rattle.lines.specs.Laws.{framing}
 use borrow.Author.Needs.{needs}
 use Rattle.lines.proofs.frame.closes_at.Statement.{statement}

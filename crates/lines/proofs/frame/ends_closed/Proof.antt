@@ -1,4 +1,4 @@
--- `lines::frame::ends_closed` meets its contract: three bytes at the end, where there are three, are those of the closing line. Assumes nothing.
+-- `lines::frame::ends_closed` meets its contract: three bytes at the end, where there are three, are those of the closing line.
 use native.Mathlib.Omega.{arith}
 use borrow.Author.Needs.{needs}
 use Rattle.lines.specs.Laws.{framing, closing-long}

@@ -1,5 +1,5 @@
 -- `lines::frame::in_lines` meets its contract, by a walk of its code with a loop in it. Before each turn the reader stands where the next line begins; a turn hands a copy of it to `take_line`, the line to `line_seen`, and moves the reader to the
--- place behind the line. What the text owns is kept, and lent to each call. Assumes nothing.
+-- place behind the line. What the text owns is kept, and lent to each call.
 use mathlib.Core.Path.{_≡_, refl, ap, _∙_}
 use mathlib.Core.Bool.{Bool, true, false}
 use mathlib.Core.WellFounded.{WellFounded, InvImage·wf}

@@ -1,4 +1,4 @@
--- `lines::frame::is_framed` meets its contract: the tests are those of the definition, and the closing line at the end, without which there is none. Assumes nothing.
+-- `lines::frame::is_framed` meets its contract: the tests are those of the definition, and the closing line at the end, without which there is none.
 use borrow.Author.Needs.{needs}
 use Rattle.lines.specs.Laws.{framing}
 use Rattle.lines.proofs.frame.is_framed.Statement.{statement}

@@ -1,4 +1,4 @@
--- `lines::frame::line_seen` meets its contract: a law for each way that a line is seen. Assumes nothing.
+-- `lines::frame::line_seen` meets its contract: a law for each way that a line is seen.
 use borrow.Author.Needs.{needs}
 use Rattle.lines.specs.Answers.{line-told}
 use Rattle.lines.specs.Seen.{seeing}

@@ -1,4 +1,4 @@
--- `lines::frame::none_seen` meets its contract. Assumes nothing.
+-- `lines::frame::none_seen` meets its contract.
 use borrow.Author.Needs.{needs}
 use Rattle.lines.specs.Seen.{seeing}
 use Rattle.lines.proofs.frame.none_seen.Statement.{statement}

@@ -1,4 +1,4 @@
--- `lines::line::far_end` meets its contract. The loop's invariant: the bytes passed, before the first line of what is left, are the line. Assumes nothing.
+-- `lines::line::far_end` meets its contract. The loop's invariant: the bytes passed, before the first line of what is left, are the line.
 use Rattle.rules.specs.Lines.{lead, line}
 use Rattle.laws.specs.Parts.{cut, from}
 use lib.ListN.{length}

@@ -1,4 +1,4 @@
--- `lines::line::line_end` meets its contract: the bytes before the first CR or LF are the line where CR LF stands behind them. Assumes nothing.
+-- `lines::line::line_end` meets its contract: the bytes before the first CR or LF are the line where CR LF stands behind them.
 use native.Mathlib.Omega.{arith}
 use borrow.Author.Needs.{needs}
 use Rattle.lines.specs.Laws.{framing, plain-bad}

@@ -1,4 +1,4 @@
--- `lines::line::plain_at` meets its contract. The loop's invariant: the bytes passed, before the first line of what is left, are the line. Assumes nothing.
+-- `lines::line::plain_at` meets its contract. The loop's invariant: the bytes passed, before the first line of what is left, are the line.
 use mathlib.Core.Path.{_≡_}
 use Prim.Native.Nat.{_≤_, _-_, _+_}
 use borrow.Author.Needs.{needs}

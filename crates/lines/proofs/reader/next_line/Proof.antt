@@ -1,4 +1,4 @@
--- `lines::reader::next_line` meets its contract, by a walk of its code: the reader that one call makes is handed to the next. A local's type has no lifetime's name, and what a reader owns does not say one. Assumes nothing.
+-- `lines::reader::next_line` meets its contract, by a walk of its code: the reader that one call makes is handed to the next. A local's type has no lifetime's name, and what a reader owns does not say one.
 use mathlib.Core.Path.{_≡_, refl}
 use Prim.Native.Nat.{ℕ, _≤_, _<_, _^_}
 use mathlib.Core.List.{List, [], _∷_}

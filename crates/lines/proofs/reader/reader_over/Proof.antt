@@ -1,4 +1,4 @@
--- `lines::reader::reader_over` meets its contract, by a walk of its code: what the text owns goes into the reader, beside what the place owns. Assumes nothing.
+-- `lines::reader::reader_over` meets its contract, by a walk of its code: what the text owns goes into the reader, beside what the place owns.
 use mathlib.Core.Path.{refl}
 use Prim.Native.Nat.{ℕ, _<_, _^_}
 use mathlib.Core.List.{List, [], _∷_}

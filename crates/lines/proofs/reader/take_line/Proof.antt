@@ -1,4 +1,4 @@
--- `lines::reader::take_line` meets its contract, by a walk of its code: what a reader owns is what its text and its place own, which `line_end` asks for. Assumes nothing.
+-- `lines::reader::take_line` meets its contract, by a walk of its code: what a reader owns is what its text and its place own, which `line_end` asks for.
 use mathlib.Core.Path.{_≡_, refl}
 use Prim.Native.Nat.{_≤_}
 use mathlib.Core.List.{[], _∷_}

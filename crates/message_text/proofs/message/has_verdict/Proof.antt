@@ -1,4 +1,4 @@
--- `message_text::message::has_verdict` meets its contract, by the kind of message. Assumes nothing.
+-- `message_text::message::has_verdict` meets its contract, by the kind of message.
 use Rattle.message_text.specs.Message.{messages}
 use borrow.Author.Needs.{needs}
 use Rattle.message_text.proofs.message.has_verdict.Statement.{statement}

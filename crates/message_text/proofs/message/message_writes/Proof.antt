@@ -1,4 +1,4 @@
--- As many messages as there are parts, where a verdict follows. Assumes nothing.
+-- As many messages as there are parts, where a verdict follows.
 use Rattle.message_text.specs.Message.{messages}
 use borrow.Author.Needs.{needs}
 use Rattle.message_text.proofs.message.message_writes.Statement.{statement}

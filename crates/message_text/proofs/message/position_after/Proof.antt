@@ -1,4 +1,4 @@
--- `message_text::message::position_after` meets its contract: each total is raised by what the message adds to it. Assumes nothing.
+-- `message_text::message::position_after` meets its contract: each total is raised by what the message adds to it.
 use mathlib.Core.Bool.{not}
 use native.Mathlib.Omega.{arith}
 use borrow.Author.Needs.{needs}

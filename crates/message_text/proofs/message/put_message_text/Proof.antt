@@ -1,4 +1,4 @@
--- The posting lines, and as many parts of an MT199 as messages are written. Assumes nothing.
+-- The posting lines, and as many parts of an MT199 as messages are written.
 use native.Mathlib.Omega.{arith}
 use Rattle.message_text.specs.Message.{message-wrote, judged-here, messages}
 use borrow.Author.Needs.{needs}

@@ -1,4 +1,4 @@
--- The line of a transfer, or those of the details. Assumes nothing.
+-- The line of a transfer, or those of the details.
 use Rattle.message_text.specs.Postings.{posted}
 use borrow.Author.Needs.{needs}
 use Rattle.message_text.proofs.postings.put_postings.Statement.{statement}

@@ -1,4 +1,4 @@
--- The test and the division are the definition's. Assumes nothing.
+-- The test and the division are the definition's.
 use Rattle.message_text.specs.Parts.{parting}
 use borrow.Author.Needs.{needs}
 use Rattle.message_text.proofs.verdicts.parts_of.Statement.{statement}

@@ -1,4 +1,4 @@
--- The part's four groups of rows in their order, by the reference issued for it. Assumes nothing.
+-- The part's four groups of rows in their order, by the reference issued for it.
 use native.Mathlib.Omega.{arith}
 use Rattle.message_text.specs.Parts.{part-wrote, parting}
 use borrow.Author.Needs.{needs}

@@ -1,4 +1,4 @@
--- An amount: levs, mark and decimals, one behind the other; behind the output it is measured. Assumes nothing.
+-- An amount: levs, mark and decimals, one behind the other; behind the output it is measured.
 use mathlib.Core.Path.{refl}
 use native.Mathlib.Omega.{arith}
 use borrow.Author.Needs.{needs}

@@ -1,4 +1,4 @@
--- Levs above the last eight digits, and those among them. Assumes nothing.
+-- Levs above the last eight digits, and those among them.
 use borrow.Author.Needs.{needs}
 use Rattle.laws.specs.Sets.{writing}
 use Rattle.put.specs.Groups.{grouping}

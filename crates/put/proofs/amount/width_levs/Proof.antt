@@ -1,4 +1,4 @@
--- The levs have two digits less than the stotinki, and one at least. Assumes nothing.
+-- The levs have two digits less than the stotinki, and one at least.
 use native.Mathlib.Omega.{arith}
 use borrow.Author.Needs.{needs}
 use Rattle.laws.specs.Digits.{width-levs, width-most}

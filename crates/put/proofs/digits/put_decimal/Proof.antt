@@ -1,4 +1,4 @@
--- A decimal number is as many digits as were counted. Assumes nothing.
+-- A decimal number is as many digits as were counted.
 use borrow.Author.Needs.{needs}
 use Rattle.laws.specs.Sets.{writing}
 use Rattle.put.specs.Groups.{grouping}

@@ -1,4 +1,4 @@
--- Digits behind the output are measured; else the upper ones are those of the quotient, and the last eight those of the rest. Assumes nothing.
+-- Digits behind the output are measured; else the upper ones are those of the quotient, and the last eight those of the rest.
 use mathlib.Core.Path.{refl}
 use native.Mathlib.Omega.{arith}
 use borrow.Author.Needs.{needs}

@@ -1,4 +1,4 @@
--- Places behind the nulls that stand in front of them. Assumes nothing.
+-- Places behind the nulls that stand in front of them.
 use borrow.Author.Needs.{needs}
 use Rattle.laws.specs.Sets.{writing}
 use Rattle.put.specs.Groups.{grouping}

@@ -1,4 +1,4 @@
--- Nulls in front of eight places, as many as are over. Assumes nothing.
+-- Nulls in front of eight places, as many as are over.
 use native.Mathlib.Omega.{arith}
 use borrow.Author.Needs.{needs}
 use Rattle.laws.specs.Sets.{writing}

@@ -1,4 +1,4 @@
--- Two groups of digits: those of the quotient above, those of the rest below. Assumes nothing.
+-- Two groups of digits: those of the quotient above, those of the rest below.
 use mathlib.Core.Path.{refl}
 use native.Mathlib.Omega.{arith}
 use borrow.Author.Needs.{needs}

@@ -1,4 +1,4 @@
--- Eight digits, by repeated division of two halves. Assumes nothing.
+-- Eight digits, by repeated division of two halves.
 use borrow.Author.Needs.{needs}
 use Rattle.laws.specs.Digits.{eight-is}
 use Rattle.put.proofs.groups.eight.Statement.{statement}

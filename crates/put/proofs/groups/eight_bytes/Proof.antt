@@ -1,4 +1,4 @@
--- Eight bytes, by division of two halves. Assumes nothing.
+-- Eight bytes, by division of two halves.
 use borrow.Author.Needs.{needs}
 use Rattle.laws.specs.Digits.{eight-bytes}
 use Rattle.put.proofs.groups.eight_bytes.Statement.{statement}

@@ -1,4 +1,4 @@
--- Bytes moved down, the first first: a byte not yet moved is loaded from behind all those that are. Assumes nothing.
+-- Bytes moved down, the first first: a byte not yet moved is loaded from behind all those that are.
 use Prim.Native.Nat.{_≤_, _-_}
 use borrow.Author.Needs.{needs}
 use Rattle.laws.specs.Moving.{Moving}

@@ -1,4 +1,4 @@
--- Bytes moved up, the last first: a byte not yet moved is loaded from before all those that are. Assumes nothing.
+-- Bytes moved up, the last first: a byte not yet moved is loaded from before all those that are.
 use Prim.Native.Nat.{_-_}
 use borrow.Author.Needs.{needs}
 use Rattle.laws.specs.Moving.{Moving}

@@ -1,4 +1,4 @@
--- A byte again and again: those not yet stored are left to write. Assumes nothing.
+-- A byte again and again: those not yet stored are left to write.
 use Prim.Native.Nat.{_≤_, _-_, _+_}
 use native.Mathlib.Omega.{arith}
 use lib.ListN.{length}

@@ -1,4 +1,4 @@
--- A part of a slice where there is room: what is left of it is what is left to write. Assumes nothing.
+-- A part of a slice where there is room: what is left of it is what is left to write.
 use Prim.Native.Nat.{_≤_, _-_, _+_}
 use native.Mathlib.Omega.{arith}
 use lib.ListN.{length}

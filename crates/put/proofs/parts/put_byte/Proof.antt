@@ -1,4 +1,4 @@
--- A byte within the output is stored; outside it nothing changes, which is what the text laid there says. Assumes nothing.
+-- A byte within the output is stored; outside it nothing changes, which is what the text laid there says.
 use native.Mathlib.Omega.{arith}
 use borrow.Author.Needs.{needs}
 use Rattle.laws.specs.Sets.{writing}

@@ -1,4 +1,4 @@
--- All of a slice is its part from the first index to its length. Assumes nothing.
+-- All of a slice is its part from the first index to its length.
 use borrow.Author.Needs.{needs}
 use Rattle.laws.specs.Parts.{cut-all}
 use Rattle.laws.specs.Sets.{writing}

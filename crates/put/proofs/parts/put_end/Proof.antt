@@ -1,4 +1,4 @@
--- The end of a line, a byte behind the other. Assumes nothing.
+-- The end of a line, a byte behind the other.
 use borrow.Author.Needs.{needs}
 use Rattle.laws.specs.Sets.{writing}
 use Rattle.put.proofs.parts.put_end.Statement.{statement}

@@ -1,4 +1,4 @@
--- A part of a slice: with room for it byte by byte, else as far as the output reaches; behind the output nothing is written. Assumes nothing.
+-- A part of a slice: with room for it byte by byte, else as far as the output reaches; behind the output nothing is written.
 use borrow.Author.Needs.{needs}
 use Rattle.laws.specs.Sets.{writing}
 use Rattle.put.proofs.parts.put_part.Statement.{statement}

@@ -1,4 +1,4 @@
--- A byte again and again, as far as the output reaches. Assumes nothing.
+-- A byte again and again, as far as the output reaches.
 use native.Mathlib.Omega.{arith}
 use borrow.Author.Needs.{needs}
 use Rattle.laws.specs.Sets.{writing}

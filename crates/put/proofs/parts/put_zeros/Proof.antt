@@ -1,4 +1,4 @@
--- Zeros are one byte again and again. Assumes nothing.
+-- Zeros are one byte again and again.
 use borrow.Author.Needs.{needs}
 use Rattle.laws.specs.Sets.{writing}
 use Rattle.put.proofs.parts.put_zeros.Statement.{statement}

@@ -1,5 +1,5 @@
 -- The place n bytes ahead: in each of the three cases the definition computes to the answer.
--- Assumes nothing.
+--
 use native.Mathlib.Omega.{arith}
 use borrow.Author.Needs.{needs}
 use Rattle.laws.specs.Writing.{ahead}

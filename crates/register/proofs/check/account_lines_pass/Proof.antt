@@ -1,4 +1,4 @@
--- `register::check::account_lines_pass` meets its contract. The loop's invariant: the lines that are left pass where all do. Assumes nothing.
+-- `register::check::account_lines_pass` meets its contract. The loop's invariant: the lines that are left pass where all do.
 use mathlib.Core.Path.{_≡_}
 use Prim.Native.Nat.{_-_}
 use borrow.Author.Needs.{needs}

@@ -1,4 +1,4 @@
--- `register::check::appears_again` meets its contract. The loop's invariant: an IBAN appears twice among those that are left where it does among all. Assumes nothing.
+-- `register::check::appears_again` meets its contract. The loop's invariant: an IBAN appears twice among those that are left where it does among all.
 use mathlib.Core.Path.{_≡_}
 use Prim.Native.Nat.{_-_}
 use borrow.Author.Needs.{needs}

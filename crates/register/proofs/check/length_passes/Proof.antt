@@ -1,4 +1,4 @@
--- `register::check::length_passes` meets its contract: both tests are those of the definition. Assumes nothing.
+-- `register::check::length_passes` meets its contract: both tests are those of the definition.
 use borrow.Author.Needs.{needs}
 use Rattle.register.specs.Sets.{registers}
 use Rattle.register.proofs.check.length_passes.Statement.{statement}

@@ -1,4 +1,4 @@
--- `register::check::register_passes` meets its contract: a text passes where the tests at its places hold. Assumes nothing.
+-- `register::check::register_passes` meets its contract: a text passes where the tests at its places hold.
 use borrow.Author.Needs.{needs}
 use Rattle.register.specs.Checks.{few-lines, fails-first, fails-lines, passes-single}
 use Rattle.register.specs.Sets.{registers}

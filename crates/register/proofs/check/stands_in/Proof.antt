@@ -1,4 +1,4 @@
--- `register::check::stands_in` meets its contract. The loop's invariant: the IBAN is one of those that are left where it is one of all. Assumes nothing.
+-- `register::check::stands_in` meets its contract. The loop's invariant: the IBAN is one of those that are left where it is one of all.
 use mathlib.Core.Path.{_≡_}
 use Prim.Native.Nat.{_-_}
 use borrow.Author.Needs.{needs}

@@ -1,4 +1,4 @@
--- `register::lines::account_line_passes` meets its contract: where the IBAN passes, the bounds tell the line's form. Assumes nothing.
+-- `register::lines::account_line_passes` meets its contract: where the IBAN passes, the bounds tell the line's form.
 use borrow.Author.Needs.{needs}
 use Rattle.register.specs.Checks.{call-held, line-unpassed, line-unbounded, line-unended, line-ordered}
 use Rattle.register.specs.Sets.{registers}

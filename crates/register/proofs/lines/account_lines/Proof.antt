@@ -1,4 +1,4 @@
--- `register::lines::account_lines` meets its contract: the first line has 24 bytes, an account line 38. Assumes nothing.
+-- `register::lines::account_lines` meets its contract: the first line has 24 bytes, an account line 38.
 use borrow.Author.Needs.{needs}
 use Rattle.register.specs.Sets.{registers}
 use Rattle.register.proofs.lines.account_lines.Statement.{statement}

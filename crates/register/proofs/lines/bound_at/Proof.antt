@@ -1,4 +1,4 @@
--- `register::lines::bound_at` meets its contract: the number of the digits that were read. Assumes nothing.
+-- `register::lines::bound_at` meets its contract: the number of the digits that were read.
 use borrow.Author.Needs.{needs}
 use Rattle.register.specs.Sets.{registers}
 use Rattle.register.proofs.lines.bound_at.Statement.{statement}

@@ -1,4 +1,4 @@
--- `register::lines::bounds_at` meets its contract: the commas and the digits are the signs of the pattern. Assumes nothing.
+-- `register::lines::bounds_at` meets its contract: the commas and the digits are the signs of the pattern.
 use borrow.Author.Needs.{needs}
 use Rattle.register.specs.Sets.{registers}
 use Rattle.register.proofs.lines.bounds_at.Statement.{statement}

@@ -1,4 +1,4 @@
--- `register::lines::ends_at` meets its contract: CR, then LF. Assumes nothing.
+-- `register::lines::ends_at` meets its contract: CR, then LF.
 use borrow.Author.Needs.{needs}
 use Rattle.register.specs.Sets.{registers}
 use Rattle.register.proofs.lines.ends_at.Statement.{statement}

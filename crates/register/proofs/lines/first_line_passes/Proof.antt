@@ -1,4 +1,4 @@
--- `register::lines::first_line_passes` meets its contract: the IBAN, then the line's end. Assumes nothing.
+-- `register::lines::first_line_passes` meets its contract: the IBAN, then the line's end.
 use borrow.Author.Needs.{needs}
 use Rattle.register.specs.Sets.{registers}
 use Rattle.register.proofs.lines.first_line_passes.Statement.{statement}

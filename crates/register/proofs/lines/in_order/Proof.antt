@@ -1,4 +1,4 @@
--- `register::lines::in_order` meets its contract: the numbers of the digits are the bounds. Assumes nothing.
+-- `register::lines::in_order` meets its contract: the numbers of the digits are the bounds.
 use borrow.Author.Needs.{needs}
 use Rattle.register.specs.Sets.{registers}
 use Rattle.register.proofs.lines.in_order.Statement.{statement}

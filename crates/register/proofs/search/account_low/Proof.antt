@@ -1,4 +1,4 @@
--- `register::search::account_low` meets its contract: the bound stands at its place of the line. Assumes nothing.
+-- `register::search::account_low` meets its contract: the bound stands at its place of the line.
 use borrow.Author.Needs.{needs}
 use Rattle.register.specs.Sets.{registers}
 use Rattle.register.proofs.search.account_low.Statement.{statement}

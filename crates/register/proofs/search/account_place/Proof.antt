@@ -1,4 +1,4 @@
--- `register::search::account_place` meets its contract: the line lies within a text that passed. Assumes nothing.
+-- `register::search::account_place` meets its contract: the line lies within a text that passed.
 use borrow.Author.Needs.{needs}
 use Rattle.register.specs.Passed.{line-few}
 use Rattle.register.specs.Sets.{registers}

@@ -1,4 +1,4 @@
--- `register::search::find_account` meets its contract. The loop's invariant: the line is found among those that are left as among all. Assumes nothing.
+-- `register::search::find_account` meets its contract. The loop's invariant: the line is found among those that are left as among all.
 use mathlib.Core.Path.{_≡_}
 use Prim.Native.Nat.{_+_, _*_, _-_, _≤_}
 use lib.ListN.{length}

@@ -1,4 +1,4 @@
--- `register::search::lines_in` meets its contract: a text that passed is short. Assumes nothing.
+-- `register::search::lines_in` meets its contract: a text that passed is short.
 use borrow.Author.Needs.{needs}
 use Rattle.register.specs.Passed.{text-first, text-short}
 use Rattle.register.specs.Sets.{registers}

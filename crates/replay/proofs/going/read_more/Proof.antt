@@ -1,4 +1,4 @@
--- The part behind the first n bytes was lent and is back. Assumes nothing.
+-- The part behind the first n bytes was lent and is back.
 use Rattle.replay.specs.Going.{going, more-read}
 use Prim.Native.Nat.{_-_}
 use lib.ListN.{length}

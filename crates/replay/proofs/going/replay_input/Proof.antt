@@ -1,4 +1,4 @@
--- Each turn begins with a window that is ready and ends with one. Assumes nothing.
+-- Each turn begins with a window that is ready and ends with one.
 use borrow.Author.Needs.{needs}
 use Rattle.replay.specs.Going.{Going, going, going-answered, read-fits, going-read}
 use Rattle.replay.proofs.going.replay_input.Statement.{statement}

@@ -1,4 +1,4 @@
--- By whether the word is a room. Assumes nothing.
+-- By whether the word is a room.
 use Rattle.replay.specs.Going.{going}
 use borrow.Author.Needs.{needs}
 use Rattle.replay.proofs.words.room_word.Statement.{statement}

@@ -1,4 +1,4 @@
--- `state_conditions::stops::added_by` meets its contract: the key and what each total is raised by. Assumes nothing.
+-- `state_conditions::stops::added_by` meets its contract: the key and what each total is raised by.
 use Rattle.state_conditions.specs.Stops.{added-made}
 use borrow.Author.Needs.{needs}
 use Rattle.state_conditions.proofs.stops.added_by.Statement.{statement}

@@ -1,4 +1,4 @@
--- The message's own reference is the bank's with the bytes of field 20. Assumes nothing.
+-- The message's own reference is the bank's with the bytes of field 20.
 use borrow.Author.Needs.{needs}
 use Rattle.state_conditions.specs.Stops.{used-is}
 use Rattle.state_conditions.proofs.stops.already_accepted.Statement.{statement}

@@ -1,4 +1,4 @@
--- An MT103 is dated on the day, an MT101 no later. Assumes nothing.
+-- An MT103 is dated on the day, an MT101 no later.
 use Rattle.state_conditions.specs.Stops.{stops}
 use borrow.Author.Needs.{needs}
 use Rattle.state_conditions.proofs.stops.is_misdated.Statement.{statement}

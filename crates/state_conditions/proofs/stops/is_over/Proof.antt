@@ -1,4 +1,4 @@
--- One of both totals is over its limit. Assumes nothing.
+-- One of both totals is over its limit.
 use Rattle.state_conditions.specs.Stops.{stops}
 use borrow.Author.Needs.{needs}
 use Rattle.state_conditions.proofs.stops.is_over.Statement.{statement}

@@ -1,4 +1,4 @@
--- 14 goes before 15. Assumes nothing.
+-- 14 goes before 15.
 use Rattle.state_conditions.specs.Stops.{stops}
 use borrow.Author.Needs.{needs}
 use Rattle.state_conditions.proofs.stops.rest_number.Statement.{statement}

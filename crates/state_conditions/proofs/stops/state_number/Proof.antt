@@ -1,4 +1,4 @@
--- Each way out is the first of 11 to 15 that holds. Assumes nothing.
+-- Each way out is the first of 11 to 15 that holds.
 use Rattle.state_conditions.specs.Stops.{stops}
 use borrow.Author.Needs.{needs}
 use Rattle.state_conditions.proofs.stops.state_number.Statement.{statement}

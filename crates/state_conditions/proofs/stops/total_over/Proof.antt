@@ -1,4 +1,4 @@
--- A total of six bytes and a message's sum add up in 64 bits. Assumes nothing.
+-- A total of six bytes and a message's sum add up in 64 bits.
 use native.Mathlib.Omega.{arith}
 use Rattle.state_conditions.specs.Stops.{total-within, total-above}
 use borrow.Author.Needs.{needs}

@@ -1,4 +1,4 @@
--- `text::against::alike` meets its contract. The loop's invariant: what is left of both parts is equal where they are. Assumes nothing.
+-- `text::against::alike` meets its contract. The loop's invariant: what is left of both parts is equal where they are.
 use mathlib.Core.Path.{_≡_}
 use Prim.Native.Nat.{_≤_, _+_, _-_}
 use lib.Dec.{eqb}

@@ -1,4 +1,4 @@
--- `text::against::fits_pattern` meets its contract: too few bytes fit no pattern; else the pattern is a part of itself. Assumes nothing.
+-- `text::against::fits_pattern` meets its contract: too few bytes fit no pattern; else the pattern is a part of itself.
 use borrow.Author.Needs.{needs}
 use Rattle.laws.specs.Reading.{reading}
 use Rattle.text.proofs.against.fits_pattern.Statement.{statement}

@@ -1,4 +1,4 @@
--- `text::against::fits_sign` meets its contract: the tests on the sign are those of the definition, in its order. Assumes nothing.
+-- `text::against::fits_sign` meets its contract: the tests on the sign are those of the definition, in its order.
 use borrow.Author.Needs.{needs}
 use Rattle.rules.specs.Text.{fitsSign}
 use Rattle.laws.specs.Tests.{tests}

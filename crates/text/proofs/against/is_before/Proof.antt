@@ -1,4 +1,4 @@
--- The loop's invariant: what is left of both parts decides. Assumes nothing.
+-- The loop's invariant: what is left of both parts decides.
 use mathlib.Core.Path.{_≡_}
 use Prim.Native.Nat.{_≤_, _+_, _-_}
 use Rattle.rules.specs.Text.{textBefore}

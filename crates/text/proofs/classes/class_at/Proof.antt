@@ -1,4 +1,4 @@
--- `text::classes::class_at` meets its contract: each case of the enum has the count of the class that `classOf` gives it. Assumes nothing.
+-- `text::classes::class_at` meets its contract: each case of the enum has the count of the class that `classOf` gives it.
 use Rattle.text.specs.Answers.{class-told}
 use borrow.Author.Needs.{needs}
 use Rattle.text.proofs.classes.class_at.Statement.{statement}

@@ -1,4 +1,4 @@
--- `text::classes::is_between` meets its contract: a branch of the code for each of the two comparisons. Assumes nothing.
+-- `text::classes::is_between` meets its contract: a branch of the code for each of the two comparisons.
 use borrow.Author.Needs.{needs}
 use Rattle.laws.specs.Tests.{tests}
 use Rattle.text.proofs.classes.is_between.Statement.{statement}

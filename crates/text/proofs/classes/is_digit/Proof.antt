@@ -1,4 +1,4 @@
--- `text::classes::is_digit` meets its contract: a digit is a byte of 48 to 57. Assumes nothing.
+-- `text::classes::is_digit` meets its contract: a digit is a byte of 48 to 57.
 use borrow.Author.Needs.{needs}
 use Rattle.rules.specs.Text.{isDigit}
 use Rattle.laws.specs.Tests.{tests}

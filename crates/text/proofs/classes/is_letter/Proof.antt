@@ -1,4 +1,4 @@
--- `text::classes::is_letter` meets its contract: a letter is a byte of 65 to 90. Assumes nothing.
+-- `text::classes::is_letter` meets its contract: a letter is a byte of 65 to 90.
 use borrow.Author.Needs.{needs}
 use Rattle.rules.specs.Text.{isLetter}
 use Rattle.laws.specs.Tests.{tests}

@@ -1,4 +1,4 @@
--- `text::classes::is_text` meets its contract: the two tests are those of the definition, in its order. Assumes nothing.
+-- `text::classes::is_text` meets its contract: the two tests are those of the definition, in its order.
 use borrow.Author.Needs.{needs}
 use Rattle.rules.specs.Text.{isText}
 use Rattle.laws.specs.Tests.{tests}

@@ -1,4 +1,4 @@
--- `text::classes::run_in` meets its contract: too short, too long, or as its bytes are counted. Assumes nothing.
+-- `text::classes::run_in` meets its contract: too short, too long, or as its bytes are counted.
 use Rattle.laws.specs.Places.{placing}
 use borrow.Author.Needs.{needs}
 use Rattle.text.proofs.classes.run_in.Statement.{statement}

@@ -1,4 +1,4 @@
--- `text::numbers::digits_value` meets its contract: the number of two groups, the second of nine digits. Assumes nothing.
+-- `text::numbers::digits_value` meets its contract: the number of two groups, the second of nine digits.
 use Rattle.laws.specs.Values.{valuing}
 use borrow.Author.Needs.{needs}
 use Rattle.text.proofs.numbers.digits_value.Statement.{statement}

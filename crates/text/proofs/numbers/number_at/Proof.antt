@@ -1,4 +1,4 @@
--- A slice holds bytes, so a number of few of them is small. Assumes nothing.
+-- A slice holds bytes, so a number of few of them is small.
 use native.Mathlib.Omega.{arith}
 use Rattle.text.specs.Numbers.{number-bound}
 use borrow.Author.Needs.{needs}

@@ -1,4 +1,4 @@
--- `text::numbers::read_digits` meets its contract: where each byte is a digit, their number, else none. Assumes nothing.
+-- `text::numbers::read_digits` meets its contract: where each byte is a digit, their number, else none.
 use Rattle.laws.specs.Values.{valuing}
 use borrow.Author.Needs.{needs}
 use Rattle.text.proofs.numbers.read_digits.Statement.{statement}

@@ -1,4 +1,4 @@
--- `text::numbers::small_digits` meets its contract. The loop's invariant: the number so far, with the digits that are left behind it, is the number of the part. Assumes nothing.
+-- `text::numbers::small_digits` meets its contract. The loop's invariant: the number so far, with the digits that are left behind it, is the number of the part.
 use Prim.Native.Nat.{_-_}
 use borrow.Author.Needs.{needs}
 use Rattle.laws.specs.Values.{Valuing, valuing}

@@ -1,4 +1,4 @@
--- `text::numbers::with_byte` meets its contract: a number of seven bytes leaves room for an eighth. Assumes nothing.
+-- `text::numbers::with_byte` meets its contract: a number of seven bytes leaves room for an eighth.
 use borrow.Author.Needs.{needs}
 use Rattle.laws.specs.Reading.{power, reading}
 use Rattle.text.proofs.numbers.with_byte.Statement.{statement}

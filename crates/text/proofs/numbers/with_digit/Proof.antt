@@ -1,4 +1,4 @@
--- `text::numbers::with_digit` meets its contract: a number of 17 digits leaves room for one more. Assumes nothing.
+-- `text::numbers::with_digit` meets its contract: a number of 17 digits leaves room for one more.
 use borrow.Author.Needs.{needs}
 use Rattle.laws.specs.Reading.{power, reading}
 use Rattle.text.proofs.numbers.with_digit.Statement.{statement}

@@ -1,4 +1,4 @@
--- `text::numbers::with_place` meets its contract: a digit is at least 48, and a number of eight digits leaves room for one more. Assumes nothing.
+-- `text::numbers::with_place` meets its contract: a digit is at least 48, and a number of eight digits leaves room for one more.
 use Rattle.laws.specs.Values.{valuing}
 use borrow.Author.Needs.{needs}
 use Rattle.text.proofs.numbers.with_place.Statement.{statement}

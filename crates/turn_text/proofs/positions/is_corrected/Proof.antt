@@ -1,4 +1,4 @@
--- `turn_text::positions::is_corrected` meets its contract: the two tests are those of the definition, in its order. Assumes nothing.
+-- `turn_text::positions::is_corrected` meets its contract: the two tests are those of the definition, in its order.
 use borrow.Author.Needs.{needs}
 use Rattle.turn_text.specs.Turn.{turning}
 use Rattle.turn_text.proofs.positions.is_corrected.Statement.{statement}

@@ -1,4 +1,4 @@
--- `turn_text::sums::sums_of` meets its contract. The loop's invariant: what is left of the positions completes the sums. Assumes nothing.
+-- `turn_text::sums::sums_of` meets its contract. The loop's invariant: what is left of the positions completes the sums.
 use borrow.Author.Needs.{needs}
 use Rattle.turn_text.specs.Sums.{SumsLeft, summing}
 use Rattle.turn_text.proofs.sums.sums_of.Statement.{statement}

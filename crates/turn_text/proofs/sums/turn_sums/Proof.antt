@@ -1,4 +1,4 @@
--- `turn_text::sums::turn_sums` meets its contract: the positions of the area are the engine's. Assumes nothing.
+-- `turn_text::sums::turn_sums` meets its contract: the positions of the area are the engine's.
 use Rattle.turn_text.specs.Sums.{summing}
 use borrow.Author.Needs.{needs}
 use Rattle.turn_text.proofs.sums.turn_sums.Statement.{statement}

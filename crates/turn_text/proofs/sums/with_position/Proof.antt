@@ -1,4 +1,4 @@
--- `turn_text::sums::with_position` meets its contract: a position with no details adds nothing, every other its difference. Assumes nothing.
+-- `turn_text::sums::with_position` meets its contract: a position with no details adds nothing, every other its difference.
 use borrow.Author.Needs.{needs}
 use Rattle.turn_text.specs.Sums.{summing}
 use Rattle.turn_text.proofs.sums.with_position.Statement.{statement}

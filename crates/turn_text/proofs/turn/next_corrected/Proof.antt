@@ -1,4 +1,4 @@
--- The loop's invariant: of the positions before the i-th none is to correct. Assumes nothing.
+-- The loop's invariant: of the positions before the i-th none is to correct.
 use borrow.Author.Needs.{needs}
 use Rattle.turn_text.specs.Turn.{Seeking, turning}
 use Rattle.turn_text.proofs.turn.next_corrected.Statement.{statement}

@@ -1,4 +1,4 @@
--- `turn_text::turn::put_correction_postings` meets its contract. The loop's invariant: the posting lines of the positions from the i-th on are left to write. Assumes nothing.
+-- `turn_text::turn::put_correction_postings` meets its contract. The loop's invariant: the posting lines of the positions from the i-th on are left to write.
 use borrow.Author.Needs.{needs}
 use mathlib.Core.Path.{_≡_}
 use Prim.Native.Nat.{_+_}

@@ -1,5 +1,5 @@
 -- `turn_text::turn::put_corrections` meets its contract, by a walk of its code. In each turn of the loop the outgoing number is lent to `issue`, and the output to `put_next`, each for a lifetime of that call; both are back when the turn ends, and by the
--- number as it is then kept the messages from t on are left to write. Assumes nothing.
+-- number as it is then kept the messages from t on are left to write.
 use mathlib.Core.Path.{_≡_, refl, sym, ap, subst}
 use mathlib.Core.Bool.{Bool}
 use mathlib.Core.Logic.{inl, inr}

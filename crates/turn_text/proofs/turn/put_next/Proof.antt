@@ -1,4 +1,4 @@
--- The position's message, and the search for the next behind it. Assumes nothing.
+-- The position's message, and the search for the next behind it.
 use Rattle.turn_text.specs.Turn.{turning}
 use borrow.Author.Needs.{needs}
 use Rattle.turn_text.proofs.turn.put_next.Statement.{statement}

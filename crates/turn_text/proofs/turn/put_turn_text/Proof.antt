@@ -1,4 +1,4 @@
--- Posting lines, then messages, of the positions that the area has. Assumes nothing.
+-- Posting lines, then messages, of the positions that the area has.
 use Rattle.engine_laws.specs.Decoded.{decoded-room}
 use Rattle.turn_text.specs.Area.{turn-wrote}
 use borrow.Author.Needs.{needs}

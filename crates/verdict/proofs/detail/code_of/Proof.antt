@@ -1,4 +1,4 @@
--- `verdict::detail::code_of` meets its contract: each case of a verdict has its number. Assumes nothing.
+-- `verdict::detail::code_of` meets its contract: each case of a verdict has its number.
 use Rattle.verdict.specs.Details.{line-small, detailing}
 use borrow.Author.Needs.{needs}
 use Rattle.verdict.proofs.detail.code_of.Statement.{statement}

@@ -1,4 +1,4 @@
--- `verdict::detail::judge_details` meets its contract. The loop's invariant: the verdicts of the first details are kept. Assumes nothing.
+-- `verdict::detail::judge_details` meets its contract. The loop's invariant: the verdicts of the first details are kept.
 use borrow.Author.Needs.{needs}
 use Prim.Native.Nat.{_-_, _≤_}
 use Rattle.verdict.specs.Details.{Judging, detailing}

@@ -1,4 +1,4 @@
--- `verdict::detail::judged_at` meets its contract: the record is made of what is kept at its place. Assumes nothing.
+-- `verdict::detail::judged_at` meets its contract: the record is made of what is kept at its place.
 use Rattle.verdict.specs.Details.{detailing}
 use borrow.Author.Needs.{needs}
 use Rattle.verdict.proofs.detail.judged_at.Statement.{statement}

@@ -1,4 +1,4 @@
--- `verdict::detail::verdict_by` meets its contract: each number has its case of a verdict. Assumes nothing.
+-- `verdict::detail::verdict_by` meets its contract: each number has its case of a verdict.
 use Rattle.verdict.specs.Details.{detailing}
 use borrow.Author.Needs.{needs}
 use Rattle.verdict.proofs.detail.verdict_by.Statement.{statement}

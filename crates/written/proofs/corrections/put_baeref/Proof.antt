@@ -1,4 +1,4 @@
--- `written::corrections::put_baeref` meets its contract: tag, day, number and line end. Assumes nothing.
+-- `written::corrections::put_baeref` meets its contract: tag, day, number and line end.
 use borrow.Author.Needs.{needs}
 use Rattle.laws.specs.Pieces.{wrote-4}
 use Rattle.written.proofs.corrections.put_baeref.Statement.{statement}

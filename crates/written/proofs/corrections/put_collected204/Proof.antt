@@ -1,4 +1,4 @@
--- `written::corrections::put_collected204` meets its contract: fields 32B and 53A. Assumes nothing.
+-- `written::corrections::put_collected204` meets its contract: fields 32B and 53A.
 use borrow.Author.Needs.{needs}
 use Rattle.laws.specs.Writing.{wrote-then}
 use Rattle.written.proofs.corrections.put_collected204.Statement.{statement}

@@ -1,4 +1,4 @@
--- `written::corrections::put_detailed_row` meets its contract: the row and the closing line. Assumes nothing.
+-- `written::corrections::put_detailed_row` meets its contract: the row and the closing line.
 use borrow.Author.Needs.{needs}
 use Rattle.laws.specs.Writing.{wrote-then}
 use Rattle.written.proofs.corrections.put_detailed_row.Statement.{statement}

@@ -1,4 +1,4 @@
--- `written::corrections::put_field72` meets its contract: the five rows in their order, RELREF with the position's own date. Assumes nothing.
+-- `written::corrections::put_field72` meets its contract: the five rows in their order, RELREF with the position's own date.
 use borrow.Author.Needs.{needs}
 use Rattle.rules.specs.Written.{field72}
 use Rattle.laws.specs.Pieces.{wrote-5}

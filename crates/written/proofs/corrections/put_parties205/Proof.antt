@@ -1,4 +1,4 @@
--- `written::corrections::put_parties205` meets its contract: fields 52A and 58A. Assumes nothing.
+-- `written::corrections::put_parties205` meets its contract: fields 52A and 58A.
 use borrow.Author.Needs.{needs}
 use Rattle.laws.specs.Writing.{wrote-then}
 use Rattle.written.proofs.corrections.put_parties205.Statement.{statement}

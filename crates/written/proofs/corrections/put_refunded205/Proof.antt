@@ -1,4 +1,4 @@
--- `written::corrections::put_refunded205` meets its contract: tag, day, currency, amount and line end. Assumes nothing.
+-- `written::corrections::put_refunded205` meets its contract: tag, day, currency, amount and line end.
 use borrow.Author.Needs.{needs}
 use Rattle.laws.specs.Pieces.{wrote-5}
 use Rattle.written.proofs.corrections.put_refunded205.Statement.{statement}

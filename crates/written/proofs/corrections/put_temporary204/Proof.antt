@@ -1,4 +1,4 @@
--- `written::corrections::put_temporary204` meets its contract: field 58D's two lines and field 20. Assumes nothing.
+-- `written::corrections::put_temporary204` meets its contract: field 58D's two lines and field 20.
 use borrow.Author.Needs.{needs}
 use Rattle.laws.specs.Pieces.{wrote-3}
 use Rattle.written.proofs.corrections.put_temporary204.Statement.{statement}

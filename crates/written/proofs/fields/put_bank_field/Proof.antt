@@ -1,4 +1,4 @@
--- `written::fields::put_bank_field` meets its contract: tag, the BIC's eight bytes and line end. Assumes nothing.
+-- `written::fields::put_bank_field` meets its contract: tag, the BIC's eight bytes and line end.
 use borrow.Author.Needs.{needs}
 use Rattle.rules.specs.Written.{field}
 use Rattle.laws.specs.Pieces.{wrote-3}

@@ -1,6 +1,6 @@
--- `written::fields::put_opened` meets its contract: type, BNBGBGSD between its commas, BIC and line end. Assumes nothing.
+-- `written::fields::put_opened` meets its contract: type, BNBGBGSD between its commas, BIC and line end.
 use borrow.Author.Needs.{needs}
-use Rattle.rules.specs.Written.{opened}
+use Rattle.rules.specs.Written.{firstLine}
 use Rattle.laws.specs.Pieces.{wrote-4}
 use Rattle.written.proofs.fields.put_opened.Statement.{statement}
 use Rattle.written.proofs.fields.put_opened.Tie as tie
@@ -24,7 +24,7 @@ same-length : tie.Need-same-length
 same-length c = search needs
 
 returns : tie.Need-returns
-unfolding opened
+unfolding firstLine
 returns c = search wrote-4
 
 pub put-opened-spec : {M : Type 1} → statement M

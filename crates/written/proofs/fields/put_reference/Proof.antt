@@ -1,4 +1,4 @@
--- `written::fields::put_reference` meets its contract: day, `GA` and number, one behind the other. Assumes nothing.
+-- `written::fields::put_reference` meets its contract: day, `GA` and number, one behind the other.
 use borrow.Author.Needs.{needs}
 use Rattle.rules.specs.Written.{reference}
 use Rattle.laws.specs.Pieces.{wrote-3}

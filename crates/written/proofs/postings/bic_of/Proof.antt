@@ -1,4 +1,4 @@
--- `written::postings::bic_of` meets its contract: the eight bytes fill the array. Assumes nothing.
+-- `written::postings::bic_of` meets its contract: the eight bytes fill the array.
 use borrow.Author.Needs.{needs}
 use Rattle.laws.specs.Digits.{places-length}
 use Rattle.laws.specs.Pieces.{wrote-all}

@@ -1,4 +1,4 @@
--- `written::postings::put_behalf` meets its contract: bank, comma, centralisation date and line end. Assumes nothing.
+-- `written::postings::put_behalf` meets its contract: bank, comma, centralisation date and line end.
 use borrow.Author.Needs.{needs}
 use Rattle.laws.specs.Pieces.{wrote-4}
 use Rattle.written.proofs.postings.put_behalf.Statement.{statement}

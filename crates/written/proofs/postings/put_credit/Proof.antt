@@ -1,4 +1,4 @@
--- `written::postings::put_credit` meets its contract: credit and stotinki, a comma behind each. Assumes nothing.
+-- `written::postings::put_credit` meets its contract: credit and stotinki, a comma behind each.
 use borrow.Author.Needs.{needs}
 use Rattle.laws.specs.Pieces.{wrote-4}
 use Rattle.written.proofs.postings.put_credit.Statement.{statement}

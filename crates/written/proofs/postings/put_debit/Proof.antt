@@ -1,4 +1,4 @@
--- `written::postings::put_debit` meets its contract: day and debit, a comma behind each. Assumes nothing.
+-- `written::postings::put_debit` meets its contract: day and debit, a comma behind each.
 use borrow.Author.Needs.{needs}
 use Rattle.laws.specs.Pieces.{wrote-4}
 use Rattle.written.proofs.postings.put_debit.Statement.{statement}

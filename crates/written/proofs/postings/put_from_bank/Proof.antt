@@ -1,4 +1,4 @@
--- `written::postings::put_from_bank` meets its contract: a posting line whose debit is the BIC and whose credit is the temporary account. Assumes nothing.
+-- `written::postings::put_from_bank` meets its contract: a posting line whose debit is the BIC and whose credit is the temporary account.
 use borrow.Author.Needs.{needs}
 use Rattle.written.specs.Texts.{posting-parties}
 use Rattle.written.proofs.postings.put_from_bank.Statement.{statement}

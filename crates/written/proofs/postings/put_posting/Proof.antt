@@ -1,4 +1,4 @@
--- `written::postings::put_posting` meets its contract: the line's three parts in their order. Assumes nothing.
+-- `written::postings::put_posting` meets its contract: the line's three parts in their order.
 use borrow.Author.Needs.{needs}
 use Rattle.rules.specs.Written.{posting}
 use Rattle.laws.specs.Pieces.{wrote-3}

@@ -1,4 +1,4 @@
--- `written::postings::put_to_bank` meets its contract: a posting line whose debit is the temporary account and whose credit is the BIC. Assumes nothing.
+-- `written::postings::put_to_bank` meets its contract: a posting line whose debit is the temporary account and whose credit is the BIC.
 use borrow.Author.Needs.{needs}
 use Rattle.written.specs.Texts.{posting-parties}
 use Rattle.written.proofs.postings.put_to_bank.Statement.{statement}

@@ -1,4 +1,4 @@
--- `written::verdicts::put_closed79` meets its contract: part, slash, parts, line end and closing line. Assumes nothing.
+-- `written::verdicts::put_closed79` meets its contract: part, slash, parts, line end and closing line.
 use borrow.Author.Needs.{needs}
 use Rattle.rules.specs.Written.{closed79}
 use Rattle.laws.specs.Pieces.{wrote-4}

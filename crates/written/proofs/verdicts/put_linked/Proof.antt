@@ -1,4 +1,4 @@
--- `written::verdicts::put_linked` meets its contract: part 1 writes nothing, every other part its field 21. Assumes nothing.
+-- `written::verdicts::put_linked` meets its contract: part 1 writes nothing, every other part its field 21.
 use native.Mathlib.Omega.{arith}
 use borrow.Author.Needs.{needs}
 use Rattle.written.specs.Texts.{linked-first, linked-later}

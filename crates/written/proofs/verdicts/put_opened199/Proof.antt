@@ -1,4 +1,4 @@
--- `written::verdicts::put_opened199` meets its contract: first line, field 20 and field 21 in their order. Assumes nothing.
+-- `written::verdicts::put_opened199` meets its contract: first line, field 20 and field 21 in their order.
 use borrow.Author.Needs.{needs}
 use Rattle.laws.specs.Pieces.{wrote-3}
 use Rattle.written.proofs.verdicts.put_opened199.Statement.{statement}

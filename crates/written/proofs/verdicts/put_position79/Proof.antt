@@ -1,4 +1,4 @@
--- `written::verdicts::put_position79` meets its contract: the five rows in their order. Assumes nothing.
+-- `written::verdicts::put_position79` meets its contract: the five rows in their order.
 use borrow.Author.Needs.{needs}
 use Rattle.rules.specs.Written.{position79}
 use Rattle.laws.specs.Pieces.{wrote-5}

@@ -1,4 +1,4 @@
--- `written::verdicts::put_size` meets its contract: the smaller total is taken from the larger. Assumes nothing.
+-- `written::verdicts::put_size` meets its contract: the smaller total is taken from the larger.
 use borrow.Author.Needs.{needs}
 use Rattle.written.specs.Texts.{size-below, size-above}
 use Rattle.written.proofs.verdicts.put_size.Statement.{statement}
