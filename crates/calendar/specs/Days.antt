@@ -1,17 +1,16 @@
 -- Which dates exist, one law for each way that the code goes.
-use mathlib.Core.Path.{_≡_, refl, sym, ap, _∙_}
-use mathlib.Core.Bool.{Bool, true, false, _&&_, cond}
+use mathlib.Core.Path.{_≡_, _∙_}
+use mathlib.Core.Bool.{Bool, true, false, _&&_}
 use mathlib.Core.List.{List, []}
-use mathlib.Core.Option.{Option, none, some}
+use mathlib.Core.Option.{none, some}
 use Prim.Native.Nat.{ℕ, _+_, _-_, _*_, _/_, _%_, _≤_, _<_}
 use native.Mathlib.Omega.{arith}
-use lib.Dec.{leb, eqb}
+use lib.Dec.{leb}
 use lib.ListN.{length, getD}
-use borrow.Author.Tests.{leb-true, le-leb, lt-leb, eq-eqb, ne-eqb}
-use Rattle.rules.specs.Text.{between, isDigit, digits, then, given}
+use borrow.Author.Tests.{le-leb, lt-leb, eq-eqb, ne-eqb}
+use Rattle.rules.specs.Text.{between, isDigit}
 use Rattle.rules.specs.Dates.{monthLengths, leapRow, monthLength, exists, date}
 use Rattle.laws.specs.Parts.{cut, cut-length}
-use Rattle.laws.specs.Tests.{and-left}
 use Rattle.laws.specs.Places.{Passed, passed-all}
 use Rattle.laws.specs.Values.{Valued, passed-none}
 

@@ -1,14 +1,14 @@
 -- An area that holds an engine holds the one that is read off it; a text that fits ends at its length.
-use mathlib.Core.Path.{_≡_, refl, sym, ap, _∙_}
+use mathlib.Core.Path.{_≡_, refl}
 use mathlib.Core.Bool.{Bool, true, false, _&&_}
 use mathlib.Core.List.{List}
-use mathlib.Core.Option.{Option, none, some}
+use mathlib.Core.Option.{some}
 use Prim.Native.Nat.{ℕ, _≤_, _<_}
 use native.Mathlib.Omega.{arith}
 use lib.Dec.{leb}
 use lib.ListN.{length, take}
 use Rattle.rules.specs.Text.{isSome, equal, given}
-use Rattle.rules.specs.Engine.{Engine, within}
+use Rattle.rules.specs.Engine.{within}
 use Rattle.laws.specs.Writing.{Wrote, ahead, furthest}
 use Rattle.rules.specs.Area.{holds, decode, encode, areaSize}
 

@@ -1,15 +1,15 @@
 -- A message, one law for each way out of the call.
 use mathlib.Core.Path.{_≡_, refl, sym, ap, _∙_}
-use mathlib.Core.Bool.{Bool, true, false, cond, not}
-use mathlib.Core.List.{List, [], _∷_, _++_}
-use mathlib.Core.Option.{Option, none, some}
+use mathlib.Core.Bool.{Bool, true, false, not}
+use mathlib.Core.List.{List, _++_}
+use mathlib.Core.Option.{some}
 use Prim.Native.Nat.{ℕ, _+_, _-_, _≤_, _<_, _^_}
-use borrow.Author.Tests.{le-leb, lt-leb, leb-false, ne-eqb}
-use lib.Dec.{leb, eqb, lit<}
+use borrow.Author.Tests.{le-leb, lt-leb, ne-eqb}
+use lib.Dec.{eqb}
 use lib.IntN.{ℤ, pos, subℕ}
 use native.Mathlib.Omega.{arith}
 use lib.Signed.{mag}
-use lib.ListN.{length, getD, take, drop, replicate}
+use lib.ListN.{length, drop, replicate}
 use Rattle.rules.specs.Text.{isSome, over}
 use Rattle.rules.specs.Messages.{Message, read}
 use Rattle.rules.specs.Register.{registerOf}

@@ -1,17 +1,15 @@
 -- Opening, one law for each way out of the call.
-use mathlib.Core.Path.{_≡_, refl, sym, ap, _∙_}
-use mathlib.Core.Bool.{Bool, true, false, cond, not}
+use mathlib.Core.Path.{_≡_, refl, sym, _∙_}
+use mathlib.Core.Bool.{Bool, true, false, not}
 use mathlib.Core.List.{List, [], _++_}
-use mathlib.Core.Option.{Option, none, some}
 use Prim.Native.Nat.{ℕ, _≤_}
 use borrow.Author.Tests.{leb-true, not-true, not-false}
 use lib.Dec.{leb, eqb, lit<}
-use lib.IntN.{ℤ, pos}
+use lib.IntN.{pos}
 use lib.ListN.{length, drop}
 use Rattle.rules.specs.Text.{isSome, over}
 use Rattle.rules.specs.Dates.{exists}
 use Rattle.rules.specs.Register.{register}
-use Rattle.rules.specs.Engine.{Engine}
 use Rattle.rules.specs.Calls.{firstOf, openStops, opened, acceptedOpening, openCall}
 use Rattle.rules.specs.Area.{cardOpen, encode, holds, areaSize}
 use Rattle.laws.specs.Tests.{held-told}

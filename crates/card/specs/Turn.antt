@@ -1,11 +1,11 @@
 -- A turn, one law for each way out of the call.
-use mathlib.Core.Path.{_≡_, refl, sym, ap, _∙_}
-use mathlib.Core.Bool.{Bool, true, false, cond, not}
-use mathlib.Core.List.{List, [], _∷_, _++_}
-use mathlib.Core.Option.{Option, none, some}
+use mathlib.Core.Path.{_≡_, refl, sym, _∙_}
+use mathlib.Core.Bool.{Bool, true, false}
+use mathlib.Core.List.{List, _++_}
+use mathlib.Core.Option.{some}
 use Prim.Native.Nat.{ℕ, _≤_, _<_, _^_}
 use borrow.Author.Tests.{le-leb, lt-leb}
-use lib.Dec.{leb, eqb, lit<}
+use lib.Dec.{eqb}
 use lib.IntN.{ℤ, pos, subℕ}
 use native.Mathlib.Omega.{arith}
 use lib.Signed.{mag}

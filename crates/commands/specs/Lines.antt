@@ -1,20 +1,17 @@
 -- Command lines: one law for each way out of the functions that read them.
-use mathlib.Core.Path.{_≡_, refl, sym, ap, _∙_, subst}
-use mathlib.Core.Bool.{Bool, true, false, _&&_, cond}
+use mathlib.Core.Path.{_≡_, refl, sym, ap, _∙_}
+use mathlib.Core.Bool.{Bool, true, false, cond}
 use mathlib.Core.List.{List, [], _∷_}
-use mathlib.Core.Option.{Option, none, some}
+use mathlib.Core.Option.{none, some}
 use Prim.Native.Nat.{ℕ, _+_, _-_, _≤_, _<_}
 use native.Mathlib.Omega.{arith}
 use lib.Dec.{leb, eqb}
-use lib.ListN.{length, getD, take, drop}
+use lib.ListN.{length, getD, take}
 use borrow.Author.Tests.{le-leb, lt-leb, eq-eqb, ne-eqb}
-use mir.Val.{Fits}
-use mir.Syntax.{w32}
-use Rattle.rules.specs.Text.{ascii, equal, then, given}
-use Rattle.rules.specs.Lines.{line}
-use Rattle.rules.specs.Replay.{opens, sends, turns, Commanded, lengthOf, sixDigits, withBytes, commandOf, command}
-use Rattle.laws.specs.Parts.{cut, from, cut-step, cut-done, cut-length, cut-take, cut-drop, from-take, from-drop, from-length}
-use Rattle.lines.specs.Answers.{LineAt, taken, line-told, no-line-told}
+use Rattle.rules.specs.Text.{ascii, equal, then}
+use Rattle.rules.specs.Replay.{opens, sends, lengthOf, sixDigits, withBytes, commandOf, command}
+use Rattle.laws.specs.Parts.{cut, from, cut-step, cut-length, cut-take, cut-drop, from-take, from-drop, from-length}
+use Rattle.lines.specs.Answers.{LineAt, line-told, no-line-told}
 use Rattle.lines.specs.declared.line.Next.{Next}
 use Rattle.lines.specs.declared.line.Next.the-variants.{Line, Bad as NoNext}
 use Rattle.text.specs.Answers.{numOf}

@@ -6,9 +6,9 @@ use mathlib.Core.Option.{Option, none, some}
 use Prim.Native.Nat.{ℕ, zero, suc, _+_, _-_, _*_, _≤_, _<_}
 use native.Mathlib.Omega.{arith}
 use native.Mathlib.Nat.{lt-of-le-of-lt}
-use lib.Dec.{leb, eqb, lit<}
+use lib.Dec.{leb, lit<}
 use lib.ListN.{length, getD, replicate}
-use borrow.Author.Tests.{le-leb, lt-leb, eq-eqb, leb-true}
+use borrow.Author.Tests.{le-leb, lt-leb, leb-true}
 use borrow.Author.Needs.{fits-under}
 use mir.Val.{Fits}
 use mir.Syntax.{w32}

@@ -1,7 +1,7 @@
 -- What booking a message needs of it, read off its bytes.
-use mathlib.Core.Path.{_≡_, refl, sym, ap, _∙_}
+use mathlib.Core.Path.{_≡_, refl, sym, ap}
 use mathlib.Core.Bool.{Bool, true, false, not}
-use mathlib.Core.List.{List, []}
+use mathlib.Core.List.{List}
 use Prim.Native.Nat.{ℕ, _-_, _*_, _^_, _≤_, _<_}
 use native.Mathlib.Omega.{arith}
 use lib.Dec.{leb, eqb}
@@ -9,7 +9,7 @@ use lib.ListN.{length}
 use borrow.Author.Tests.{leb-true}
 use Rattle.rules.specs.Text.{between, isText, every, run, number}
 use Rattle.rules.specs.Lines.{sender}
-use Rattle.rules.specs.Messages.{Message, mt103, mt101, Transfer, Order, senderOf, referenceOf, detailsOf, dateOf, transferredBy, detailedBy, sumOf, firstDate}
+use Rattle.rules.specs.Messages.{Message, mt103, mt101, Transfer, Order, referenceOf, detailsOf, dateOf, transferredBy, detailedBy, sumOf, firstDate}
 use Rattle.rules.specs.Calls.{misdated, bankOf, keyOf}
 use Rattle.laws.specs.Parts.{cut, from, from-take, cut-length}
 use Rattle.laws.specs.Tests.{and-left, and-right}

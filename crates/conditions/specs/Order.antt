@@ -1,10 +1,9 @@
 -- The conditions 4 to 8 of an MT101.
-use mathlib.Core.Path.{_≡_, refl, sym, ap, _∙_}
+use mathlib.Core.Path.{_≡_, refl, ap}
 use mathlib.Core.Bool.{Bool, true, false, _||_, not, cond}
-use mathlib.Core.List.{List, [], _∷_}
+use mathlib.Core.List.{List}
 use mathlib.Core.Option.{some}
-use Prim.Native.Nat.{ℕ, _+_, _≤_, _<_, min}
-use native.Mathlib.Nat.{add-zero}
+use Prim.Native.Nat.{ℕ, _≤_, _<_}
 use native.Mathlib.Omega.{arith}
 use lib.Dec.{leb, eqb}
 use lib.ListN.{length}
@@ -12,11 +11,11 @@ use borrow.Author.Tests.{le-leb, lt-leb, leb-true}
 use Rattle.rules.specs.Text.{equal, any, twice}
 use Rattle.rules.specs.Engine.{slashed}
 use Rattle.rules.specs.Messages as M
-use Rattle.rules.specs.Messages.{mt101, field20, field21, currency32B, firstDate, sumOf, referenceOf, detailsOf, dateOf}
+use Rattle.rules.specs.Messages.{mt101, field20, field21, currency32B, firstDate, referenceOf, detailsOf, dateOf}
 use Rattle.rules.specs.Calls.{formStops, firstOf, holdsOf, badReference, badSum, badAmount, foreignPayer, badAccount, manyDates}
 use Rattle.laws.specs.Tests.{pick-equal, pick-other}
 use Rattle.forms.specs.Spans.{within-at}
-use Rattle.conditions.specs.Stops.{lowest, pick-held, pick-missed}
+use Rattle.conditions.specs.Stops.{pick-held, pick-missed}
 use Rattle.conditions.specs.Walk.{alike}
 use Rattle.conditions.specs.Lowest.{pick, lowestAny}
 

@@ -1,19 +1,19 @@
 -- The conditions in their order, as the code asks them, and that they are document 01's.
 use mathlib.Core.Path.{_≡_, refl}
 use mathlib.Core.Bool.{Bool, true, false, _||_, not, cond}
-use mathlib.Core.List.{List, [], _∷_}
-use mathlib.Core.Option.{Option, some}
+use mathlib.Core.List.{List}
+use mathlib.Core.Option.{some}
 use Prim.Native.Nat.{ℕ}
 use native.Mathlib.Omega.{arith}
-use lib.Dec.{leb, eqb}
-use lib.ListN.{length, getD, take}
+use lib.Dec.{eqb}
+use lib.ListN.{getD, take}
 use borrow.Author.Tests.{eq-eqb, ne-eqb}
-use Rattle.rules.specs.Text.{equal, isSome, any, twice}
+use Rattle.rules.specs.Text.{equal, any, twice}
 use Rattle.rules.specs.Lines.{sender}
 use Rattle.rules.specs.Engine.{slashed}
 use Rattle.rules.specs.Forms.{message20, transfer32A, transfer59, detail21, detail32B, detail50H}
 use Rattle.rules.specs.Messages as M
-use Rattle.rules.specs.Messages.{Message, mt103, field20, account103, field21, currency32B, referenceOf, detailsOf, past}
+use Rattle.rules.specs.Messages.{mt103, field20, account103, field21, currency32B, referenceOf, detailsOf, past}
 use Rattle.rules.specs.Calls.{formStops, firstOf, holdsOf, badReference, badSum, badAmount, foreignPayer, badAccount, manyDates}
 use Rattle.forms.specs.Spans.{spanOf, noSpan, within-at, held-line}
 use Rattle.forms.specs.Details.{detailHeld}

@@ -16,7 +16,7 @@ use Rattle.forms.specs.Details.{DetailAt, detailHeld}
 use Rattle.forms.specs.declared.rows.Span.{Span}
 use Rattle.forms.specs.declared.detail.Detail.{Detail}
 use Rattle.details.specs.Lines.{lineAt, withLine, line-length, line-set, line-other}
-use Rattle.details.specs.Message.{noDetail, detailAt}
+use Rattle.details.specs.Message.{detailAt}
 use Rattle.details.specs.Kept.{more-length, more-before, more-last, before-or-last}
 
 -- the first n places, 16 at most, lie within the text

@@ -1,19 +1,19 @@
 -- A call on areas answers what the call on the engine answers that the area holds, and leaves the next engine there.
-use mathlib.Core.Path.{_≡_, refl, sym, ap, _∙_}
-use mathlib.Core.Bool.{Bool, true, false, not, cond}
-use mathlib.Core.List.{List, [], _∷_, _++_}
-use mathlib.Core.Option.{Option, none, some}
-use Prim.Native.Nat.{ℕ, _+_, _-_, _≤_}
+use mathlib.Core.Path.{_≡_, refl, ap, _∙_}
+use mathlib.Core.Bool.{Bool, true, false}
+use mathlib.Core.List.{List, []}
+use mathlib.Core.Option.{some}
+use Prim.Native.Nat.{ℕ, _-_, _≤_}
 use native.Mathlib.Omega.{arith}
-use borrow.Author.Tests.{eqb-true, eq-eqb, le-leb, not-false}
-use lib.Dec.{leb, eqb}
-use lib.IntN.{ℤ, pos, subℕ}
+use borrow.Author.Tests.{eqb-true, eq-eqb, le-leb}
+use lib.Dec.{eqb}
+use lib.IntN.{ℤ}
 use lib.ListN.{length, take, drop, length-append, length-drop}
-use Rattle.rules.specs.Text.{isSome, over}
-use Rattle.rules.specs.Messages.{Message, read}
-use Rattle.rules.specs.Engine.{Engine, within}
+use Rattle.rules.specs.Text.{over}
+use Rattle.rules.specs.Messages.{read}
+use Rattle.rules.specs.Engine.{Engine}
 use Rattle.rules.specs.Calls.{Stop, Answer, refused, answered, firstOf, openStops, acceptedOpening, openCall, messageStops, messageCall, bothOf, acceptedMessage, turnStops, turnCall, acceptedTurn}
-use Rattle.rules.specs.Area.{encode, holds, Result, stored, onAreas, cardOpen, cardMessage, cardTurn, areaSize}
+use Rattle.rules.specs.Area.{holds, Result, stored, onAreas, cardOpen, cardMessage, cardTurn, areaSize}
 use Rattle.rule_laws.specs.Conditions.{answered-accepted, answered-refused}
 use Rattle.engine_laws.specs.Keeps.{opened-within}
 use Rattle.engine_laws.specs.Calls.{Done, done-holds, done-text, done-length, Takes, message-there, Turns, turn-there}

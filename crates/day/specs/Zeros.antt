@@ -1,14 +1,14 @@
 -- "the area begins as zeros", which hold no engine: over such an area the replay is document 01's.
-use mathlib.Core.Path.{_≡_, refl, sym, ap, _∙_}
+use mathlib.Core.Path.{_≡_, refl, sym, _∙_}
 use mathlib.Core.List.{List, []}
-use mathlib.Core.Option.{Option, none}
+use mathlib.Core.Option.{none}
 use Prim.Native.Nat.{ℕ}
 use native.Mathlib.Omega.{arith}
-use lib.ListN.{length, replicate}
+use lib.ListN.{length}
 use Rattle.rules.specs.Text.{numberFrom}
 use Rattle.rules.specs.Lines.{lines}
 use Rattle.rules.specs.Register.{register, ofLines}
-use Rattle.rules.specs.Engine.{Engine, within}
+use Rattle.rules.specs.Engine.{within}
 use Rattle.rules.specs.Area.{holds, decode, zeros, textPlace, textAt, records, areaSize, joined}
 use Rattle.rules.specs.Replay.{replayFrom, replayIn}
 use Rattle.day.specs.Whole.{InPieces, whole}

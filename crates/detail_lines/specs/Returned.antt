@@ -2,19 +2,19 @@
 use mathlib.Core.Path.{_≡_, refl, sym, ap, _∙_}
 use mathlib.Core.Bool.{Bool, true, false, cond}
 use mathlib.Core.List.{List, [], _∷_, _++_}
-use Prim.Native.Nat.{ℕ, zero, suc, _+_, _-_, _*_, _≤_, _<_}
+use Prim.Native.Nat.{ℕ, zero, suc, _+_, _-_, _≤_, _<_}
 use native.Mathlib.Nat.{sub-zero}
 use native.Mathlib.Omega.{arith}
 use lib.ListN.{length, getD, take, drop}
 use lib.Seq.{take-nil}
 use Rattle.rules.specs.Messages.{Detail}
-use Rattle.rules.specs.Register.{Register, registerOf}
+use Rattle.rules.specs.Register.{registerOf}
 use Rattle.rules.specs.Verdict.{isReturned}
 use Rattle.rules.specs.Written.{returnedRows, allReturned}
 use Rattle.rules.specs.Calls.{returnedOf}
 use Rattle.laws.specs.Writing.{Wrote, Left, left-turn, left-none, left-length}
 use Rattle.details.specs.Message.{detailsIn, detailAt}
-use Rattle.details.specs.Kept.{LineOf, LinesIn, kept-next, kept-end}
+use Rattle.details.specs.Kept.{LinesIn, kept-next, kept-end}
 use Rattle.verdict.specs.Answers.{verdictOf, verdictBy, judgedIn}
 use Rattle.verdict.specs.Details.{VerdictsIn, judged-verdict, judged-branch, judged-account, judged-baeref}
 use Rattle.verdict.specs.declared.Verdict.{Verdict}

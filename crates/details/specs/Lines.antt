@@ -1,5 +1,5 @@
 -- Lines kept as places: line k is the pair of numbers at 2 k. One set is that line; the others stay.
-use mathlib.Core.Path.{_≡_, refl, _∙_}
+use mathlib.Core.Path.{_≡_, _∙_}
 use mathlib.Core.List.{List}
 use Prim.Native.Nat.{ℕ, _+_, _*_, _<_}
 use native.Mathlib.Omega.{arith}

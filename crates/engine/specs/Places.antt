@@ -1,5 +1,5 @@
 -- The place of a key among positions in their order: what is booked there stands in the position's place if it is open, else before the first one behind it.
-use mathlib.Core.Path.{_≡_, refl, sym, _∙_}
+use mathlib.Core.Path.{_≡_, refl, _∙_}
 use mathlib.Core.Bool.{Bool, true, false}
 use mathlib.Core.List.{List, [], _∷_, _++_, append-assoc}
 use Prim.Native.Nat.{ℕ, suc, _+_, _≤_, _<_}
@@ -12,7 +12,7 @@ use Rattle.rules.specs.Engine.{Key, Position, keyBefore, sameKey, positionOf, i
 use Rattle.rule_laws.specs.Keys.{test-before, before-other, before-first, same-keys, gives-way}
 use Rattle.laws.specs.Sections.{inserted, replaced}
 use Rattle.laws.specs.Tests.{never}
-use Rattle.engine_laws.specs.Order.{Sorted, Sorted.empty, Sorted.next}
+use Rattle.engine_laws.specs.Order.{Sorted, Sorted.next}
 use Rattle.engine_laws.specs.Positions.{Before, booked-same, booked-ahead, booked-behind, open-same, open-other, found-same, found-other, not-open, not-found, first-before}
 
 -- the position of a key, with two totals

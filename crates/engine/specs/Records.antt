@@ -13,7 +13,7 @@ use Rattle.engine_laws.specs.Checked.{records-length}
 use Rattle.engine_laws.specs.Decoded.{decoded-limits}
 use Rattle.engine_laws.specs.Order.{Sorted, ordered-sorted}
 use Rattle.engine_laws.specs.Positions.{Before, position-order}
-use Rattle.engine_laws.specs.Tests.{valueAt, keyAt, positionAt}
+use Rattle.engine_laws.specs.Tests.{valueAt, keyAt}
 use Rattle.engine.specs.Header.{HeaderOf}
 use Rattle.engine.specs.declared.header.Header.{Header}
 use Rattle.engine.specs.Positions.{nthPosition}

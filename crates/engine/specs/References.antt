@@ -5,14 +5,14 @@ use mathlib.Core.List.{List, [], _∷_}
 use Prim.Native.Nat.{ℕ, _+_, _-_, _*_, _≤_, _<_}
 use native.Mathlib.Nat.{add-zero}
 use native.Mathlib.Omega.{arith}
-use borrow.Author.Tests.{eq-eqb, ne-eqb, eqb-true, leb-true}
-use lib.Dec.{leb, eqb, lit≤}
+use borrow.Author.Tests.{eq-eqb, ne-eqb, eqb-true}
+use lib.Dec.{eqb, lit≤}
 use lib.ListN.{length, getD, take, drop}
 use Rattle.rules.specs.Text.{isText, every, equal, any}
 use Rattle.rules.specs.Engine.{Reference, sameReference}
 use Rattle.rules.specs.Area.{untilZero, referenceIn, positionsPlace, recordSize}
 use Rattle.laws.specs.Parts.{cut, cut-step, cut-done, cut-length, cut-drop, cut-take}
-use Rattle.laws.specs.Tests.{cond-left, cond-right, and-left}
+use Rattle.laws.specs.Tests.{cond-left, cond-right}
 use Rattle.engine_laws.specs.Layout.{text-byte}
 use Rattle.engine_laws.specs.Records.{cut-is, number-within}
 use Rattle.engine_laws.specs.Tests.{valueAt}

@@ -1,12 +1,12 @@
 -- A message booked in an area: its position raised or put in its place, its reference put in its place, the header's numbers.
 use mathlib.Core.Path.{_≡_, refl, sym, ap, _∙_}
 use mathlib.Core.Bool.{Bool, true, false, not}
-use mathlib.Core.List.{List, _∷_, _++_, map}
-use Prim.Native.Nat.{ℕ, suc, _+_, _-_, _*_, _≤_, _<_}
+use mathlib.Core.List.{List, _++_, map}
+use Prim.Native.Nat.{ℕ, _+_, _-_, _*_, _≤_, _<_}
 use native.Mathlib.Omega.{arith}
 use lib.Dec.{leb}
-use lib.ListN.{length, drop, length-append, drop-of-length-le}
-use borrow.Author.Tests.{leb-true, leb-false, not-false}
+use lib.ListN.{length, drop, length-append}
+use borrow.Author.Tests.{leb-true, not-false}
 use Rattle.rules.specs.Text.{isSome, bytes}
 use Rattle.rules.specs.Messages.{Message}
 use Rattle.rules.specs.Engine.{Key, Position, Reference, Engine, limit, positionOf, booked, filed, within}

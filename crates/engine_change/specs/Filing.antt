@@ -6,21 +6,19 @@ use Prim.Native.Nat.{ℕ, suc, _+_, _-_, _*_, _≤_, _<_}
 use native.Mathlib.Nat.{add-zero}
 use native.Mathlib.Numerals.{add-one}
 use native.Mathlib.Omega.{arith}
-use lib.Dec.{leb}
 use lib.ListN.{length, getD, take, drop, drop-of-length-le}
 use lib.Seq.{take-suc, drop-cons, drop-drop}
 use borrow.Author.Tests.{le-leb, lt-leb, eq-eqb, ne-eqb}
 use Rattle.rules.specs.Text.{isText, every, textBefore}
 use Rattle.rules.specs.Engine.{Reference, precedes, filed}
-use Rattle.rules.specs.Area.{numberAt, untilZero, referenceIn, referenceRecord, records, decode, areaSize, manyReferencesPlace, referencesPlace, recordSize}
+use Rattle.rules.specs.Area.{numberAt, untilZero, referenceIn, referenceRecord, decode, areaSize, manyReferencesPlace, referencesPlace, recordSize}
 use Rattle.laws.specs.Parts.{cut}
 use Rattle.laws.specs.Sections.{inserted}
 use Rattle.laws.specs.Standing.{moved}
 use Rattle.laws.specs.Writing.{Wrote}
-use Rattle.laws.specs.Moving.{Opens, opens}
 use Rattle.engine_laws.specs.References.{filed-behind, filed-here}
 use Rattle.engine_laws.specs.Records.{number-within}
-use Rattle.engine_laws.specs.Checked.{NoZero, until-before, text-in, texts-some, records-length}
+use Rattle.engine_laws.specs.Checked.{until-before, text-in, texts-some, records-length}
 use Rattle.engine.specs.Header.{HeaderOf}
 use Rattle.engine.specs.declared.header.Header.{Header}
 use Rattle.engine.specs.Records.{read-at}

@@ -8,7 +8,7 @@ use native.Mathlib.Omega.{arith}
 use lib.ListN.{length, drop, length-append}
 use Rattle.rules.specs.Text.{isSome}
 use Rattle.rules.specs.Engine.{Position, Reference, Engine}
-use Rattle.rules.specs.Area.{referenceRecord, keyBytes, positionRecord, referenceIn, header, encode, decode, holds, areaSize, positionsPlace, positionsRoom, referencesRoom, textsOf, referencesPlace, recordSize}
+use Rattle.rules.specs.Area.{referenceRecord, keyBytes, positionRecord, referenceIn, header, encode, decode, holds, areaSize, positionsPlace, positionsRoom, referencesRoom, textsOf, recordSize}
 use Rattle.laws.specs.Digits.{places-length}
 use Rattle.laws.specs.Laid.{laid}
 use Rattle.laws.specs.Writing.{Wrote}
@@ -18,7 +18,7 @@ use Rattle.rule_laws.specs.Options.{There, there}
 use Rattle.engine_laws.specs.Limits.{limits}
 use Rattle.engine_laws.specs.Layout.{Kept, All, All.none, All.more}
 use Rattle.engine_laws.specs.Held.{Held, held, references-kept}
-use Rattle.engine_laws.specs.Sections.{referencePart, positionPart, textPart, Of, header-length, sections-encode, held-sections, references-stand, positions-stand}
+use Rattle.engine_laws.specs.Sections.{referencePart, positionPart, textPart, Of, header-length, sections-encode, held-sections, positions-stand}
 use Rattle.engine_change.specs.Header.{numbers, lengths, header-halves, numbers-length}
 use Rattle.engine_change.specs.Changes.{section, section-length, stands-back, stands-other}
 

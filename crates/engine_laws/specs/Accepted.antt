@@ -5,11 +5,11 @@ use mathlib.Core.List.{List, [], _∷_, _++_}
 use mathlib.Core.Option.{Option, none, some, Option·map}
 use Prim.Native.Nat.{ℕ, zero, suc, _+_, _^_, _≤_, _<_}
 use native.Mathlib.Omega.{arith}
-use lib.Dec.{leb, eqb, lit≤}
+use lib.Dec.{leb, lit≤}
 use lib.ListN.{length, take, drop}
 use lib.Seq.{take-take}
 use borrow.Author.Tests.{le-leb}
-use Rattle.rules.specs.Text.{ascii, digits, isText, run, equal, fits, fitsSign, number, then, given}
+use Rattle.rules.specs.Text.{ascii, isText, run, equal, fits, fitsSign, number}
 use Rattle.rules.specs.Dates.{exists, date}
 use Rattle.rules.specs.Amounts.{amount}
 use Rattle.rules.specs.Accounts.{isBic}
@@ -21,7 +21,7 @@ use Rattle.laws.specs.Numbers.{bic-number, bic-small}
 use Rattle.laws.specs.Parts.{cut, from, from-take}
 use Rattle.laws.specs.Tests.{and-right, cond-right}
 use Rattle.rule_laws.specs.Dates.{date-exists}
-use Rattle.rule_laws.specs.Options.{Came, came, Gave, gave, some-is}
+use Rattle.rule_laws.specs.Options.{Came, came, gave, some-is}
 use Rattle.engine_laws.specs.Facts.{never, cond-left, cond-both}
 
 -- ---- the first row of a form, which no message leaves out

@@ -1,23 +1,23 @@
 -- The three calls on areas: an acceptance leaves an area that holds the next engine and writes its text, a refusal leaves all as it was.
-use mathlib.Core.Path.{_≡_, refl, sym, _∙_}
-use mathlib.Core.Bool.{Bool, true, false, not, cond}
+use mathlib.Core.Path.{_≡_, refl}
+use mathlib.Core.Bool.{Bool, true, false}
 use mathlib.Core.List.{List, [], _++_}
 use mathlib.Core.Option.{none, some}
 use Prim.Native.Nat.{ℕ, _≤_, _<_}
 use native.Mathlib.Omega.{arith}
-use lib.Dec.{leb, eqb}
+use lib.Dec.{eqb}
 use lib.IntN.{ℤ, pos, subℕ}
 use lib.ListN.{length, take, drop, length-append, length-drop}
-use lib.Seq.{take-at, drop-at}
-use borrow.Author.Tests.{leb-true, leb-false, eqb-true, not-false}
-use Rattle.rules.specs.Text.{isSome, over}
+use lib.Seq.{take-at}
+use borrow.Author.Tests.{eqb-true}
+use Rattle.rules.specs.Text.{over}
 use Rattle.rules.specs.Dates.{exists}
 use Rattle.rules.specs.Messages.{Message, read}
 use Rattle.rules.specs.Engine.{Engine, within}
 use Rattle.rules.specs.Calls.{Answer, firstOf, openStops, opened, acceptedOpening, openCall, messageStops, messageText, after, afterMessage, acceptedMessage, bothOf, messageCall, turnText, turnStops, refunded, collected, afterTurn, acceptedTurn, turnCall}
 use Rattle.rules.specs.Area.{encode, holds, Result, stored, onAreas, cardOpen, cardMessage, cardTurn, areaSize}
 use Rattle.rule_laws.specs.Conditions.{answered-accepted, answered-zero}
-use Rattle.rule_laws.specs.Clear.{OpenClear, open-clear, Clear, clear, message-engine, message-read, TurnClear, turn-clear, turn-engine}
+use Rattle.rule_laws.specs.Clear.{open-clear, Clear, clear, message-engine, message-read, TurnClear, turn-clear, turn-engine}
 use Rattle.rule_laws.specs.Options.{There, there}
 use Rattle.engine_laws.specs.Held.{encode-length, holds-encode, held}
 use Rattle.engine_laws.specs.Keeps.{opened-within, message-within, turn-within}

@@ -10,12 +10,12 @@ use lib.ListN.{length, take, drop, replicate, length-append, length-drop}
 use lib.Seq.{drop-drop, length-take-le}
 use borrow.Author.Tests.{eqb-true, eqb-false, eq-eqb, ne-eqb, le-leb, lt-leb}
 use Rattle.rules.specs.Text.{isText, every, number, ordered, textBefore}
-use Rattle.rules.specs.Engine.{Position, Reference, earlier, precedes}
+use Rattle.rules.specs.Engine.{earlier, precedes}
 use Rattle.rules.specs.Area.{zeros, padded, untilZero, numberAt, referenceIn, positionIn, referenceRecord, positionRecord, records, recordSize}
 use Rattle.laws.specs.Numbers.{Within, bytes-within, within-take, within-drop}
 use Rattle.laws.specs.Parts.{cut}
 use Rattle.laws.specs.Sections.{zeros-length}
-use Rattle.laws.specs.Tests.{and-left, and-right, cond-right}
+use Rattle.laws.specs.Tests.{cond-right}
 use Rattle.engine_laws.specs.Facts.{cond-left, cond-both}
 use Rattle.engine_laws.specs.Bytes.{Bytes}
 use Rattle.engine_laws.specs.Layout.{All, All.none, All.more, text-byte}

@@ -8,7 +8,7 @@ use native.Mathlib.Omega.{arith}
 use lib.Dec.{leb, lit≤}
 use lib.ListN.{length, take, drop, length-append, length-drop, length-map}
 use lib.Seq.{take-add, length-take-le}
-use borrow.Author.Tests.{leb-true, le-leb, not-true}
+use borrow.Author.Tests.{leb-true, le-leb}
 use Rattle.rules.specs.Text.{every, equal, number, bytes, isSome, given}
 use Rattle.rules.specs.Dates.{exists}
 use Rattle.rules.specs.Register.{register}

@@ -6,16 +6,16 @@ use mathlib.Core.Option.{some}
 use Prim.Native.Nat.{ℕ, suc, _+_, _/_, _≤_, _<_}
 use native.Mathlib.Omega.{arith}
 use lib.Dec.{leb, eqb}
-use lib.ListN.{length, length-append}
-use borrow.Author.Tests.{leb-true, leb-false, eqb-true, not-false}
-use Rattle.rules.specs.Text.{any, ordered}
+use lib.ListN.{length}
+use borrow.Author.Tests.{leb-true, eqb-true, not-false}
+use Rattle.rules.specs.Text.{ordered}
 use Rattle.rules.specs.Lines.{framed}
 use Rattle.rules.specs.Messages.{Message, mt103, mt101, Detail, read, detailsOf, dateOf, referenceOf}
 use Rattle.rules.specs.Register.{Register, register, registerOf}
 use Rattle.rules.specs.Verdict.{isReturned}
-use Rattle.rules.specs.Engine.{Position, Engine, limit, slashed, isBank, goodPositions, sameReference, goodReference, goodReferences, within}
+use Rattle.rules.specs.Engine.{Position, Engine, limit, slashed, isBank, goodPositions, goodReference, goodReferences, within}
 use Rattle.rules.specs.Written.{partsOf}
-use Rattle.rules.specs.Calls.{firstOf, holdsOf, openStops, opened, addressed, badReference, badAmount, badAccount, manyDates, misdated, messageText, bankOf, ownReference, added, after, noRoom, overLimit, verdictOf, returnedOf, hasVerdict, writes, afterMessage, inputStops, stateStops, messageStops, turnStops, afterTurn}
+use Rattle.rules.specs.Calls.{firstOf, openStops, opened, badReference, misdated, bankOf, ownReference, added, after, noRoom, overLimit, verdictOf, returnedOf, hasVerdict, writes, afterMessage, messageStops, turnStops, afterTurn}
 use Rattle.rule_laws.specs.Clear.{OpenClear, open-clear, Clear, clear, TurnClear, turn-clear}
 use Rattle.engine_laws.specs.Facts.{or-left, or-right}
 use Rattle.engine_laws.specs.Limits.{Limits, limits, limits-within}

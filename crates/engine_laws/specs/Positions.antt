@@ -1,12 +1,12 @@
 -- Positions in their order: what `booked` and `kept` leave is in order again, and within the limits if the totals are.
-use mathlib.Core.Path.{_≡_, refl, sym, ap}
-use mathlib.Core.Bool.{Bool, true, false, _&&_, _||_, not, cond, and-false}
+use mathlib.Core.Path.{_≡_, refl, ap}
+use mathlib.Core.Bool.{Bool, true, false, _&&_, not, cond}
 use mathlib.Core.List.{List, [], _∷_}
-use Prim.Native.Nat.{ℕ, suc, _+_, _≤_, _<_}
+use Prim.Native.Nat.{ℕ, suc, _+_, _≤_}
 use native.Mathlib.Omega.{arith}
-use lib.Dec.{leb, eqb}
+use lib.Dec.{leb}
 use lib.ListN.{length}
-use borrow.Author.Tests.{leb-true, leb-false, le-leb, lt-leb, eqb-true, eqb-false, eq-eqb, ne-eqb, not-false}
+use borrow.Author.Tests.{leb-true, leb-false, le-leb}
 use Rattle.rules.specs.Text.{any}
 use Rattle.rules.specs.Dates.{exists}
 use Rattle.rules.specs.Engine.{Position, limit, earlier, alike, raised, positionOf, isOpen, booked, hasDetails, kept, isBank, goodPosition, goodPositions}
@@ -14,7 +14,7 @@ use Rattle.rules.specs.Written.{corrected, correctedCount}
 use Rattle.laws.specs.Tests.{and-left, and-right, cond-right}
 use Rattle.rule_laws.specs.Keys as K
 use Rattle.rule_laws.specs.Keys.{before-trans, test-before, before-test, behind-other, Place, Place.same, Place.ahead, Place.behind, place}
-use Rattle.engine_laws.specs.Facts.{never, cond-left, cond-both, or-left, or-right, any-neither}
+use Rattle.engine_laws.specs.Facts.{never, cond-left, cond-both, any-neither}
 use Rattle.engine_laws.specs.Layout.{All, All.none, All.more}
 use Rattle.engine_laws.specs.Order.{Order, Sorted, Sorted.empty, Sorted.next, all-before}
 

@@ -1,7 +1,7 @@
 -- The record tests against the definitions: a record of 24 bytes passes exactly if what it says is within the limits and is written as it stands.
 use mathlib.Core.Path.{_≡_, refl, sym, ap, _∙_}
 use mathlib.Core.Bool.{Bool, true, false, _&&_, not, cond}
-use mathlib.Core.List.{List, [], _∷_, _++_, append-nil, append-assoc}
+use mathlib.Core.List.{List, [], _∷_, _++_, append-assoc}
 use Prim.Native.Nat.{ℕ, zero, suc, _+_, _-_, _≤_}
 use native.Mathlib.Nat.{zero-div}
 use native.Mathlib.Omega.{arith}
@@ -10,9 +10,8 @@ use lib.ListN.{length, take, drop, length-drop}
 use lib.Seq.{drop-at, drop-drop, take-add, take-all, length-take-le}
 use borrow.Author.Tests.{leb-true, le-leb, eqb-true, not-true}
 use Rattle.rules.specs.Text.{isText, every, run, places, bytes, number}
-use Rattle.rules.specs.Dates.{exists}
 use Rattle.rules.specs.Accounts.{isBic}
-use Rattle.rules.specs.Engine.{limit, isBank, goodReference, slashed}
+use Rattle.rules.specs.Engine.{isBank, goodReference, slashed}
 use Rattle.rules.specs.Area.{zeros, padded, numberAt, untilZero, referenceIn, keyIn, positionIn, referenceRecord, keyBytes, positionRecord, dateOffset, blockOffset, transferredOffset, detailedOffset, recordSize}
 use Rattle.laws.specs.Digits.{places-length}
 use Rattle.laws.specs.Numbers.{Within, bytes-number, within-take, within-drop}

@@ -6,7 +6,7 @@ use Prim.Native.Nat.{ℕ, zero, suc, _+_, _-_, _≤_, _<_}
 use native.Mathlib.Omega.{arith}
 use lib.Dec.{leb, eqb}
 use lib.ListN.{length, getD, take, drop}
-use borrow.Author.Tests.{le-leb, eqb-true}
+use borrow.Author.Tests.{le-leb}
 use Rattle.rules.specs.Text.{isText, between, every, run}
 use Rattle.rules.specs.Engine.{slashed}
 use Rattle.rules.specs.Area.{untilZero}

@@ -10,7 +10,7 @@ use lib.Pow.{pow-add}
 use lib.ListN.{length, take, drop}
 use lib.Seq.{take-at, drop-at}
 use borrow.Author.Tests.{le-leb, lt-leb, leb-true, leb-false}
-use Rattle.rules.specs.Text.{places, width, fixed, bytes, decimal}
+use Rattle.rules.specs.Text.{places, width, fixed, bytes}
 use Rattle.laws.specs.Parts.{cut}
 use Rattle.laws.specs.Writing.{ahead, filled}
 

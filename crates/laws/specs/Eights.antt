@@ -6,7 +6,7 @@ use Prim.Native.Nat.{ℕ, _+_, _-_, _*_, _/_, _≤_, _<_}
 use native.Mathlib.Omega.{arith}
 use lib.Bits.{bitOr}
 use lib.Dec.{eqb}
-use lib.ListN.{length, take, drop, take-append-drop}
+use lib.ListN.{take, drop, take-append-drop}
 use borrow.Author.Tests.{eq-eqb, ne-eqb}
 use Rattle.rules.specs.Text.{every}
 use Rattle.laws.specs.Parts.{cut, cut-take, cut-drop, cut-done}

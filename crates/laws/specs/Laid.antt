@@ -2,12 +2,12 @@
 -- inside each other come together.
 use mathlib.Core.Path.{_≡_, refl, sym, ap, _∙_}
 use mathlib.Core.Logic.{_≢_}
-use mathlib.Core.List.{List, [], _∷_, _++_, append-assoc}
+use mathlib.Core.List.{List, [], _∷_, _++_}
 use Prim.Native.Nat.{ℕ, zero, suc, _+_, _-_, _≤_, _<_}
 use native.Mathlib.Nat.{add-zero, add-suc, suc-add, zero-add}
 use native.Mathlib.Omega.{arith}
-use lib.ListN.{length, getD, take, drop, set, length-set, length-append, length-drop, take-append-drop}
-use lib.Seq.{sets, sets-eq, set-out, set-comm, set-set, getD-set-other, drop-set-lt, take-set-le, drop-at, drop-drop, length-take-le}
+use lib.ListN.{length, getD, take, drop, set, length-set, length-append}
+use lib.Seq.{sets, sets-eq, set-out, set-comm, set-set, getD-set-other, drop-set-lt, take-set-le, drop-at}
 use Rattle.rules.specs.Text.{over}
 
 -- the output with a text laid over it from a place on, as far as the output reaches

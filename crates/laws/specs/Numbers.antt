@@ -13,7 +13,7 @@ use lib.ListN.{length, getD, take, drop}
 use borrow.Author.Tests.{le-leb, eqb-true}
 use Rattle.rules.specs.Text.{ascii, isDigit, isLetter, isAlnum, fits, fitsSign, places, width, fixed, bytes, decimal, digits, digitsFrom, number, numberFrom}
 use Rattle.rules.specs.Accounts.{isBic}
-use Rattle.laws.specs.Parts.{cut, cut-length}
+use Rattle.laws.specs.Parts.{cut}
 use Rattle.laws.specs.Tests.{between-high, cond-right, cond-left}
 use Rattle.laws.specs.Digits.{width-power}
 use Rattle.laws.specs.Reading.{digit-low, digit-high, fits-length}

@@ -1,10 +1,10 @@
 -- Bytes or-ed together: the or is 0 exactly where each of them is.
 use mathlib.Core.Path.{_≡_, refl, sym, ap, _∙_}
 use mathlib.Core.Bool.{Bool, true, false, cond}
-use mathlib.Core.List.{List, [], _∷_}
-use Prim.Native.Nat.{ℕ, zero, suc, _+_, _≤_, _<_}
+use mathlib.Core.List.{List}
+use Prim.Native.Nat.{ℕ, zero, suc, _+_, _≤_}
 use native.Mathlib.Omega.{arith}
-use lib.Bits.{bitOr, bitAnd, or-add-and, or-zero-l, and-le-r}
+use lib.Bits.{bitOr, or-add-and, or-zero-l, and-le-r}
 use lib.Dec.{eqb}
 use lib.ListN.{length, getD}
 use borrow.Author.Tests.{ne-eqb}

@@ -1,18 +1,17 @@
 -- The text of a message that is booked, off its bytes and the area.
-use mathlib.Core.Path.{_≡_, refl, sym, ap, _∙_}
+use mathlib.Core.Path.{_≡_, refl, ap, _∙_}
 use mathlib.Core.Bool.{Bool, true, false, not, cond}
 use mathlib.Core.List.{List, [], _++_}
-use Prim.Native.Nat.{ℕ, _+_, _-_, _≤_, _<_}
+use Prim.Native.Nat.{ℕ, _+_, _-_, _≤_}
 use native.Mathlib.Omega.{arith}
 use lib.Dec.{leb}
-use lib.ListN.{length, take, drop}
-use Rattle.rules.specs.Text.{isSome}
+use lib.ListN.{length}
 use Rattle.rules.specs.Messages.{Message, dateOf, detailsOf}
 use Rattle.rules.specs.Register.{register, registerOf}
 use Rattle.rules.specs.Engine.{Engine, Position, hasDetails}
 use Rattle.rules.specs.Written.{mt199s, partsOf, verdicts}
 use Rattle.rules.specs.Calls.{bankOf, hasVerdict, after, returnedOf, postings, messageText, writes}
-use Rattle.rules.specs.Area.{decode, holds}
+use Rattle.rules.specs.Area.{decode}
 use Rattle.laws.specs.Writing.{Wrote, wrote-then}
 use Rattle.engine.specs.Totals.{TotalsOf}
 use Rattle.engine.specs.Header.{HeaderOf}

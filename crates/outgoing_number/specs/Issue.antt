@@ -1,5 +1,5 @@
 -- The outgoing number ("Positions and turn"): a reference issued, and the record stepped forward.
-use mathlib.Core.Path.{_≡_, refl}
+use mathlib.Core.Path.{_≡_}
 use mathlib.Core.List.{List}
 use Prim.Native.Nat.{ℕ, _+_}
 use Rattle.rules.specs.Written.{reference}

@@ -1,9 +1,9 @@
 -- Document 01, "Dates, amounts, accounts": BIC, BAE code and IBAN.
-use mathlib.Core.Bool.{Bool, true, false, _&&_, cond}
+use mathlib.Core.Bool.{Bool, _&&_, cond}
 use mathlib.Core.List.{List, [], _∷_, _++_}
 use Prim.Native.Nat.{ℕ, _+_, _-_, _*_, _%_}
 use lib.Dec.{eqb}
-use lib.ListN.{length, getD, take, drop}
+use lib.ListN.{getD, take, drop}
 use Rattle.rules.specs.Text.{ascii, between, isDigit, fits}
 
 -- "A BIC is six letters, then two letters or digits."

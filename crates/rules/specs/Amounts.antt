@@ -1,9 +1,8 @@
 -- Document 01, "Dates, amounts, accounts": amounts, in stotinki, 100 to the lev.
-use mathlib.Core.Bool.{Bool, true, false, _&&_, cond}
+use mathlib.Core.Bool.{_&&_, cond}
 use mathlib.Core.List.{List, [], _∷_, _++_}
 use mathlib.Core.Option.{Option, none, some}
 use Prim.Native.Nat.{ℕ, _+_, _-_, _*_, _/_, _%_}
-use Prim.Native.String.{String}
 use lib.Dec.{leb, eqb}
 use lib.ListN.{length, getD}
 use Rattle.rules.specs.Text.{ascii, isDigit, fixed, decimal}

@@ -1,5 +1,5 @@
 -- The engine area: "It stands between calls in the first 6,144 bytes of a lent area; those behind are not touched." The layout is this module's, the calls on areas are document 01's.
-use mathlib.Core.Bool.{Bool, true, false, _&&_, not, cond}
+use mathlib.Core.Bool.{_&&_, cond}
 use mathlib.Core.List.{List, [], _∷_, _++_, map}
 use mathlib.Core.Option.{Option, none, some}
 use Prim.Native.Nat.{ℕ, zero, suc, _+_, _-_, _*_}

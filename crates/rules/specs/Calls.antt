@@ -10,11 +10,11 @@ use Rattle.rules.specs.Text.{ascii, equal, number, isSome, any, twice}
 use Rattle.rules.specs.Dates.{exists}
 use Rattle.rules.specs.Accounts.{passes}
 use Rattle.rules.specs.Lines.{framed, type, receiver}
-use Rattle.rules.specs.Messages.{Message, mt103, mt101, Transfer, Detail, currency32A, account103, field21, currency32B, payer, account59, read, senderOf, referenceOf, detailsOf, dateOf, transferredBy, detailedBy, firstDate}
-use Rattle.rules.specs.Register.{Register, Account, register, registerOf}
+use Rattle.rules.specs.Messages.{Message, mt103, mt101, Detail, currency32A, account103, field21, currency32B, payer, account59, read, senderOf, referenceOf, detailsOf, dateOf, transferredBy, detailedBy, firstDate}
+use Rattle.rules.specs.Register.{Register, register, registerOf}
 use Rattle.rules.specs.Verdict.{Verdict, credited, returned, verdict, isReturned, accountAt}
 use Rattle.rules.specs.Engine.{Key, Position, Reference, Engine, limit, positionOf, isOpen, booked, kept, slashed, sameReference, filed, hasDetails}
-use Rattle.rules.specs.Written.{Book, fromBank, toAccount, toBank, verdicts, partsOf, correctionPostings, corrections, correctedCount, corrected, isRefund}
+use Rattle.rules.specs.Written.{Book, fromBank, toAccount, toBank, verdicts, partsOf, correctionPostings, corrections, correctedCount}
 
 -- ---- conditions of refusal
 

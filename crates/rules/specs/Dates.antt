@@ -1,7 +1,7 @@
 -- Document 01, "Dates, amounts, accounts": dates.
-use mathlib.Core.Bool.{Bool, true, false, _&&_, cond}
+use mathlib.Core.Bool.{Bool, _&&_, cond}
 use mathlib.Core.List.{List, [], _∷_}
-use mathlib.Core.Option.{Option, none, some}
+use mathlib.Core.Option.{Option, none}
 use Prim.Native.Nat.{ℕ, _-_, _/_, _%_}
 use lib.Dec.{leb, eqb}
 use lib.ListN.{length, getD}

@@ -1,8 +1,8 @@
 -- Demand 3: "a single claim about the list, not one for each call".
 use mathlib.Core.Path.{_≡_}
-use mathlib.Core.Bool.{Bool, true, false}
+use mathlib.Core.Bool.{true, false}
 use mathlib.Core.List.{List, [], _∷_}
-use mathlib.Core.Option.{Option, none, some}
+use mathlib.Core.Option.{some}
 use Prim.Native.Nat.{ℕ, _+_, _^_, _<_}
 use lib.IntN.{ℤ, pos, _+ℤ_}
 use lib.ListN.{take}

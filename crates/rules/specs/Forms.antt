@@ -8,7 +8,7 @@ use Prim.Native.String.{String}
 use lib.Dec.{eqb}
 use lib.ListN.{length, getD, take, drop}
 use Rattle.rules.specs.Text.{ascii, isText, isAlnum, run, fits, then}
-use Rattle.rules.specs.Lines.{Line, Taken, line}
+use Rattle.rules.specs.Lines.{Line, line}
 
 -- what stands behind a row's head: nothing; T; a reference R; the bytes behind an account line's slash; N; an amount, which is read with the message's parts
 pub data Rest : Type 0 where

@@ -1,6 +1,6 @@
 -- Document 01, "Messages read": an MT103 and an MT101 with their parts.
-use mathlib.Core.Bool.{Bool, true, false, cond}
-use mathlib.Core.List.{List, [], _∷_, _++_}
+use mathlib.Core.Bool.{cond}
+use mathlib.Core.List.{List, [], _∷_}
 use mathlib.Core.Option.{Option, none, some, Option·map}
 use Prim.Native.Nat.{ℕ, zero, suc, _+_}
 use Prim.Native.String.{String}
@@ -9,7 +9,7 @@ use Rattle.rules.specs.Text.{ascii, equal, then, given}
 use Rattle.rules.specs.Dates.{date}
 use Rattle.rules.specs.Amounts.{amount}
 use Rattle.rules.specs.Lines.{Line, closing, type, sender, body}
-use Rattle.rules.specs.Forms.{TakenRows, takeRows, transferRows, orderRows, detailRows, message20, transfer32A, transfer59, transferBaeref, detail21, detail32B, detail50H, detail52D, detail59, detailCentrb, detailBaeref}
+use Rattle.rules.specs.Forms.{takeRows, transferRows, orderRows, detailRows, message20, transfer32A, transfer59, transferBaeref, detail21, detail32B, detail50H, detail52D, detail59, detailCentrb, detailBaeref}
 
 -- the line of a row
 abbrev pub lineOf : List Line → ℕ → Line

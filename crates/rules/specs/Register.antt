@@ -1,5 +1,5 @@
 -- Document 01, "Register and opening": the register's text.
-use mathlib.Core.Bool.{Bool, true, false, _&&_, not}
+use mathlib.Core.Bool.{Bool, _&&_, not}
 use mathlib.Core.List.{List, [], _∷_, map}
 use mathlib.Core.Option.{Option, none, some, Option·map, Option·getD}
 use Prim.Native.Nat.{ℕ}

@@ -1,13 +1,13 @@
 -- Document 01, "Written": the replay program, from all its input to all its output.
-use mathlib.Core.Bool.{Bool, true, false, _&&_, not, cond}
+use mathlib.Core.Bool.{_&&_, cond}
 use mathlib.Core.List.{List, [], _∷_, _++_}
 use mathlib.Core.Option.{Option, none, some}
 use Prim.Native.Nat.{ℕ, zero, suc, _+_}
-use lib.Dec.{leb, eqb}
+use lib.Dec.{leb}
 use lib.IntN.{ℤ, pos, negsuc}
 use lib.ListN.{length, take, drop}
-use Rattle.rules.specs.Text.{ascii, digits, digitsFrom, decimal, fits, equal, then, given}
-use Rattle.rules.specs.Lines.{Taken, line}
+use Rattle.rules.specs.Text.{ascii, digits, decimal, fits, equal, then, given}
+use Rattle.rules.specs.Lines.{line}
 use Rattle.rules.specs.Engine.{Engine}
 use Rattle.rules.specs.Calls.{Answer, openCall, messageCall, turnCall}
 

@@ -2,8 +2,7 @@
 use mathlib.Core.Bool.{Bool, true, false, _&&_, _||_, not, cond}
 use mathlib.Core.List.{List, [], _∷_}
 use mathlib.Core.Option.{Option, none, some, Option·getD}
-use Prim.Native.Nat.{ℕ, suc, _+_}
-use lib.Dec.{leb}
+use Prim.Native.Nat.{ℕ, _+_}
 use lib.ListN.{getD, take, drop}
 use Rattle.rules.specs.Text.{ascii, between, equal, fits, digits}
 use Rattle.rules.specs.Accounts.{ibanShape, control}

@@ -1,11 +1,10 @@
 -- Document 01, "Written": posting lines, MT199, MT204 and MT205.
-use mathlib.Core.Bool.{Bool, true, false, _&&_, not, cond}
+use mathlib.Core.Bool.{Bool, _&&_, not, cond}
 use mathlib.Core.List.{List, [], _∷_, _++_}
 use Prim.Native.Nat.{ℕ, zero, suc, _+_, _-_, _/_}
-use Prim.Native.String.{String}
 use lib.Dec.{leb, eqb}
 use lib.ListN.{length, take, drop}
-use Rattle.rules.specs.Text.{ascii, fixed, decimal, ended}
+use Rattle.rules.specs.Text.{ascii, fixed, decimal}
 use Rattle.rules.specs.Amounts.{withComma, withPoint}
 use Rattle.rules.specs.Messages.{Detail, branch, account59, baerefDate, baerefName}
 use Rattle.rules.specs.Engine.{Position, bic, hasDetails}

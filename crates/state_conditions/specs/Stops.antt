@@ -1,18 +1,16 @@
 -- The conditions 11 to 15, as the code tests them: one law for each way out.
-use mathlib.Core.Path.{_≡_, refl, sym, ap, _∙_}
+use mathlib.Core.Path.{_≡_, refl, ap, _∙_}
 use mathlib.Core.Bool.{Bool, true, false, _&&_, _||_, not, cond}
-use mathlib.Core.List.{List, [], _∷_}
+use mathlib.Core.List.{List}
 use mathlib.Core.Option.{some}
 use Prim.Native.Nat.{ℕ, _+_, _≤_, _<_}
 use native.Mathlib.Omega.{arith}
-use borrow.Author.Tests.{le-leb, lt-leb, eq-eqb, ne-eqb}
+use borrow.Author.Tests.{le-leb, lt-leb}
 use lib.Dec.{leb, eqb}
-use lib.ListN.{length}
-use Rattle.rules.specs.Text.{isSome, any}
-use Rattle.rules.specs.Messages.{Message, dateOf, transferredBy, detailedBy, referenceOf}
-use Rattle.rules.specs.Engine.{Key, Engine, Position, limit, positionOf, isOpen, sameReference}
-use Rattle.rules.specs.Calls.{limitStops, firstOf, holdsOf, misdated, bankOf, ownReference, noRoom, overLimit, after}
-use Rattle.rules.specs.Area.{holds, decode}
+use Rattle.rules.specs.Text.{any}
+use Rattle.rules.specs.Engine.{Key, Position, limit, sameReference}
+use Rattle.rules.specs.Calls.{limitStops, firstOf, holdsOf, misdated, ownReference, noRoom, overLimit, after}
+use Rattle.rules.specs.Area.{decode}
 use Rattle.laws.specs.Parts.{cut}
 use Rattle.laws.specs.Tests.{held-told}
 use Rattle.position.specs.Values.{keyValue}

@@ -1,15 +1,15 @@
 -- The verdicts of a message's details, and a detail with its verdict, as the code holds them.
-use mathlib.Core.Path.{_≡_, refl, sym, ap, _∙_}
+use mathlib.Core.Path.{_≡_, ap, _∙_}
 use mathlib.Core.Bool.{true}
 use mathlib.Core.List.{List}
 use Prim.Native.Nat.{ℕ, _+_, _*_, _≤_, _<_}
 use native.Mathlib.Omega.{arith}
-use lib.ListN.{length, getD, drop, set, length-set}
+use lib.ListN.{length, getD, set, length-set}
 use lib.Seq.{getD-set-same, getD-set-other}
 use Rattle.rules.specs.Text.{isSome}
 use Rattle.rules.specs.Messages as M
 use Rattle.rules.specs.Forms.{detail52D, detail59, detailBaeref}
-use Rattle.rules.specs.Messages.{lineOf, past, account59}
+use Rattle.rules.specs.Messages.{past, account59}
 use Rattle.rules.specs.Register.{register, registerOf}
 use Rattle.rules.specs.Verdict.{verdict}
 use Rattle.register.specs.Passed.{text-count, accounts-count}
@@ -18,10 +18,10 @@ use Rattle.forms.specs.Fields.{Behind, behind-in, behind-bytes}
 use Rattle.forms.specs.declared.rows.Span.{Span}
 use Rattle.details.specs.Lines.{lineAt}
 use Rattle.details.specs.Message.{detailsIn, detailAt}
-use Rattle.details.specs.Kept.{LineOf, LinesAs, LinesIn, AmountsIn, before-or-last}
+use Rattle.details.specs.Kept.{LineOf, LinesIn, AmountsIn, before-or-last}
 use Rattle.verdict.specs.Answers.{verdictOf, verdictBy, CodeOf, judgedIn, Listed, listed, listed-line, code-line, code-shape, code-control, code-register, code-bounds, by-shape, by-control, by-register, by-bounds, by-line}
 use Rattle.verdict.specs.declared.Verdict.{Verdict}
-use Rattle.verdict.specs.declared.Verdict.the-variants.{Credited, Returned}
+use Rattle.verdict.specs.declared.Verdict.the-variants.{Credited}
 use Rattle.verdict.specs.declared.detail.Judged.{Judged}
 
 -- the verdict kept at place i is detail d's

@@ -9,12 +9,12 @@ use native.Mathlib.Omega.{arith}
 use lib.Dec.{leb}
 use lib.ListN.{length, take, drop, length-take, length-drop}
 use borrow.Author.Tests.{le-leb, lt-leb, not-false}
-use Rattle.rules.specs.Text.{ascii, equal, fits, between, digits}
+use Rattle.rules.specs.Text.{ascii, equal, fits, between}
 use Rattle.rules.specs.Accounts.{ibanShape, control}
 use Rattle.rules.specs.Register.{Account, Register}
 use Rattle.rules.specs.Verdict.{found, accountAt, shaped, inBounds, judged, verdict, wrongShape, wrongControl, notInRegister, outOfBounds, credited, returned}
 use Rattle.laws.specs.Parts.{cut, cut-take, cut-drop, cut-done, cut-length}
-use Rattle.laws.specs.Tests.{and-left, and-right, not-held, never}
+use Rattle.laws.specs.Tests.{and-left, and-right, not-held}
 use Rattle.laws.specs.Reading.{fits-length}
 use Rattle.laws.specs.Equal.{equal-true}
 use Rattle.register.specs.Answers.{foundOf}

@@ -1,7 +1,5 @@
 -- A number below 0 has the size of what is left of 0 after one more, and one.
 use Rattle.commands.specs.Print.{up-fits, down-fits, size-cast, size-fits, size-below}
-use borrow.Author.Needs.{needs}
-use Rattle.laws.specs.Sets.{writing}
 use Rattle.commands.proofs.print.size_below.Statement.{statement}
 use Rattle.commands.proofs.print.size_below.Tie as tie
 
