@@ -1,7 +1,7 @@
 -- The records of an area, one behind the other, each read off its 24 bytes; its positions.
 use mathlib.Core.Path.{_≡_, refl}
 use mathlib.Core.List.{List, [], _∷_, map}
-use Prim.Native.Nat.{ℕ, zero, suc, _+_, _-_, _*_, _≤_, _<_}
+use Prim.Native.Nat.{ℕ, zero, suc, _+_, _-_, _*_, _≤_, _<_, _^_}
 use native.Mathlib.Nat.{add-zero}
 use native.Mathlib.Omega.{arith}
 use lib.Dec.{lit≤}
@@ -59,8 +59,8 @@ module _ (area : List ℕ) (i k : ℕ) where
 -- q is the position at p, its totals of six bytes
 pub record PositionAt (area : List ℕ) (p : ℕ) (q : P.Position) : Type 0 where
   pub value : positionValue q ≡ positionAt area p
-  pub transferred : q .transferred < 281474976710656
-  pub detailed : q .detailed < 281474976710656
+  pub transferred : q .transferred < 2 ^ 48
+  pub detailed : q .detailed < 2 ^ 48
 
 module _ (area : List ℕ) (p : ℕ) where
   pub key-read : {bank date : ℕ} → NumberAt area p 8 bank → NumberAt area (p + dateOffset) 3 date → keyValue (record { bank = bank; date = date }) ≡ keyAt area p

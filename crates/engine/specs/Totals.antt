@@ -2,7 +2,7 @@
 use mathlib.Core.Path.{_≡_, refl, sym, ap, _∙_}
 use mathlib.Core.Bool.{Bool, true, false}
 use mathlib.Core.List.{List}
-use Prim.Native.Nat.{ℕ, suc, _+_, _*_, _≤_, _<_}
+use Prim.Native.Nat.{ℕ, suc, _+_, _*_, _≤_, _<_, _^_}
 use native.Mathlib.Omega.{arith}
 use lib.Dec.{leb, lit<}
 use lib.ListN.{length, drop, drop-of-length-le}
@@ -25,8 +25,8 @@ pub record TotalsOf (ps : List Position) (k : Key) (r : Totals) : Type 0 where
   pub opens : r .«is_open» ≡ isOpen k ps
   pub transferred : r .transferred ≡ positionOf k ps .transferred
   pub detailed : r .detailed ≡ positionOf k ps .detailed
-  pub small : r .transferred < 281474976710656
-  pub few : r .detailed < 281474976710656
+  pub small : r .transferred < 2 ^ 48
+  pub few : r .detailed < 2 ^ 48
 
 -- an open position stands at its place
 pub record Found (a : List ℕ) (n i : ℕ) (k : Key) : Type 0 where

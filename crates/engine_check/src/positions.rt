@@ -9,6 +9,7 @@ use engine::layout::SIZE;
 use engine::layout::TEXTS;
 use engine::layout::TRANSFERRED;
 use engine::position_at;
+use position::LIMIT;
 use position::Position;
 use position::is_before;
 ghost use mathlib.Core.Path.{_≡_};
@@ -36,10 +37,10 @@ fn values_fit(q: Position, day: u32) -> bool
     if !date_fits(q.key.date, day) {
         return false;
     }
-    if q.transferred > 99999999999999 {
+    if q.transferred > LIMIT {
         return false;
     }
-    q.detailed <= 99999999999999
+    q.detailed <= LIMIT
 }
 
 // Is the position there within the limits, and its byte for a block zero?

@@ -16,7 +16,7 @@ use Rattle.rules.specs.Accounts.{isBic}
 use Rattle.rules.specs.Lines.{Line, line, opening, closing, lines, inLines, framed, type, sender, body}
 use Rattle.rules.specs.Forms.{Row, TakenRows, reference, fitsRest, fitsRow, leadRows, takeRows, transferRows, orderRows, detailRows}
 use Rattle.rules.specs.Messages.{Message, mt103, mt101, Transfer, Detail, lineOf, past, date32A, amount32A, baerefDate103, amount32B, dateCentrb, dateBaeref, transferOf, detailOf, takeDetail, details, readTransfer, readOrder, read, senderOf, referenceOf, firstDate, dateOf}
-use Rattle.rules.specs.Engine.{isBank}
+use Rattle.rules.specs.Engine.{isBank, lastBank}
 use Rattle.laws.specs.Numbers.{bic-number, bic-small}
 use Rattle.laws.specs.Parts.{cut, from, from-take}
 use Rattle.laws.specs.Tests.{and-right, cond-right}
@@ -149,7 +149,7 @@ front-part s a n k h = from-take (take k s) a n ∙ ap (drop a) (take-take (a + 
 -- the number of a BIC is a bank
 pub bic-bank : (cs : List ℕ) → isBic cs ≡ true → isBank (number cs) ≡ true
 unfolding isBank
-bic-bank cs h = let n : number cs < 256 ^ 8 = bic-small cs h in rw (le-leb (number cs) 18446744073709551615 (omega arith), bic-number cs h) h
+bic-bank cs h = let n : number cs < 256 ^ 8 = bic-small cs h in rw (le-leb (number cs) lastBank (omega arith), bic-number cs h) h
 
 pub sender-bank : (s : List ℕ) → framed s ≡ true → isBank (number (sender s)) ≡ true
 unfolding framed opening sender isBic

@@ -9,7 +9,7 @@ use lib.ListN.{length, take, drop, length-append}
 use lib.Seq.{take-at, drop-at}
 use borrow.Author.Tests.{leb-true, ne-eqb}
 use Rattle.rules.specs.Text.{isText, every, run, bytes, number}
-use Rattle.rules.specs.Engine.{Position, Reference, limit, goodPosition, goodReference}
+use Rattle.rules.specs.Engine.{Position, Reference, limit, goodPosition, goodReference, lastBank}
 use Rattle.rules.specs.Area.{zeros, padded, joined, referenceRecord, keyBytes, positionRecord, numberAt, untilZero, referenceIn, keyIn, positionIn, records, dateOffset, transferredOffset, detailedOffset, recordSize}
 use Rattle.laws.specs.Digits.{places-length}
 use Rattle.laws.specs.Numbers.{number-bytes}
@@ -63,7 +63,7 @@ position-kept day p h =
     let Z : List ℕ = bytes 1 0 in
     let S : List ℕ = bytes 6 (p .transferred) in
     let T : List ℕ = bytes 6 (p .detailed) in
-    let b : p .key .bank ≤ 18446744073709551615 = bank-small _ (search (and-left, and-right)) in
+    let b : p .key .bank ≤ lastBank = bank-small _ (search (and-left, and-right)) in
     let d : p .key .date < 1000000 = date-small _ (search (and-left, and-right)) in
     let s : p .transferred ≤ limit = leb-true _ _ (search (and-left, and-right)) in
     let t : p .detailed ≤ limit = leb-true _ _ (search (and-left, and-right)) in
@@ -107,7 +107,7 @@ unfolding goodReference referenceRecord referenceIn run
 reference-kept r h =
     let a : List ℕ = referenceRecord r in
     let B : List ℕ = bytes 8 (r .sender) in
-    let b : r .sender ≤ 18446744073709551615 = bank-small _ (search (and-left, and-right)) in
+    let b : r .sender ≤ lastBank = bank-small _ (search (and-left, and-right)) in
     let l : length (r .text) ≤ 16 = between-high 1 16 _ (search (and-left, and-right)) in
     let t : every isText (r .text) ≡ true = search (and-left, and-right) in
     let w : length (padded 16 (r .text)) ≡ 16 = padded-length 16 (r .text) l in

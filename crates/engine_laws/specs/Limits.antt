@@ -7,7 +7,7 @@ use borrow.Author.Tests.{leb-true, le-leb}
 use Rattle.rules.specs.Text.{isSome, ordered}
 use Rattle.rules.specs.Dates.{exists}
 use Rattle.rules.specs.Register.{register}
-use Rattle.rules.specs.Engine.{Engine, earlier, isBank, goodPositions, precedes, goodReferences, within}
+use Rattle.rules.specs.Engine.{Engine, earlier, isBank, goodPositions, precedes, goodReferences, within, lastBank}
 use Rattle.laws.specs.Tests.{and-left, and-right}
 
 -- "within the limits above"
@@ -41,6 +41,6 @@ unfolding within
 limits-within e l = rw (l .register, l .day, le-leb _ _ (l .few), l .good, l .order, le-leb _ _ (l .today), l .forms, l .filed, le-leb _ _ (l .numbered))
 
 -- a bank fits eight bytes
-pub bank-small : (n : ℕ) → isBank n ≡ true → n ≤ 18446744073709551615
+pub bank-small : (n : ℕ) → isBank n ≡ true → n ≤ lastBank
 unfolding isBank
 bank-small n h = leb-true _ _ (and-left _ _ h)

@@ -11,7 +11,7 @@ use lib.Seq.{drop-at, drop-drop, take-add, take-all, length-take-le}
 use borrow.Author.Tests.{leb-true, le-leb, eqb-true, not-true}
 use Rattle.rules.specs.Text.{isText, every, run, places, bytes, number}
 use Rattle.rules.specs.Accounts.{isBic}
-use Rattle.rules.specs.Engine.{isBank, goodReference, slashed}
+use Rattle.rules.specs.Engine.{isBank, goodReference, slashed, lastBank}
 use Rattle.rules.specs.Area.{zeros, padded, numberAt, untilZero, referenceIn, keyIn, positionIn, referenceRecord, keyBytes, positionRecord, dateOffset, blockOffset, transferredOffset, detailedOffset, recordSize}
 use Rattle.laws.specs.Digits.{places-length}
 use Rattle.laws.specs.Numbers.{Within, bytes-number, within-take, within-drop}
@@ -61,7 +61,7 @@ bytes-zero (suc k) = rw (zero-div, bytes-zero k)
 -- a bank's bytes are a BIC
 pub bank-bic : (n : ℕ) → isBank n ≡ true → isBic (bytes 8 n) ≡ true
 unfolding isBank
-bank-bic n h = and-right (leb n 18446744073709551615) _ h
+bank-bic n h = and-right (leb n lastBank) _ h
 
 -- w bytes are those of their number
 pub bytes-stand : (s : List ℕ) (i w : ℕ) → Within 256 0 s → i + w ≤ length s → bytes w (numberAt s i w) ≡ take w (drop i s)

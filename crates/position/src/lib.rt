@@ -20,6 +20,9 @@ pub struct Position {
     pub detailed: u64,
 }
 
+// "Each total is at most 99,999,999,999,999."
+pub const LIMIT: u64 = 99999999999999;
+
 // "By BIC in byte order and then date": does k stand before l?
 pub fn is_before(k: Key, l: Key) -> bool
     ensures { λ r. ⌜ r ≡ keyBefore (keyValue k) (keyValue l) ⌝ }

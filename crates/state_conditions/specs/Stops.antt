@@ -3,7 +3,7 @@ use mathlib.Core.Path.{_≡_, refl, ap, _∙_}
 use mathlib.Core.Bool.{Bool, true, false, _&&_, _||_, not, cond}
 use mathlib.Core.List.{List}
 use mathlib.Core.Option.{some}
-use Prim.Native.Nat.{ℕ, _+_, _≤_, _<_}
+use Prim.Native.Nat.{ℕ, _+_, _*_, _^_, _≤_, _<_}
 use native.Mathlib.Omega.{arith}
 use borrow.Author.Tests.{le-leb, lt-leb}
 use lib.Dec.{leb, eqb}
@@ -51,10 +51,10 @@ module _ (b : Booking) (day : ℕ) where
   pub misdated-after : b .transfer ≡ false → day < b .key .date → true ≡ misdatedBy (b .transfer) (b .key .date) day
   misdated-after t l = rw (t, lt-leb _ _ l) refl
 
-pub total-within : (v w : ℕ) → v + w ≤ 99999999999999 → false ≡ not (leb (v + w) limit)
+pub total-within : (v w : ℕ) → v + w ≤ limit → false ≡ not (leb (v + w) limit)
 total-within v w h = rw (le-leb _ _ h) refl
 
-pub total-above : (v w : ℕ) → 99999999999999 < v + w → true ≡ not (leb (v + w) limit)
+pub total-above : (v w : ℕ) → limit < v + w → true ≡ not (leb (v + w) limit)
 total-above v w h = rw (lt-leb _ _ h) refl
 
 module _ (b : Booking) where
@@ -70,14 +70,14 @@ module _ (b : Booking) where
   pub sum-own : b .transfer ≡ false → b .amount ≡ amountIf (not (b .transfer)) (b .amount)
   sum-own t = rw t refl
 
-  amount-small : (t : Bool) → b .amount ≤ 160000000000000000 → amountIf t (b .amount) ≤ 160000000000000000
+  amount-small : (t : Bool) → b .amount ≤ 16 * 10 ^ 16 → amountIf t (b .amount) ≤ 16 * 10 ^ 16
   amount-small true h = h
   amount-small false h = omega arith
 
-  pub added-small : {v : ℕ} → v ≡ amountIf (b .transfer) (b .amount) → b .amount ≤ 160000000000000000 → v ≤ 160000000000000000
+  pub added-small : {v : ℕ} → v ≡ amountIf (b .transfer) (b .amount) → b .amount ≤ 16 * 10 ^ 16 → v ≤ 16 * 10 ^ 16
   added-small e h = rw e (amount-small (b .transfer) h)
 
-  pub summed-small : {v : ℕ} → v ≡ amountIf (not (b .transfer)) (b .amount) → b .amount ≤ 160000000000000000 → v ≤ 160000000000000000
+  pub summed-small : {v : ℕ} → v ≡ amountIf (not (b .transfer)) (b .amount) → b .amount ≤ 16 * 10 ^ 16 → v ≤ 16 * 10 ^ 16
   summed-small e h = rw e (amount-small (not (b .transfer)) h)
 
 module _ (t : Totals) (b : Booking) {v : ℕ} (e : v ≡ amountIf (b .transfer) (b .amount)) (q : Bool) (u : q ≡ not (leb (t .transferred + v) limit)) where

@@ -1,11 +1,12 @@
 // The conditions 11 to 15, "stopped by the state".
 use conditions::Booking;
 use engine::Totals;
+use position::LIMIT;
 use position::Position;
 ghost use mathlib.Core.Path.{_≡_};
 ghost use mathlib.Core.Bool.{true, not};
 ghost use mathlib.Core.Option.{some};
-ghost use Prim.Native.Nat.{_+_, _<_, _≤_};
+ghost use Prim.Native.Nat.{_+_, _*_, _^_, _<_, _≤_};
 ghost use lib.Dec.{leb};
 ghost use Rattle.rules.specs.Text.{isSome, any};
 ghost use Rattle.rules.specs.Engine.{limit, sameReference};
@@ -65,11 +66,11 @@ pub fn added_by(b: Booking) -> Position
 
 // Is a total with so much added over its limit?
 fn total_over(total: u64, added: u64) -> bool
-    requires { ⌜ total < 281474976710656 ⌝ }
-    requires { ⌜ added ≤ 160000000000000000 ⌝ }
+    requires { ⌜ total < 2 ^ 48 ⌝ }
+    requires { ⌜ added ≤ 16 * 10 ^ 16 ⌝ }
     ensures { λ r. ⌜ r ≡ not (leb (total + added) limit) ⌝ }
 {
-    if total + added <= 99999999999999 {
+    if total + added <= LIMIT {
         return false;
     }
     true
@@ -77,9 +78,9 @@ fn total_over(total: u64, added: u64) -> bool
 
 // 15: is one of both totals over its limit?
 fn is_over(t: Totals, b: Booking) -> bool
-    requires { ⌜ t .transferred < 281474976710656 ⌝ }
-    requires { ⌜ t .detailed < 281474976710656 ⌝ }
-    requires { ⌜ b .amount ≤ 160000000000000000 ⌝ }
+    requires { ⌜ t .transferred < 2 ^ 48 ⌝ }
+    requires { ⌜ t .detailed < 2 ^ 48 ⌝ }
+    requires { ⌜ b .amount ≤ 16 * 10 ^ 16 ⌝ }
     ensures { λ r. ⌜ r ≡ overBy t b ⌝ }
 {
     if total_over(t.transferred, transferred_by(b)) {
@@ -90,9 +91,9 @@ fn is_over(t: Totals, b: Booking) -> bool
 
 // 14 and 15, with n positions open; 0 where neither holds.
 fn rest_number(n: u32, t: Totals, b: Booking) -> u32
-    requires { ⌜ t .transferred < 281474976710656 ⌝ }
-    requires { ⌜ t .detailed < 281474976710656 ⌝ }
-    requires { ⌜ b .amount ≤ 160000000000000000 ⌝ }
+    requires { ⌜ t .transferred < 2 ^ 48 ⌝ }
+    requires { ⌜ t .detailed < 2 ^ 48 ⌝ }
+    requires { ⌜ b .amount ≤ 16 * 10 ^ 16 ⌝ }
     ensures { λ r. ⌜ r ≡ restNumber n t b ⌝ }
 {
     let over = is_over(t, b);

@@ -35,8 +35,8 @@ pub record Adds (p : Position) (s r : Sums) : Type 0 where
 pub record Totals (ps : List Position) (r : Sums) : Type 0 where
   pub refunded : r .refunded ≡ refunded ps
   pub collected : r .collected ≡ collected ps
-  pub small : r .refunded ≤ 9007199254740992
-  pub little : r .collected ≤ 9007199254740992
+  pub small : r .refunded ≤ 2 ^ 53
+  pub little : r .collected ≤ 2 ^ 53
 
 -- ---- one position
 
