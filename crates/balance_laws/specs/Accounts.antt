@@ -31,19 +31,19 @@ temporary-shape text h =
     rw (t .is) (and-left _ _ (and-left _ _ (and-left _ _ (lines-sound (l .value) (t .value) (l .gives)))))
 
 -- the line found has the IBAN looked for
-record Found (iban : List ℕ) (n i : ℕ) (accounts : List Account) : Type 0 where
+record AccountFound (iban : List ℕ) (n i : ℕ) (accounts : List Account) : Type 0 where
   place : ℕ
   index : i ≡ n + place
   same : equal (getD accounts place noAccount .iban) iban ≡ true
 
-found-same : (iban : List ℕ) (n i : ℕ) (accounts : List Account) → found iban n accounts ≡ some i → Found iban n i accounts
+found-same : (iban : List ℕ) (n i : ℕ) (accounts : List Account) → found iban n accounts ≡ some i → AccountFound iban n i accounts
 unfolding found
 found-same iban n i [] h = no-some h
 found-same iban n i (a ∷ more) h = go (equal (a .iban) iban) refl (found-same iban (n + 1) i more) h
   where
-    go : (t : Bool) → equal (a .iban) iban ≡ t → (found iban (n + 1) more ≡ some i → Found iban (n + 1) i more) → cond t (some n) (found iban (n + 1) more) ≡ some i → Found iban n i (a ∷ more)
+    go : (t : Bool) → equal (a .iban) iban ≡ t → (found iban (n + 1) more ≡ some i → AccountFound iban (n + 1) i more) → cond t (some n) (found iban (n + 1) more) ≡ some i → AccountFound iban n i (a ∷ more)
     go true e f k = let q : n ≡ i = some-is k in record { place = 0; index = omega arith; same = e }
-    go false e f k = let g : Found iban (n + 1) i more = f k in record { place = suc (g .place); index = omega (arith, g .index); same = g .same }
+    go false e f k = let g : AccountFound iban (n + 1) i more = f k in record { place = suc (g .place); index = omega (arith, g .index); same = g .same }
 
 -- a verdict of one sort is none of the other
 no-credit : {A : Type 0} {c : Cause} {i : ℕ} → returned c ≡ credited i → A
@@ -57,7 +57,7 @@ credited-shape r cs i h = go (shaped cs) refl (control (take 22 cs)) (found (tak
     last : (j : ℕ) (b : Bool) → shaped cs ≡ true → found (take 22 cs) 0 (r .accounts) ≡ some j → cond b (credited j) (returned outOfBounds) ≡ credited i → ibanShape (accountAt r i .iban) ≡ true
     last j true e f k =
         let q : j ≡ i = cc in
-        let g : Found (take 22 cs) 0 j (r .accounts) = found-same (take 22 cs) 0 j (r .accounts) f in
+        let g : AccountFound (take 22 cs) 0 j (r .accounts) = found-same (take 22 cs) 0 j (r .accounts) f in
         let w : i ≡ g .place = omega (arith, g .index) in
         rw (w, equal-true _ _ (g .same)) (and-left _ _ e)
     last j false e f k = no-credit k

@@ -9,12 +9,12 @@ use native.Mathlib.Omega.{arith}
 use Rattle.rules.specs.Text.{ordered}
 use Rattle.rules.specs.Engine.{Position, earlier, alike, raised, booked}
 use Rattle.rules.specs.Ledger.{entered}
-use Rattle.rule_laws.specs.Keys.{before-trans, same-keys, behind-other, Place, Place.same, Place.ahead, Place.behind, place}
+use Rattle.rule_laws.specs.Keys.{before-trans, same-keys, behind-other, KeyPlace, KeyPlace.same, KeyPlace.ahead, KeyPlace.behind, place}
 use Rattle.engine_laws.specs.Facts.{never}
 use Rattle.engine_laws.specs.Layout.{All, All.none, All.more}
 use Rattle.engine_laws.specs.Order.{Sorted, Sorted.empty, Sorted.next, ordered-sorted}
 use Rattle.engine_laws.specs.Positions.{Before, position-order, booked-same, booked-ahead, booked-behind}
-use Rattle.balance_laws.specs.Tally.{Measure, Test, tally, Same, one, transfers, details, only, like}
+use Rattle.balance_laws.specs.Tally.{Measure, Test, tally, SameEntries, one, transfers, details, only, like}
 
 -- how many entries are of q's bank and date
 unfoldable pub many : Position → List Position → ℕ
@@ -33,11 +33,11 @@ unfoldable pub keyed : ℕ → ℕ → Position
 keyed b d = record { key = record { bank = b; date = d }; transferred = 0; detailed = 0 }
 
 -- what booking q does to every sum
-pub record Booked (q : Position) (ps ps' : List Position) : Type 0 where
+pub record BookedSums (q : Position) (ps ps' : List Position) : Type 0 where
   pub sums : (g : Measure) → tally g ps' + tally (only (like q) g) ps ≡ tally g ps + g (total q ps)
 
 -- it does the same to lists with the same entries
-pub booked-alike : (q : Position) (ps qs ps' qs' : List Position) → Same ps qs → Booked q ps ps' → Booked q qs qs' → Same ps' qs'
+pub booked-alike : (q : Position) (ps qs ps' qs' : List Position) → SameEntries ps qs → BookedSums q ps ps' → BookedSums q qs qs' → SameEntries ps' qs'
 unfolding total
 booked-alike q ps qs ps' qs' s b c = record { sums = λ g. let e : g (total q ps) ≡ g (total q qs) = rw (s .sums (only (like q) transfers), s .sums (only (like q) details)) in omega (arith, b .sums g, c .sums g, s .sums g, s .sums (only (like q) g)) }
 
@@ -80,29 +80,29 @@ total-here q p ps h n =
 
 -- at the end, or before all others: q is new
 module _ (q : Position) (ps : List Position) (n : many q ps ≡ 0) where
-  pub booked-new : Booked q ps (q ∷ ps)
+  pub booked-new : BookedSums q ps (q ∷ ps)
   unfolding tally
   booked-new = record { sums = λ g. let e : g (total q ps) ≡ g q = ap g (total-none q ps n) in let z : tally (only (like q) g) ps ≡ 0 = many-none q g ps n in omega arith }
 
 -- p is q's entry
 pub booked-here : (q p : Position) (ps : List Position) → alike p q ≡ true → many q ps ≡ 0
-    → Booked q (p ∷ ps) (raised p q ∷ ps)
+    → BookedSums q (p ∷ ps) (raised p q ∷ ps)
 unfolding tally only like
 booked-here q p ps h n = record { sums = λ g. let e = ap g (total-here q p ps h n) in let z : tally (only (like q) g) ps ≡ 0 = many-none q g ps n in rw (h) (omega arith) }
 
 -- p is another entry
-pub booked-past : (q p : Position) (ps ps' : List Position) → alike p q ≡ false → Booked q ps ps' → Booked q (p ∷ ps) (p ∷ ps')
+pub booked-past : (q p : Position) (ps ps' : List Position) → alike p q ≡ false → BookedSums q ps ps' → BookedSums q (p ∷ ps) (p ∷ ps')
 unfolding tally only like
 booked-past q p ps ps' h b = record { sums = λ g. let e = ap g (total-past q p ps h) in rw h (omega (arith, b .sums g)) }
 
 -- ---- the ledger
 
-pub entered-booked : (q : Position) (ps : List Position) → many q ps ≤ 1 → Booked q ps (entered q ps)
+pub entered-booked : (q : Position) (ps : List Position) → many q ps ≤ 1 → BookedSums q ps (entered q ps)
 unfolding entered many tally
 entered-booked q [] h = booked-new q [] refl
 entered-booked q (p ∷ ps) h = go (alike p q) refl (entered-booked q ps) h
   where
-    go : (t : Bool) → alike p q ≡ t → (many q ps ≤ 1 → Booked q ps (entered q ps)) → many q (p ∷ ps) ≤ 1 → Booked q (p ∷ ps) (entered q (p ∷ ps))
+    go : (t : Bool) → alike p q ≡ t → (many q ps ≤ 1 → BookedSums q ps (entered q ps)) → many q (p ∷ ps) ≤ 1 → BookedSums q (p ∷ ps) (entered q (p ∷ ps))
     go true e f l = rw (e, entered) (booked-here q p ps e (omega (arith, many-here q p ps e)))
     go false e f l = rw (e, entered) (booked-past q p ps (entered q ps) e (f (omega (arith, many-past q p ps e))))
 
@@ -163,23 +163,23 @@ unfolding many tally
 sorted-many q empty = omega arith
 sorted-many q (next {x = p} {xs = ps} a s) = go (place (q .key) (p .key)) (sorted-many q s)
   where
-    go : Place (q .key) (p .key) → many q ps ≤ 1 → many q (p ∷ ps) ≤ 1
+    go : KeyPlace (q .key) (p .key) → many q ps ≤ 1 → many q (p ∷ ps) ≤ 1
     go (same e h) l = omega (arith, many-here q p ps h, none-behind q p (λ r k. rw e at k) a)
     go (ahead k h e) l = omega (arith, many-past q p ps h)
     go (behind k h e) l = omega (arith, many-past q p ps h)
 
-pub booked-booked : (q : Position) {ps : List Position} → Sorted Before ps → Booked q ps (booked q ps)
+pub booked-booked : (q : Position) {ps : List Position} → Sorted Before ps → BookedSums q ps (booked q ps)
 unfolding booked many tally
 booked-booked q empty = booked-new q [] refl
 booked-booked q (next {x = p} {xs = ps} a s) = go (place (q .key) (p .key)) (booked-booked q s)
   where
-    go : Place (q .key) (p .key) → Booked q ps (booked q ps) → Booked q (p ∷ ps) (booked q (p ∷ ps))
+    go : KeyPlace (q .key) (p .key) → BookedSums q ps (booked q ps) → BookedSums q (p ∷ ps) (booked q (p ∷ ps))
     go (same e h) b = rw (booked-same q p ps h) (booked-here q p ps h (none-behind q p (λ r k. rw e at k) a))
     go (ahead k h e) b = rw (booked-ahead q p ps h e) (booked-new q (p ∷ ps) (many-past q p ps h ∙ none-behind q p (λ r. before-trans k) a))
     go (behind k h e) b = rw (booked-behind q p ps h e) (booked-past q p ps (booked q ps) h b)
 
 -- an accepted message: ledger and engine keep the same entries
-pub entered-same : (q : Position) (ps ledger : List Position) → ordered earlier ps ≡ true → Same ps ledger → Same (booked q ps) (entered q ledger)
+pub entered-same : (q : Position) (ps ledger : List Position) → ordered earlier ps ≡ true → SameEntries ps ledger → SameEntries (booked q ps) (entered q ledger)
 unfolding many
 entered-same q ps ledger h s =
     let o : Sorted Before ps = ordered-sorted position-order ps h in

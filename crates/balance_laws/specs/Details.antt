@@ -21,7 +21,7 @@ use Rattle.engine_laws.specs.Layout.{All, All.none, All.more}
 use Rattle.laws.specs.Every.{every-take, every-drop}
 use Rattle.balance_laws.specs.Texts.{no-some, inLine}
 use Rattle.balance_laws.specs.Told.{Short}
-use Rattle.balance_laws.specs.Mute.{Sent}
+use Rattle.balance_laws.specs.Mute.{DetailSent}
 
 -- ---- a line holds no CR or LF
 
@@ -42,15 +42,15 @@ line-plain (c ∷ d ∷ cs) t h = go (eqb c 13) (eqb d 10) (eqb c 10) (line (d �
 -- ---- rows
 
 -- a line in its row, or none
-pub data Stands (r : Row) : Line → Type 0 where
-  out : Stands r []
-  here : {l : Line} → fitsRow r l ≡ true → every inLine l ≡ true → Stands r l
+pub data RowsStand (r : Row) : Line → Type 0 where
+  out : RowsStand r []
+  here : {l : Line} → fitsRow r l ≡ true → every inLine l ≡ true → RowsStand r l
 
-pub data Rows : List Row → List Line → Type 0 where
-  end : Rows [] []
-  row : {r : Row} {l : Line} {rs : List Row} {ls : List Line} → Stands r l → Rows rs ls → Rows (r ∷ rs) (l ∷ ls)
+pub data RowsRead : List Row → List Line → Type 0 where
+  end : RowsRead [] []
+  row : {r : Row} {l : Line} {rs : List Row} {ls : List Line} → RowsStand r l → RowsRead rs ls → RowsRead (r ∷ rs) (l ∷ ls)
 
-pub rowed-rows : (rs : List Row) (cs : List ℕ) (x : TakenRows) → takeRows rs cs ≡ some x → Rows rs (x .rows)
+pub rowed-rows : (rs : List Row) (cs : List ℕ) (x : TakenRows) → takeRows rs cs ≡ some x → RowsRead rs (x .rows)
 unfolding takeRows leadRows
 rowed-rows [] cs x h = let q : record { rows = []; others = cs } ≡ x = cc in rw (← q) end
 rowed-rows (r ∷ rs) cs x h =
@@ -58,40 +58,40 @@ rowed-rows (r ∷ rs) cs x h =
     go (t .value .line) (takeRows rs (t .value .others)) (takeRows rs cs) (fitsRow r (t .value .line)) (r .optional) refl (line-plain cs (t .value) (t .is))
     (rowed-rows rs (t .value .others)) (rowed-rows rs cs) (t .gives)
   where
-    go : (l : Line) (o u : Option TakenRows) (b c : Bool) → fitsRow r l ≡ b → every inLine l ≡ true → ((y : TakenRows) → o ≡ some y → Rows rs (y .rows)) → ((y : TakenRows) → u ≡ some y → Rows rs (y .rows))
-        → cond b (leadRows (l ∷ []) o) (cond c (leadRows ([] ∷ []) u) none) ≡ some x → Rows (r ∷ rs) (x .rows)
+    go : (l : Line) (o u : Option TakenRows) (b c : Bool) → fitsRow r l ≡ b → every inLine l ≡ true → ((y : TakenRows) → o ≡ some y → RowsRead rs (y .rows)) → ((y : TakenRows) → u ≡ some y → RowsRead rs (y .rows))
+        → cond b (leadRows (l ∷ []) o) (cond c (leadRows ([] ∷ []) u) none) ≡ some x → RowsRead (r ∷ rs) (x .rows)
     go l none u true c e p f g k = no-some k
     go l (some y) u true c e p f g k = let q : record { rows = l ∷ y .rows; others = y .others } ≡ x = cc in rw (← q) (row (here e p) (f y refl))
     go l o none false true e p f g k = no-some k
     go l o (some y) false true e p f g k = let q : record { rows = [] ∷ y .rows; others = y .others } ≡ x = cc in rw (← q) (row out (g y refl))
     go l o u false false e p f g k = no-some k
 
-pub row-at : (d : Row) {rs : List Row} {ls : List Line} → Rows rs ls → (i : ℕ) → i < length rs → Stands (getD rs i d) (lineOf ls i)
+pub row-at : (d : Row) {rs : List Row} {ls : List Line} → RowsRead rs ls → (i : ℕ) → i < length rs → RowsStand (getD rs i d) (lineOf ls i)
 row-at d end i h = absurd (omega arith)
 row-at d (row s t) zero h = s
 row-at d (row s t) (suc i) h = row-at d t i (omega arith)
 
 -- ---- a detail
 
-stands-plain : {r : Row} {l : Line} → Stands r l → every inLine l ≡ true
+stands-plain : {r : Row} {l : Line} → RowsStand r l → every inLine l ≡ true
 unfolding every
 stands-plain out = refl
 stands-plain (here h p) = p
 
 -- a part of a line
-short-part : (n i : ℕ) {r : Row} {l : Line} → Stands r l → Short n (take n (drop i l))
+short-part : (n i : ℕ) {r : Row} {l : Line} → RowsStand r l → Short n (take n (drop i l))
 short-part n i {l = l} s = record { plain = every-take inLine n _ (every-drop inLine i l (stands-plain s)); size = rw length-take (omega arith) }
 
 -- what stands behind a head
-short-rest : (n : ℕ) {r : Row} {l : Line} → ((cs : List ℕ) → fitsRest (r .rest) cs ≡ true → length cs ≤ n) → Stands r l → Short n (drop (length (r .head)) l)
+short-rest : (n : ℕ) {r : Row} {l : Line} → ((cs : List ℕ) → fitsRest (r .rest) cs ≡ true → length cs ≤ n) → RowsStand r l → Short n (drop (length (r .head)) l)
 unfolding fitsRow
 short-rest n {r} {l} f s = record { plain = every-drop inLine (length (r .head)) l (stands-plain s); size = few s }
   where
-    few : {m : Line} → Stands r m → length (drop (length (r .head)) m) ≤ n
+    few : {m : Line} → RowsStand r m → length (drop (length (r .head)) m) ≤ n
     few out = rw (drop-nil (length (r .head))) (omega arith)
     few (here {l = m} h p) = f (drop (length (r .head)) m) (and-right (fits (r .head) (take (length (r .head)) m)) _ h)
 
-detail-sent : (ls : List Line) (d : Detail) → Rows detailRows ls → detailOf ls ≡ some d → Sent d
+detail-sent : (ls : List Line) (d : Detail) → RowsRead detailRows ls → detailOf ls ≡ some d → DetailSent d
 unfolding detailOf fitsRest run
 detail-sent ls d s h =
     let a : Came (amount (amount32B ls)) _ d = came _ _ h in
@@ -109,11 +109,11 @@ detail-sent ls d s h =
     none-row = record { head = []; rest = nothing; optional = true }
 
 -- "one or more details"
-pub record Listed (ds : List Detail) : Type 0 where
-  pub sent : All Sent ds
+pub record DetailsListed (ds : List Detail) : Type 0 where
+  pub sent : All DetailSent ds
   pub some : 1 ≤ length ds
 
-details-listed : (k : ℕ) (cs : List ℕ) (ds : List Detail) → details k cs ≡ some ds → Listed ds
+details-listed : (k : ℕ) (cs : List ℕ) (ds : List Detail) → details k cs ≡ some ds → DetailsListed ds
 unfolding details takeDetail
 details-listed zero cs ds h = no-some h
 details-listed (suc k) cs ds h =
@@ -121,10 +121,10 @@ details-listed (suc k) cs ds h =
     let r : Came (takeRows detailRows cs) _ (d .value) = came _ _ (d .is) in
     let x : Came (detailOf (r .value .rows)) _ (d .value) = came _ _ (r .gives) in
     let e : record { detail = x .value; others = r .value .others } ≡ d .value = some-is (x .gives) in
-    let f : Sent (d .value .detail) = rw (← e) (detail-sent (r .value .rows) (x .value) (rowed-rows detailRows cs (r .value) (r .is)) (x .is)) in
+    let f : DetailSent (d .value .detail) = rw (← e) (detail-sent (r .value .rows) (x .value) (rowed-rows detailRows cs (r .value) (r .is)) (x .is)) in
     go (d .value .detail) (closing (d .value .others)) (details k (d .value .others)) f (details-listed k (d .value .others)) (d .gives)
   where
-    go : (x : Detail) (t : Bool) (y : Option (List Detail)) → Sent x → ((ys : List Detail) → y ≡ some ys → Listed ys) → cond t (some (x ∷ [])) (Option·map (λ (ds : List Detail). x ∷ ds) y) ≡ some ds → Listed ds
+    go : (x : Detail) (t : Bool) (y : Option (List Detail)) → DetailSent x → ((ys : List Detail) → y ≡ some ys → DetailsListed ys) → cond t (some (x ∷ [])) (Option·map (λ (ds : List Detail). x ∷ ds) y) ≡ some ds → DetailsListed ds
     go x true y f g k = let q : x ∷ [] ≡ ds = cc in rw (← q) record { sent = more f none; some = omega arith }
     go x false none f g k = no-some k
     go x false (some y) f g k = let q : x ∷ y ≡ ds = cc in rw (← q) record { sent = more f (g y refl .sent); some = omega arith }
@@ -132,7 +132,7 @@ details-listed (suc k) cs ds h =
 -- the details of a message, where it is an MT101
 pub data Details : Message → Type 0 where
   transfer : {t : Transfer} → Details (mt103 t)
-  order : {o : Order} → Listed (o .details) → Details (mt101 o)
+  order : {o : Order} → DetailsListed (o .details) → Details (mt101 o)
 
 pub read-details : (s : List ℕ) (m : Message) → read s ≡ some m → Details m
 unfolding read readTransfer readOrder

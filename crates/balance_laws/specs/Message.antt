@@ -14,7 +14,7 @@ use Rattle.rules.specs.Calls.{bankOf, verdictOf, returnedOf, detailPosting, det
 use Rattle.rules.specs.Ledger.{Kind, Fed, isParty}
 use Rattle.engine_laws.specs.Layout.{All, All.none, All.more}
 use Rattle.balance_laws.specs.Told.{Tells, tells-none, tells-join, tells-same, tells-mute, Mute, mute-none}
-use Rattle.balance_laws.specs.Mute.{Sent, mute-verdicts}
+use Rattle.balance_laws.specs.Mute.{DetailSent, mute-verdicts}
 use Rattle.balance_laws.specs.Details.{Details, Details.transfer, Details.order}
 use Rattle.balance_laws.specs.Accounts.{credited-shape}
 use Rattle.balance_laws.specs.Kinds.{comesIn, goesOut, Readable, mine, mine-none, mine-adds, bank-party, iban-party, in-from, out-from, in-paid, out-paid}
@@ -50,12 +50,12 @@ module _ (kind : Kind) (f : Fed) (r : Register) (b : Book) (k : Readable b) (g :
       let one : Tells kind f (detailPosting r b d v) (g (d .amount)) = rw (paid r b d v) (counts (payee r b v) (d .amount) (payee-party r b d k) (omega arith)) in
       tells-same (tells-join one (tells-details ds (omega arith))) (sym (adds (d .amount) (sumOf ds)))
 
-returned-sent : (r : Register) {ds : List Detail} → All Sent ds → All Sent (returnedOf r ds)
+returned-sent : (r : Register) {ds : List Detail} → All DetailSent ds → All DetailSent (returnedOf r ds)
 unfolding returnedOf
 returned-sent r none = none
 returned-sent r (more {x = d} {xs = ds} s t) = go (isReturned (verdictOf r d)) (returned-sent r t)
   where
-    go : (b : Bool) → All Sent (returnedOf r ds) → All Sent (cond b (d ∷ returnedOf r ds) (returnedOf r ds))
+    go : (b : Bool) → All DetailSent (returnedOf r ds) → All DetailSent (cond b (d ∷ returnedOf r ds) (returnedOf r ds))
     go true u = more s u
     go false u = u
 

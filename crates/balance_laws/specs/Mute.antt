@@ -44,13 +44,13 @@ mute-opened bank type s h = mute-line (s ⊕ short-text (ascii ",BNBGBGSD,") ref
 -- ---- MT199
 
 -- what an accepted message's detail gives two rows for
-pub record Sent (d : Detail) : Type 0 where
+pub record DetailSent (d : Detail) : Type 0 where
   pub code : Short 8 (branch d)
   pub dated : Short 6 (baerefDate d)
   pub named : Short 12 (baerefName d)
   pub account : Short 34 (account59 d)
 
-mute-returned : {ds : List Detail} → All Sent ds → Mute (allReturned ds)
+mute-returned : {ds : List Detail} → All DetailSent ds → Mute (allReturned ds)
 unfolding allReturned returnedRows every inLine
 mute-returned none = mute-none
 mute-returned (more d s) =
@@ -85,7 +85,7 @@ mute-closed part parts =
     subst Mute (append-assoc (decimal part ++ ascii "/" ++ decimal parts) (ascii "\r\n") (ascii "-\r\n"))
     (mute-line (short-decimal part ⊕ short-text (ascii "/") refl ⊕ short-decimal parts) refl ▹ mute-line (short-text (ascii "-") refl) refl)
 
-mute-199 : (day n : ℕ) (p : Position) (part parts : ℕ) {ds : List Detail} → isBic (bic (p .key .bank)) ≡ true → All Sent ds → Mute (mt199 day n p part parts ds)
+mute-199 : (day n : ℕ) (p : Position) (part parts : ℕ) {ds : List Detail} → isBic (bic (p .key .bank)) ≡ true → All DetailSent ds → Mute (mt199 day n p part parts ds)
 unfolding mt199 every inLine
 mute-199 day n p part parts h s =
     (mute-opened (p .key .bank) (ascii "199") (short-text (ascii "199") refl) h ▹ mute-field (short-text (ascii ":20:") refl) (short-reference day (n + part)) refl ▹ mute-linked day n part)
@@ -93,12 +93,12 @@ mute-199 day n p part parts h s =
     ▹ mute-returned s
     ▹ mute-closed part parts
 
-mute-199s : (k day n : ℕ) (p : Position) (part parts : ℕ) {ds : List Detail} → isBic (bic (p .key .bank)) ≡ true → All Sent ds → Mute (mt199s k day n p part parts ds)
+mute-199s : (k day n : ℕ) (p : Position) (part parts : ℕ) {ds : List Detail} → isBic (bic (p .key .bank)) ≡ true → All DetailSent ds → Mute (mt199s k day n p part parts ds)
 unfolding mt199s
 mute-199s zero day n p part parts h s = mute-none
 mute-199s (suc k) day n p part parts h s = mute-199 day n p part parts h (all-take 14 s) ▹ mute-199s k day n p (part + 1) parts h (all-drop 14 s)
 
-pub mute-verdicts : (day n : ℕ) (p : Position) {ds : List Detail} → isBic (bic (p .key .bank)) ≡ true → All Sent ds → Mute (verdicts day n p ds)
+pub mute-verdicts : (day n : ℕ) (p : Position) {ds : List Detail} → isBic (bic (p .key .bank)) ≡ true → All DetailSent ds → Mute (verdicts day n p ds)
 unfolding verdicts
 mute-verdicts day n p {ds} h s = mute-199s (partsOf (length ds)) day n p 1 (partsOf (length ds)) h s
 

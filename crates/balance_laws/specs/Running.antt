@@ -26,7 +26,7 @@ use Rattle.engine_laws.specs.Order.{ordered-sorted}
 use Rattle.engine_laws.specs.Positions.{Good, all-good, position-order}
 use Rattle.engine_laws.specs.Calls.{Stays, done-holds, done-text, Takes, message-accepted, message-refused, Turns, turn-accepted, turn-refused}
 use Rattle.balance_laws.specs.Told.{Tells, tells-none, told}
-use Rattle.balance_laws.specs.Tally.{Measure, tally, Same, only, like, bare, one, kept-bare, same-kept}
+use Rattle.balance_laws.specs.Tally.{Measure, tally, SameEntries, only, like, bare, one, kept-bare, same-kept}
 use Rattle.balance_laws.specs.Booking.{many, many-past, keyed, sorted-many, entered-same}
 use Rattle.balance_laws.specs.Details.{read-details}
 use Rattle.balance_laws.specs.Kinds.{comesIn, goesOut, mine}
@@ -42,7 +42,7 @@ use Rattle.balance_laws.specs.Untouched.{History, history-message, histo
 -- and behind a turn no entry has details
 pub record Agrees (temporary : List ℕ) (ledger : List Position) (sent : List Message) (turned : Bool) (e : Engine) : Type 0 where
   pub account : registerOf (e .register) .temporary ≡ temporary
-  pub same : Same (e .positions) ledger
+  pub same : SameEntries (e .positions) ledger
   pub history : History (e .day) ledger sent
   pub settled : turned ≡ true → (g : Measure) → tally g ledger ≡ tally (only bare g) ledger
 
@@ -62,12 +62,12 @@ pub record Stepped (temporary : List ℕ) (ledger : List Position) (sent : List 
   pub settles : (bank : ℕ) → bank < 2 ^ 64 → Settles bank (sumOf (comesIn bank) (e ∷ [])) (sumOf (goesOut temporary bank) (e ∷ [])) ledger (ledgerFrom ledger (e ∷ []))
 
 -- an entry of the ledger stands there once
-once : {ps ledger : List Position} → ordered earlier ps ≡ true → Same ps ledger → (bank date : ℕ) → many (keyed bank date) ledger ≤ 1
+once : {ps ledger : List Position} → ordered earlier ps ≡ true → SameEntries ps ledger → (bank date : ℕ) → many (keyed bank date) ledger ≤ 1
 unfolding many
 once {ps} h s bank date = rw (← s .sums (only (like (keyed bank date)) one)) (sorted-many (keyed bank date) (ordered-sorted position-order ps h))
 
 -- no entry is dated after the day
-unmet : {day : ℕ} {ps ledger : List Position} → All (Good day) ps → Same ps ledger → (bank next : ℕ) → day < next → many (keyed bank next) ledger ≡ 0
+unmet : {day : ℕ} {ps ledger : List Position} → All (Good day) ps → SameEntries ps ledger → (bank next : ℕ) → day < next → many (keyed bank next) ledger ≡ 0
 unfolding many tally sameKey keyed
 unmet {day} {ps} a s bank next l = rw (← s .sums (only (like (keyed bank next)) one)) (go a)
   where

@@ -9,7 +9,7 @@ use Rattle.rules.specs.Calls.{bankOf, added}
 use Rattle.rules.specs.Ledger.{entered, transferredOf, detailedOf}
 use Rattle.rule_laws.specs.Keys.{same-keys}
 use Rattle.balance_laws.specs.Kinds.{mine}
-use Rattle.balance_laws.specs.Tally.{Measure, tally, Same, only, ofBank, transfers, details, transferred-tally, detailed-tally}
+use Rattle.balance_laws.specs.Tally.{Measure, tally, SameEntries, only, ofBank, transfers, details, transferred-tally, detailed-tally}
 use Rattle.balance_laws.specs.Booking.{total-entered}
 use Rattle.balance_laws.specs.Turn.{closed, nothing, turn-settles}
 
@@ -50,7 +50,7 @@ message-settles bank m ledger = record {
 }
 
 -- an accepted turn, by positions that are the ledger's
-pub settles-turn : (bank : ℕ) (ps ledger : List Position) → Same ps ledger
+pub settles-turn : (bank : ℕ) (ps ledger : List Position) → SameEntries ps ledger
     → Settles bank (tally (closed nothing (mine bank)) ps) (tally (closed (mine bank) nothing) ps) ledger (kept ledger)
 settles-turn bank ps ledger s = record {
   balance =

@@ -22,7 +22,7 @@ tally g [] = 0
 tally g (p ∷ ps) = g p + tally g ps
 
 -- the same entries, order aside
-pub record Same (ps qs : List Position) : Type 0 where
+pub record SameEntries (ps qs : List Position) : Type 0 where
   pub sums : (g : Measure) → tally g ps ≡ tally g qs
 
 -- ---- measures and tests
@@ -119,12 +119,12 @@ kept-bare g ledger = kept-tally g ledger ∙ tally-each (only bare g) (only bare
 
 -- ---- the same entries
 
-pub same-refl : (ps : List Position) → Same ps ps
+pub same-refl : (ps : List Position) → SameEntries ps ps
 same-refl ps = record { sums = λ g. refl }
 
-pub same-kept : (ps qs : List Position) → Same ps qs → Same (kept ps) (kept qs)
+pub same-kept : (ps qs : List Position) → SameEntries ps qs → SameEntries (kept ps) (kept qs)
 same-kept ps qs s = record { sums = λ g. kept-tally g ps ∙ s .sums (only bare g) ∙ sym (kept-tally g qs) }
 
 -- "order aside": each entry stands in both as often
-pub same-times : (q : Position) (ps qs : List Position) → Same ps qs → times q ps ≡ times q qs
+pub same-times : (q : Position) (ps qs : List Position) → SameEntries ps qs → times q ps ≡ times q qs
 same-times q ps qs s = times-tally q ps ∙ s .sums (only (equalTo q) one) ∙ sym (times-tally q qs)

@@ -16,7 +16,7 @@ use Rattle.rules.specs.Ledger.{entered, isDetails, untouched}
 use Rattle.engine_laws.specs.Layout.{All, All.none, All.more}
 use Rattle.balance_laws.specs.Each.{all-last, all-wider}
 use Rattle.balance_laws.specs.Tally.{Measure, tally, only, like, bare, transfers, details, kept-tally, tally-each, tally-add, nought}
-use Rattle.balance_laws.specs.Booking.{many, keyed, total, Booked, entered-booked, total-entered, like-agrees, single, many-none}
+use Rattle.balance_laws.specs.Booking.{many, keyed, total, BookedSums, entered-booked, total-entered, like-agrees, single, many-none}
 
 -- a choice of dates
 abbrev pub Dates : Type 0
@@ -146,7 +146,7 @@ module _ (bank x d : ℕ) (t : Dates) (ledger : List Position) (l : many (keyed 
   free-transfer v sent k =
       let q : Position = record { key = record { bank = x; date = d }; transferred = v; detailed = 0 } in
       let g : Measure = free bank t in
-      let b : Booked q ledger (entered q ledger) = entered-booked q ledger l in
+      let b : BookedSums q ledger (entered q ledger) = entered-booked q ledger l in
       let s : tally (only (like (keyed x d)) g) ledger ≡ g (total (keyed x d) ledger) = single g x d ledger (no-free bank x d t) l in
       let r : g (total q ledger) ≡ g (total (keyed x d) ledger) + cond (eqb x bank && t d && not (any (isDetails bank d) sent)) v 0 =
       grows (eqb x bank) (t d) (leb 1 (tally (only (like (keyed x d)) details) ledger + 0)) (any (isDetails bank d) sent) (tally (only (like (keyed x d)) transfers) ledger) v
@@ -164,7 +164,7 @@ module _ (bank x d : ℕ) (t : Dates) (ledger : List Position) (l : many (keyed 
   free-order v k =
       let q : Position = record { key = record { bank = x; date = d }; transferred = 0; detailed = v } in
       let g : Measure = free bank t in
-      let b : Booked q ledger (entered q ledger) = entered-booked q ledger l in
+      let b : BookedSums q ledger (entered q ledger) = entered-booked q ledger l in
       let z : g (total q ledger) ≡ 0 = rw (le-leb 1 (tally (only (like (keyed x d)) details) ledger + v) (omega arith)) (shut (eqb x bank) (t d) _) in
       let r : tally (free bank taken) ledger + tally (only (like q) g) ledger ≡ tally g ledger =
       tally-add (free bank taken) (only (like q) g) ledger

@@ -29,7 +29,7 @@ use Rattle.engine_change.specs.Booking.{CanBook, booking-clear, bookedWith, boo
 use Rattle.engine_change.specs.Filing.{reference}
 use Rattle.outgoing_number.specs.declared.Numbered.{Numbered}
 use Rattle.details.specs.Message.{messageIn}
-use Rattle.details.specs.Kept.{Room}
+use Rattle.details.specs.Kept.{DetailRoom}
 use Rattle.conditions.specs.Books.{Books}
 use Rattle.conditions.specs.Answers.{CheckedAs, Passes, refused-told, refused-some, passed-told}
 use Rattle.conditions.specs.declared.booking.Booking.{Booking}
@@ -108,7 +108,7 @@ pub record Sent (s a out : List ℕ) (n : ℕ) (z : ℤ) (a' out' : List ℕ) : 
   pub small : mag z < 2 ^ 63
 
 -- the area holds the engine after the message
-pub record Booked (s a a' : List ℕ) : Type 0 where
+pub record AreaBooked (s a a' : List ℕ) : Type 0 where
   pub area : a' ≡ encode (afterMessage (decode a) (messageIn s)) ++ drop areaSize a
 
 -- p is the message's position as it leaves it
@@ -170,11 +170,11 @@ module _ (s area : List ℕ) (h : isSome (holds area) ≡ true) where
 
       -- the area with the message
       pub booked-done : {a' : List ℕ} {w : ℕ} → w ≡ decode area .count + writes (decode area) (messageIn s)
-          → a' ≡ encode (bookedWith (decode area) (positionValue p) (reference (p .key .bank) (cut s (b .reference .start) (b .reference .end))) w) ++ drop areaSize area → Booked s area a'
+          → a' ≡ encode (bookedWith (decode area) (positionValue p) (reference (p .key .bank) (cut s (b .reference .start) (b .reference .end))) w) ++ drop areaSize area → AreaBooked s area a'
       booked-done f c = record { area = c ∙ rw (position-is, bank-is, k .reference, f, booked-after) refl }
 
 pub sent-done : {s area : List ℕ} {b : Booking} {p : P.Position} {parts : ℕ} {amounts places verdicts : List ℕ} → Ready s area b p parts amounts places verdicts → {out out' a' : List ℕ} {r : Numbered} {z : ℤ} → length (messageText (decode area) (messageIn s)) ≤ length out
-    → TextPut (decode area) (messageIn s) 0 out r out' → z ≡ subℕ (p .transferred) (p .detailed) → Booked s area a' → Sent s area out (r .at) z a' out'
+    → TextPut (decode area) (messageIn s) 0 out r out' → z ≡ subℕ (p .transferred) (p .detailed) → AreaBooked s area a' → Sent s area out (r .at) z a' out'
 sent-done {s} {area} {b} {p} m l w e c = record {
   written = wrote-exact (w .wrote) l;
   difference = e ∙ ap (λ (x : Position). subℕ (x .transferred) (x .detailed)) (m .leaves .same);
@@ -216,7 +216,7 @@ checked-refused s area h r {amounts} {places} c out k e =
     message-input s area out (decode area) (held-decode area h) k (sym (refused-told _ s r amounts places c k e)) (ne-eqb k 0 (λ z. omega (arith, refused-some _ s r amounts places c k e)))
 
 -- room for 16 details
-pub room-made : Room (replicate 16 0) (replicate 96 0)
+pub room-made : DetailRoom (replicate 16 0) (replicate 96 0)
 room-made = record { amounts-size = refl; places-size = refl }
 
 -- 10

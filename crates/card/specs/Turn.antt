@@ -19,7 +19,7 @@ use Rattle.laws.specs.Tests.{held-told}
 use Rattle.laws.specs.Writing.{wrote-over, furthest}
 use Rattle.outgoing_number.specs.declared.Numbered.{Numbered}
 use Rattle.turn_text.specs.Area.{TurnPut}
-use Rattle.turn_text.specs.Sums.{Totals}
+use Rattle.turn_text.specs.Sums.{SumsOf}
 use Rattle.turn_text.specs.declared.sums.Sums.{Sums}
 use Rattle.engine_change.specs.Turning.{turned, turned-after}
 use Rattle.engine.specs.Header.{HeaderOf}
@@ -73,7 +73,7 @@ pub record Turned (day : ℕ) (a out : List ℕ) (n : ℕ) (z : ℤ) (a' out' : 
 
 -- its text written, its sums, and the area turned
 pub turned-done : (day : ℕ) {a out out' a' : List ℕ} {r : Numbered} {z : ℤ} (x : Sums) → length (turnText (decode a) day) ≤ length out → TurnPut a day 0 out r out'
-    → Totals (decode a .positions) x → z ≡ subℕ (x .refunded) (x .collected) → a' ≡ encode (turned (decode a) day (r .count)) ++ drop areaSize a → Turned day a out (r .at) z a' out'
+    → SumsOf (decode a .positions) x → z ≡ subℕ (x .refunded) (x .collected) → a' ≡ encode (turned (decode a) day (r .count)) ++ drop areaSize a → Turned day a out (r .at) z a' out'
 turned-done day {a} x l w t d c = record {
   written = wrote-exact (w .wrote) l;
   difference = d ∙ rw (t .refunded, t .collected) refl;

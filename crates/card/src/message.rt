@@ -12,18 +12,18 @@ ghost use Rattle.rules.specs.Text.{isSome};
 ghost use Rattle.rules.specs.Calls.{firstOf, limitStops, messageText, writes};
 ghost use Rattle.rules.specs.Area.{holds, decode, cardMessage};
 ghost use Rattle.details.specs.Message.{messageIn};
-ghost use Rattle.details.specs.Kept.{Room, LinesIn};
+ghost use Rattle.details.specs.Kept.{DetailRoom, LinesIn};
 ghost use Rattle.conditions.specs.Answers.{CheckedAs, Passes};
 ghost use Rattle.conditions.specs.Books.{Books};
 ghost use Rattle.verdict.specs.Details.{VerdictsIn};
 ghost use Rattle.card.specs.Answers.{Answers};
 ghost use Rattle.card.specs.Held.{Measured};
-ghost use Rattle.card.specs.Message.{Sent, Booked, Leaves, Ready, temporaryOf};
+ghost use Rattle.card.specs.Message.{Sent, AreaBooked, Leaves, Ready, temporaryOf};
 
 // 1 to 8, with the temporary account of the engine that the area holds.
 fn check_in(message: &[u8], area: &[u8], amounts: &mut [u64; 16], places: &mut [u16; 96]) -> Checked
     requires { ⌜ isSome (holds (now area)) ≡ true ⌝ }
-    requires { ⌜ Room (now amounts) (now places) ⌝ }
+    requires { ⌜ DetailRoom (now amounts) (now places) ⌝ }
     ensures { λ r. ⌜ CheckedAs (temporaryOf (decode (now (area .entry)))) (now (message .entry)) r (now (amounts .exit)) (now (places .exit)) ⌝ }
 {
     conditions::check_message(message, engine::temporary(area), amounts, places)
@@ -75,7 +75,7 @@ fn book_in(message: &[u8], area: &mut [u8], b: Booking, count: u32)
     requires { ⌜ Books (now message) (messageIn (now message)) b ⌝ }
     requires { ⌜ 0 ≡ firstOf (limitStops (decode (now area)) (some (messageIn (now message)))) ⌝ }
     requires { ⌜ count ≡ decode (now area) .count + writes (decode (now area)) (messageIn (now message)) ⌝ }
-    ensures { λ _. ⌜ Booked (now (message .entry)) (now (area .entry)) (now (area .exit)) ⌝ }
+    ensures { λ _. ⌜ AreaBooked (now (message .entry)) (now (area .entry)) (now (area .exit)) ⌝ }
 {
     let reference = b.reference;
     engine_change::book_area(

@@ -107,16 +107,16 @@ open-shorter a b c d e f v = go _ _ (shorter (a ∷ b ∷ c ∷ d ∷ e ∷ f �
 
 -- ---- a command line with a length
 
-data LineOf : List ℕ → ℕ → Type 0 where
-  message-line : (w : List ℕ) → LineOf (77 ∷ 44 ∷ w) 2
-  open-line : (a b c d e f : ℕ) (w : List ℕ) → LineOf (79 ∷ 44 ∷ a ∷ b ∷ c ∷ d ∷ e ∷ f ∷ 44 ∷ w) 9
+data CommandLine : List ℕ → ℕ → Type 0 where
+  message-line : (w : List ℕ) → CommandLine (77 ∷ 44 ∷ w) 2
+  open-line : (a b c d e f : ℕ) (w : List ℕ) → CommandLine (79 ∷ 44 ∷ a ∷ b ∷ c ∷ d ∷ e ∷ f ∷ 44 ∷ w) 9
 
-message-of : (w : List ℕ) → take 2 w ≡ ascii "M," → LineOf w 2
+message-of : (w : List ℕ) → take 2 w ≡ ascii "M," → CommandLine w 2
 message-of [] h = absurd (let z : _≡_ {A = ℕ} 0 1 = cc in omega arith)
 message-of (a ∷ []) h = absurd (let z : _≡_ {A = ℕ} 0 1 = cc in omega arith)
 message-of (a ∷ b ∷ w) h = let x : a ≡ 77 = cc in let y : b ≡ 44 = cc in rw (x, y) (message-line w)
 
-open-of : (w : List ℕ) → take 2 w ≡ ascii "O," → take 1 (drop 8 w) ≡ ascii "," → LineOf w 9
+open-of : (w : List ℕ) → take 2 w ≡ ascii "O," → take 1 (drop 8 w) ≡ ascii "," → CommandLine w 9
 open-of [] h k = absurd (let z : _≡_ {A = ℕ} 0 1 = cc in omega arith)
 open-of (a ∷ []) h k = absurd (let z : _≡_ {A = ℕ} 0 1 = cc in omega arith)
 open-of (a ∷ b ∷ []) h k = absurd (let z : _≡_ {A = ℕ} 0 1 = cc in omega arith)
@@ -128,21 +128,21 @@ open-of (a ∷ b ∷ c ∷ d ∷ e ∷ f ∷ g ∷ []) h k = absurd (let z : _�
 open-of (a ∷ b ∷ c ∷ d ∷ e ∷ f ∷ g ∷ i ∷ []) h k = absurd (let z : _≡_ {A = ℕ} 0 1 = cc in omega arith)
 open-of (a ∷ b ∷ c ∷ d ∷ e ∷ f ∷ g ∷ i ∷ j ∷ w) h k = let x : a ≡ 79 = cc in let y : b ≡ 44 = cc in let z : j ≡ 44 = cc in rw (x, y, z) (open-line c d e f g i w)
 
-line-of : (w : List ℕ) → 0 < lengthPlace w → LineOf w (lengthPlace w)
+line-of : (w : List ℕ) → 0 < lengthPlace w → CommandLine w (lengthPlace w)
 unfolding lengthPlace
 line-of w h = go (equal (take 2 w) (ascii "M,")) refl (equal (take 2 w) (ascii "O,") && equal (take 1 (drop 8 w)) (ascii ",")) refl h
   where
     go : (p : Bool) → equal (take 2 w) (ascii "M,") ≡ p → (q : Bool) → (equal (take 2 w) (ascii "O,") && equal (take 1 (drop 8 w)) (ascii ",")) ≡ q
-        → 0 < cond p 2 (cond q 9 0) → LineOf w (cond p 2 (cond q 9 0))
+        → 0 < cond p 2 (cond q 9 0) → CommandLine w (cond p 2 (cond q 9 0))
     go true e q f k = message-of w (equal-true _ _ e)
     go false e true f k = open-of w (equal-true _ _ (and-left _ _ f)) (equal-true _ _ (and-right (equal (take 2 w) (ascii "O,")) _ f))
     go false e false f k = absurd (omega arith)
 
-module _ {w : List ℕ} {p : ℕ} (l : LineOf w p) where
+module _ {w : List ℕ} {p : ℕ} (l : CommandLine w p) where
   line-within : p ≤ length w
   line-within = go l
     where
-      go : {w : List ℕ} {p : ℕ} → LineOf w p → p ≤ length w
+      go : {w : List ℕ} {p : ℕ} → CommandLine w p → p ≤ length w
       go (message-line w) = omega arith
       go (open-line a b c d e f w) = omega arith
 
@@ -150,14 +150,14 @@ module _ {w : List ℕ} {p : ℕ} (l : LineOf w p) where
   unfolding lengthPlace equal
   line-place x = go l
     where
-      go : {w : List ℕ} {p : ℕ} → LineOf w p → lengthPlace (take p w ++ x) ≡ p
+      go : {w : List ℕ} {p : ℕ} → CommandLine w p → lengthPlace (take p w ++ x) ≡ p
       go (message-line w) = refl
       go (open-line a b c d e f w) = refl
 
   line-shorter : (v : List ℕ) → command (take p w ++ (48 ∷ 48 ∷ v)) ≡ command (take p w ++ (48 ∷ v))
   line-shorter v = go l
     where
-      go : {w : List ℕ} {p : ℕ} → LineOf w p → command (take p w ++ (48 ∷ 48 ∷ v)) ≡ command (take p w ++ (48 ∷ v))
+      go : {w : List ℕ} {p : ℕ} → CommandLine w p → command (take p w ++ (48 ∷ 48 ∷ v)) ≡ command (take p w ++ (48 ∷ v))
       go (message-line w) = message-shorter v
       go (open-line a b c d e f w) = open-shorter a b c d e f v
 
@@ -232,7 +232,7 @@ module _ (s : List ℕ) (n p : ℕ) (l : n ≤ length s) (e : p ≡ lengthPlace 
   w : List ℕ
   w = cut s 0 n
 
-  shape : LineOf w p
+  shape : CommandLine w p
   unfolding w
   shape = rw e (line-of (cut s 0 n) (omega (arith, e, h)))
 

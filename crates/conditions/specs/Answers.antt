@@ -33,7 +33,7 @@ Parts s o amounts places (Refused k) = 0 < k
 Parts s o amounts places (Passed b) = Reads s o b amounts places
 
 -- r answers 3 to 8 of what was read, and has its parts
-pub record Judged (temporary s : List ℕ) (o : Option Message) (r : Checked) (amounts places : List ℕ) : Type 0 where
+pub record CheckedBy (temporary s : List ℕ) (o : Option Message) (r : Checked) (amounts places : List ℕ) : Type 0 where
   pub number : numberOf r ≡ firstOf (formStops temporary o)
   pub parts : Parts s o amounts places r
 

@@ -32,10 +32,10 @@ use Rattle.rule_laws.specs.Lines.{body-from}
 use Rattle.conditions.specs.Stops.{transferStop, transfer-stops}
 use Rattle.conditions.specs.Walk.{FieldsIn, heldFrom, alike, named-twice}
 use Rattle.conditions.specs.Lowest.{lowestAny}
-use Rattle.conditions.specs.Tally.{Told, All, TallyAt, told-fields}
+use Rattle.conditions.specs.Tally.{TallyTold, DetailsTallied, TallyAt, told-fields}
 use Rattle.conditions.specs.Order.{orderStop, order-stops, order-many, order-few}
 use Rattle.conditions.specs.Books.{date-six, transfer-books, order-books, bookingOf}
-use Rattle.conditions.specs.Answers.{Parts, Judged, CheckedAs}
+use Rattle.conditions.specs.Answers.{Parts, CheckedBy, CheckedAs}
 use Rattle.conditions.specs.declared.booking.Booking.{Booking}
 use Rattle.conditions.specs.declared.tally.Tally.{Tally}
 use Rattle.conditions.specs.declared.message.Checked.{Checked}
@@ -46,7 +46,7 @@ unread : (temporary : List ℕ) → firstOf (formStops temporary none) ≡ 3
 unfolding formStops firstOf
 unread temporary = refl
 
-formless : (temporary s : List ℕ) (o : Option Message) {amounts places : List ℕ} → o ≡ none → Judged temporary s o (Refused 3) amounts places
+formless : (temporary s : List ℕ) (o : Option Message) {amounts places : List ℕ} → o ≡ none → CheckedBy temporary s o (Refused 3) amounts places
 formless temporary s o e = record { number = rw e (sym (unread temporary)); parts = omega arith }
 
 -- field 20, behind its line's first four bytes
@@ -57,7 +57,7 @@ field-20 s l n q h w b = rw (held-line s l n message20 h) (behind-bytes s _ 4 w 
 
 -- r answers of an MT103, whatever is kept: it has no details
 pub record TransferChecked (temporary s : List ℕ) (r : Checked) : Type 0 where
-  pub with : (amounts places : List ℕ) → Judged temporary s (readTransfer s) r amounts places
+  pub with : (amounts places : List ℕ) → CheckedBy temporary s (readTransfer s) r amounts places
 
 module _ (s temporary : List ℕ) (t : T.Transfer) (w : TransferIn s t) where
   pub transfer-formless : t .ok ≡ false → TransferChecked temporary s (Refused 3)
@@ -104,7 +104,7 @@ module _ (s temporary : List ℕ) (t : T.Transfer) (w : TransferIn s t) where
 
 -- r answers of an MT101, whatever the temporary account is
 pub record OrderChecked (s : List ℕ) (r : Checked) (amounts places : List ℕ) : Type 0 where
-  pub with : (temporary : List ℕ) → Judged temporary s (readOrder s) r amounts places
+  pub with : (temporary : List ℕ) → CheckedBy temporary s (readOrder s) r amounts places
 
 order-rows : part 0 1 ≡ orderRows
 unfolding part table
@@ -135,10 +135,10 @@ module _ (s : List ℕ) (rows : Rows) (w : RowsAt s 23 0 1 rows) where
     order-formless k = record { with = λ u. formless u s (readOrder s) (order-read ∙ (rw (v .none-there k))) }
 
     module _ (k : t .ok ≡ true) where
-      abbrev all : All s (rows .next) t amounts places fields
+      abbrev all : DetailsTallied s (rows .next) t amounts places fields
       all = v .all-there k
 
-      abbrev its : Told s (all .all) t amounts places fields
+      abbrev its : TallyTold s (all .all) t amounts places fields
       its = all .told
 
       pub order-fields : FieldsIn s fields (t .count)
@@ -260,7 +260,7 @@ module _ (temporary s : List ℕ) (b : Bool) (u : b ≡ framed s) where
       form-stops = rw (← u, h, ← v, k)
 
       module _ (q : Bool) (w : q ≡ equal (type s) (ascii "103")) (r : Checked) {amounts places : List ℕ} where
-        as-read : (o : Option Message) → o ≡ read s → Judged temporary s o r amounts places → CheckedAs temporary s r amounts places
+        as-read : (o : Option Message) → o ≡ read s → CheckedBy temporary s o r amounts places → CheckedAs temporary s r amounts places
         as-read o e j = record {
           number = j .number ∙ ap (λ (x : Option Message). firstOf (formStops temporary x)) e ∙ form-stops;
           parts = subst (λ (x : Option Message). Parts s x amounts places r) e (j .parts);

@@ -21,7 +21,7 @@ use Rattle.forms.specs.Details.{detailHeld, DetailAt}
 use Rattle.forms.specs.declared.rows.Span.{Span}
 use Rattle.forms.specs.declared.detail.Detail.{Detail}
 use Rattle.details.specs.Lines.{withLine}
-use Rattle.details.specs.Kept.{Keeps, Room, Kept, kept-none, kept-full, kept-more, more-length}
+use Rattle.details.specs.Kept.{Keeps, DetailRoom, Kept, kept-none, kept-full, kept-more, more-length}
 use Rattle.conditions.specs.Stops.{lowest, detailStop, detail-lowest}
 use Rattle.conditions.specs.Lowest.{lowestAny, any-none, any-last}
 use Rattle.conditions.specs.Walk.{Named, FieldsIn, named-none, named-full, named-more}
@@ -80,7 +80,7 @@ pub record KeepsFirst (n : ℕ) (d : Detail) (amounts places fields amounts' pla
   pub fields-stay : 16 ≤ n → fields' ≡ fields
 
 -- their number, the sum of the amounts of the first 16, the first one's date, the lowest condition that one breaks; they are kept
-pub record Told (s : List ℕ) (ds : List M.Detail) (t : Tally) (amounts places fields : List ℕ) : Type 0 where
+pub record TallyTold (s : List ℕ) (ds : List M.Detail) (t : Tally) (amounts places fields : List ℕ) : Type 0 where
   pub count : t .count ≡ length ds
   pub sum : t .sum ≡ sumOf (take 16 ds)
   pub bound : t .sum ≤ t .count * 10 ^ 16
@@ -145,16 +145,16 @@ unfolding firstDate
 low-more bank [] d = rw (any-last bank (d .date) [] d, any-none bank 0, any-none bank (d .date))
 low-more bank (e ∷ ds) d = sym (any-last bank (e .date) (e ∷ ds) d)
 
-pub told-none : (s : List ℕ) {t : Tally} {amounts places fields : List ℕ} → t .count ≡ 0 → t .sum ≡ 0 → t .date ≡ 0 → t .low ≡ 9 → Room amounts places → length fields ≡ 32 → Told s [] t amounts places fields
+pub told-none : (s : List ℕ) {t : Tally} {amounts places fields : List ℕ} → t .count ≡ 0 → t .sum ≡ 0 → t .date ≡ 0 → t .low ≡ 9 → DetailRoom amounts places → length fields ≡ 32 → TallyTold s [] t amounts places fields
 unfolding sumOf firstDate
 told-none s a b c d e f = record { count = a; sum = b; bound = omega (arith, b); date = c; low = rw (any-none) d; kept = kept-none s e; named = named-none s f }
 
-module _ (s : List ℕ) (ds : List M.Detail) (t : Tally) {amounts places fields : List ℕ} (o : Told s ds t amounts places fields) {at : ℕ} (d : Detail) (w : DetailAt s at d) {amounts' places' fields' : List ℕ}
+module _ (s : List ℕ) (ds : List M.Detail) (t : Tally) {amounts places fields : List ℕ} (o : TallyTold s ds t amounts places fields) {at : ℕ} (d : Detail) (w : DetailAt s at d) {amounts' places' fields' : List ℕ}
     (c : KeepsFirst (t .count) d amounts places fields amounts' places' fields') (r : Tally) (a : After s t d r) where
   dated : r .date ≡ firstDate (ds ++ (detailHeld s d ∷ []))
   dated = a .date ∙ rw (o .count, o .date) (date-more ds (detailHeld s d))
 
-  pub told-more : Told s (ds ++ (detailHeld s d ∷ [])) r amounts' places' fields'
+  pub told-more : TallyTold s (ds ++ (detailHeld s d ∷ [])) r amounts' places' fields'
   told-more = record {
     count = a .count ∙ (rw (o .count) (sym (more-length ds (detailHeld s d))));
     sum = a .sum ∙ rw (o .count, o .sum) (sum-more ds (detailHeld s d));
@@ -174,18 +174,18 @@ module _ (s : List ℕ) (ds : List M.Detail) (t : Tally) {amounts places fields 
 -- some are told, the sum of their amounts among it; with those from pos on they are all from `at` on
 pub record Walking (s : List ℕ) (at pos : ℕ) (t : Tally) (amounts places fields : List ℕ) : Type 0 where
   pub done : List M.Detail
-  pub told : Told s done t amounts places fields
+  pub told : TallyTold s done t amounts places fields
   pub left : Option·map (λ ds. done ++ ds) (details (4096 - t .count) (from s pos)) ≡ details 4096 (from s at)
 
 -- all details from `at` on are told
-pub record All (s : List ℕ) (at : ℕ) (t : Tally) (amounts places fields : List ℕ) : Type 0 where
+pub record DetailsTallied (s : List ℕ) (at : ℕ) (t : Tally) (amounts places fields : List ℕ) : Type 0 where
   pub all : List M.Detail
   pub read : details 4096 (from s at) ≡ some all
-  pub told : Told s all t amounts places fields
+  pub told : TallyTold s all t amounts places fields
 
 pub record TallyAt (s : List ℕ) (at : ℕ) (t : Tally) (amounts places fields : List ℕ) : Type 0 where
   pub none-there : t .ok ≡ false → details 4096 (from s at) ≡ none
-  pub all-there : t .ok ≡ true → All s at t amounts places fields
+  pub all-there : t .ok ≡ true → DetailsTallied s at t amounts places fields
 
 map-nothing : {A : Type 0} (o : Option (List A)) → Option·map (λ ds. [] ++ ds) o ≡ o
 map-nothing none = refl
@@ -195,7 +195,7 @@ map-one : {A : Type 0} (xs : List A) (x : A) (o : Option (List A)) → Option·m
 map-one xs x none = refl
 map-one xs x (some ds) = ap (λ (l : List _). some l) (sym (append-assoc xs (x ∷ []) ds))
 
-pub walk-start : (s : List ℕ) (at : ℕ) {t : Tally} {amounts places fields : List ℕ} → t .count ≡ 0 → t .sum ≡ 0 → t .date ≡ 0 → t .low ≡ 9 → Room amounts places → length fields ≡ 32
+pub walk-start : (s : List ℕ) (at : ℕ) {t : Tally} {amounts places fields : List ℕ} → t .count ≡ 0 → t .sum ≡ 0 → t .date ≡ 0 → t .low ≡ 9 → DetailRoom amounts places → length fields ≡ 32
     → Walking s at at t amounts places fields
 walk-start s at a b c d e f = record { done = []; told = told-none s a b c d e f; left = rw a (map-nothing (details 4096 (from s at))) }
 
@@ -244,6 +244,6 @@ module _ (s : List ℕ) (at pos : ℕ) (t : Tally) {amounts places fields : List
 
 -- the places of the fields 21, where all are told
 pub told-fields : (s : List ℕ) (at : ℕ) (t : Tally) (amounts places fields : List ℕ) → TallyAt s at t amounts places fields → t .ok ≡ true → FieldsIn s fields (t .count)
-told-fields s at t amounts places fields w h = let o : All s at t amounts places fields = w .all-there h in record { inside = λ i l m. o .told .named .inside i (rw (← o .told .count) l) m }
+told-fields s at t amounts places fields w h = let o : DetailsTallied s at t amounts places fields = w .all-there h in record { inside = λ i l m. o .told .named .inside i (rw (← o .told .count) l) m }
 
 pub ruleset tallying = (within-order, raised-more, raised-kept, day-first, day-later, keeps-none, keeps-one, walk-start, walk-bound, walk-out, walk-bad, walk-last, walk-on)

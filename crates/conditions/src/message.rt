@@ -16,7 +16,7 @@ ghost use lib.ListN.{length};
 ghost use Rattle.rules.specs.Text.{equal};
 ghost use Rattle.rules.specs.Lines.{type};
 ghost use Rattle.rules.specs.Calls.{addressed};
-ghost use Rattle.details.specs.Kept.{Room};
+ghost use Rattle.details.specs.Kept.{DetailRoom};
 ghost use Rattle.conditions.specs.Answers.{CheckedAs};
 ghost use Rattle.conditions.specs.Checks.{TransferChecked, OrderChecked};
 
@@ -48,7 +48,7 @@ fn check_transfer(s: &[u8], temporary: &[u8]) -> Checked
 fn check_order(s: &[u8], amounts: &mut [u64; 16], places: &mut [u16; 96]) -> Checked
     requires { ⌜ 23 ≤ length (now s) ⌝ }
     requires { ⌜ length (now s) ≤ 4096 ⌝ }
-    requires { ⌜ Room (now amounts) (now places) ⌝ }
+    requires { ⌜ DetailRoom (now amounts) (now places) ⌝ }
     ensures { λ r. ⌜ OrderChecked (now (s .entry)) r (now (amounts .exit)) (now (places .exit)) ⌝ }
 {
     let rows = read_rows(s, 23, 0, 1);
@@ -99,7 +99,7 @@ pub fn check_message(
     amounts: &mut [u64; 16],
     places: &mut [u16; 96],
 ) -> Checked
-    requires { ⌜ Room (now amounts) (now places) ⌝ }
+    requires { ⌜ DetailRoom (now amounts) (now places) ⌝ }
     ensures { λ r. ⌜ CheckedAs (now (temporary .entry)) (now (s .entry)) r (now (amounts .exit)) (now (places .exit)) ⌝ }
 {
     if is_framed(s) {

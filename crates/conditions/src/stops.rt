@@ -12,12 +12,12 @@ use forms::TRANSFER_32A;
 use forms::TRANSFER_59;
 use forms::Transfer;
 ghost use mathlib.Core.Path.{_≡_};
-ghost use Rattle.forms.specs.Spans.{Within};
+ghost use Rattle.forms.specs.Spans.{SpansWithin};
 ghost use Rattle.conditions.specs.Stops.{transferStop, detailStop};
 
 // Of a transfer: 5, 6 or 7; 0 where none holds.
 pub fn transfer_stop(s: &[u8], temporary: &[u8], t: Transfer) -> u32
-    requires { ⌜ Within (now s) (t .spans) ⌝ }
+    requires { ⌜ SpansWithin (now s) (t .spans) ⌝ }
     ensures { λ r. ⌜ r ≡ transferStop (now (s .entry)) (now (temporary .entry)) t ⌝ }
 {
     if slashed_behind(s, t.spans[MESSAGE_20], 4) {
@@ -34,7 +34,7 @@ pub fn transfer_stop(s: &[u8], temporary: &[u8], t: Transfer) -> u32
 
 // Of one detail, day being the date of the first: 5, 6, 7 or 8; 9 where none holds.
 pub fn detail_stop(s: &[u8], d: Detail, day: u64) -> u32
-    requires { ⌜ Within (now s) (d .spans) ⌝ }
+    requires { ⌜ SpansWithin (now s) (d .spans) ⌝ }
     ensures { λ r. ⌜ r ≡ detailStop (now (s .entry)) day d ⌝ }
 {
     if slashed_behind(s, d.spans[DETAIL_21], 4) {

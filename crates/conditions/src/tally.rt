@@ -11,8 +11,8 @@ ghost use mathlib.Core.Path.{_≡_};
 ghost use Prim.Native.Nat.{_*_, _^_, _<_, _≤_, min};
 ghost use lib.ListN.{length, getD};
 ghost use Rattle.rules.specs.Forms.{detail21};
-ghost use Rattle.forms.specs.Spans.{noSpan, Within};
-ghost use Rattle.details.specs.Kept.{Room};
+ghost use Rattle.forms.specs.Spans.{noSpan, SpansWithin};
+ghost use Rattle.details.specs.Kept.{DetailRoom};
 ghost use Rattle.conditions.specs.Tally.{Raised, dayOf, After, KeepsFirst, TallyAt};
 
 // How many details there are, the sum of the first 16, the first one's date, and the lowest of 5 to 8 that one of them breaks, or 9.
@@ -58,7 +58,7 @@ fn least(a: u32, b: u32) -> u32
 
 // The tally with one more detail.
 fn after(s: &[u8], t: Tally, d: Detail) -> Tally
-    requires { ⌜ Within (now s) (d .spans) ⌝ }
+    requires { ⌜ SpansWithin (now s) (d .spans) ⌝ }
     requires { ⌜ t .count < 4096 ⌝ }
     requires { ⌜ t .sum ≤ t .count * 10 ^ 16 ⌝ }
     requires { ⌜ d .amount < 10 ^ 16 ⌝ }
@@ -106,7 +106,7 @@ pub fn tally_details(
 ) -> Tally
     requires { ⌜ at ≤ length (now s) ⌝ }
     requires { ⌜ length (now s) ≤ 4096 ⌝ }
-    requires { ⌜ Room (now amounts) (now places) ⌝ }
+    requires { ⌜ DetailRoom (now amounts) (now places) ⌝ }
     requires { ⌜ length (now fields) ≡ 32 ⌝ }
     ensures { λ r. ⌜ TallyAt (now (s .entry)) at r (now (amounts .exit)) (now (places .exit)) (now (fields .exit)) ⌝ }
 {

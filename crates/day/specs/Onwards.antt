@@ -17,11 +17,11 @@ use Rattle.day.specs.declared.replay.Step.{Step}
 use Rattle.day.specs.declared.replay.Step.the-variants.{Done, Nothing}
 use Rattle.day.specs.declared.onward.Onward.{Onward}
 use Rattle.day.specs.declared.onward.Onward.the-variants.{Answered, Wants, Ends}
-use Rattle.day.specs.Replaying.{Stepped, Moved, Stayed, step-moved, step-stayed}
+use Rattle.day.specs.Replaying.{CommandStepped, Moved, Stayed, step-moved, step-stayed}
 use Rattle.day.specs.Whole.{InPieces, performs, reads, ends, stops}
 
 -- the bytes from at up to n of s are read and not yet carried out; every command fits the window, and every answer what is printed to
-pub record Ready (s : List ℕ) (at n : ℕ) (area out shown : List ℕ) : Type 0 where
+pub record WindowReady (s : List ℕ) (at n : ℕ) (area out shown : List ℕ) : Type 0 where
   pub order : at ≤ n
   pub within : n ≤ length s
   pub wide : longest ≤ length s
@@ -30,7 +30,7 @@ pub record Ready (s : List ℕ) (at n : ℕ) (area out shown : List ℕ) : Type 
   pub print : length out + 64 ≤ length shown
 
 -- nothing but bytes changed
-pub record Kept (s area out shown s' area' out' shown' : List ℕ) : Type 0 where
+pub record WindowKept (s area out shown s' area' out' shown' : List ℕ) : Type 0 where
   pub window : length s' ≡ length s
   pub size : length area' ≡ length area
   pub lent : length out' ≡ length out
@@ -108,7 +108,7 @@ OnwardTold s at n area out s' area' shown' (Wants left) = Reading s at n left ar
 OnwardTold s at n area out s' area' shown' Ends = Stopping s at n area out
 
 pub record Onwards (s : List ℕ) (at n : ℕ) (area out shown s' area' out' shown' : List ℕ) (r : Onward) : Type 0 where
-  pub kept : Kept s area out shown s' area' out' shown'
+  pub kept : WindowKept s area out shown s' area' out' shown'
   pub told : OnwardTold s at n area out s' area' shown' r
 
 -- the first n bytes, as the part that they are
@@ -123,7 +123,7 @@ shown-text text shown w h =
     let e : _ ≡ length text = w .cursor ∙ omega (arith, w .short) in
     rw (e, wrote-over w h) (take-at text (drop (length text) shown) (length text) refl)
 
-module _ {s area out shown : List ℕ} {at n : ℕ} (m : Ready s at n area out shown) {area' out' shown' : List ℕ} {r : Step} (w : Stepped (take (n - 0) (drop 0 s)) at area area' out out' shown 0 shown' r) where
+module _ {s area out shown : List ℕ} {at n : ℕ} (m : WindowReady s at n area out shown) {area' out' shown' : List ℕ} {r : Step} (w : CommandStepped (take (n - 0) (drop 0 s)) at area area' out out' shown 0 shown' r) where
   pub onward-answers : (next p : ℕ) → r ≡ Done next p → Onwards s at n area out shown s area' out' shown' (Answered next p)
   unfolding ahead
   onward-answers next p e =
@@ -150,7 +150,7 @@ module _ {s area out shown : List ℕ} {at n : ℕ} (m : Ready s at n area out s
       t : Stayed (take (n - 0) (drop 0 s)) at area area' out out' shown shown'
       t = step-stayed w e
 
-      kept : length s' ≡ length s → Kept s area out shown s' area' out' shown'
+      kept : length s' ≡ length s → WindowKept s area out shown s' area' out' shown'
       kept l = record { window = l; size = ap length (t .left); lent = ap length (t .lent); shows = ap length (t .shows) }
 
       go : (o : Onward) → WantTold s at n s' o → Onwards s at n area out shown s' area' out' shown' o

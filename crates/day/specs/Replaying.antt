@@ -20,7 +20,7 @@ use Rattle.day.specs.declared.call.Outcome.{Outcome}
 use Rattle.day.specs.declared.replay.Step.{Step}
 use Rattle.day.specs.declared.replay.Step.the-variants.{Done, Nothing}
 use Rattle.day.specs.Runs.{run-ends, run-goes}
-use Rattle.day.specs.Told.{Told, answerText, answer-printed, answer-size}
+use Rattle.day.specs.Told.{CallTold, answerText, answer-printed, answer-size}
 
 -- ---- one command
 
@@ -52,13 +52,13 @@ next-within s x (Turns day n) w = w .places
 next-within s x End w = omega arith
 
 -- a command that was read, in the paper's words
-record Found (s : List ℕ) (x : Option Commanded) (c : Command) (room : ℕ) (held : Option Engine) : Type 0 where
+record CommandFound (s : List ℕ) (x : Option Commanded) (c : Command) (room : ℕ) (held : Option Engine) : Type 0 where
   found : Commanded
   stands : x ≡ some found
   others : from s (nextOf c) ≡ found .others
   answers : called room held (found .command) ≡ answerTo s c room held
 
-found-by : (s : List ℕ) (x : Option Commanded) (c : Command) (room : ℕ) (held : Option Engine) → Commanding s x c → isEnd c ≡ false → Found s x c room held
+found-by : (s : List ℕ) (x : Option Commanded) (c : Command) (room : ℕ) (held : Option Engine) → Commanding s x c → isEnd c ≡ false → CommandFound s x c room held
 unfolding isEnd answerTo nextOf commandedOf called
 found-by s x (Opens day a b) room held w e = record { found = record { command = R.opens day (cut s a b); others = from s b }; stands = sym (w .same); others = refl; answers = refl }
 found-by s x (Sends a b) room held w e = record { found = record { command = R.sends (cut s a b); others = from s b }; stands = sym (w .same); others = refl; answers = refl }
@@ -90,10 +90,10 @@ abbrev StepTold : List ℕ → ℕ → List ℕ → List ℕ → List ℕ → Li
 StepTold s at area area' out out' shown o shown' (Done next o') = Moved s at next area area' out out' shown o o' shown'
 StepTold s at area area' out out' shown o shown' Nothing = Stayed s at area area' out out' shown shown'
 
-pub record Stepped (s : List ℕ) (at : ℕ) (area area' out out' shown : List ℕ) (o : ℕ) (shown' : List ℕ) (r : Step) : Type 0 where
+pub record CommandStepped (s : List ℕ) (at : ℕ) (area area' out out' shown : List ℕ) (o : ℕ) (shown' : List ℕ) (r : Step) : Type 0 where
   pub told : StepTold s at area area' out out' shown o shown' r
 
-module _ {s : List ℕ} {at o : ℕ} {area area' out out' shown shown' : List ℕ} {r : Step} (w : Stepped s at area area' out out' shown o shown' r) where
+module _ {s : List ℕ} {at o : ℕ} {area area' out out' shown shown' : List ℕ} {r : Step} (w : CommandStepped s at area area' out out' shown o shown' r) where
   pub step-moved : (next o' : ℕ) → r ≡ Done next o' → Moved s at next area area' out out' shown o o' shown'
   step-moved next o' e = subst (StepTold s at area area' out out' shown o shown') e (w .told)
 
@@ -109,13 +109,13 @@ module _ (s : List ℕ) (at : ℕ) (c : Command) (w : Commanding s (command (fro
   nothing (Turns day n) v e = absurd (let z : _≡_ {A = ℕ} 0 1 = cc in omega arith)
   nothing End v e = sym (v .same)
 
-  pub step-none : {area out shown : List ℕ} {o : ℕ} → t ≡ true → Stepped s at area area out out shown o shown Nothing
+  pub step-none : {area out shown : List ℕ} {o : ℕ} → t ≡ true → CommandStepped s at area area out out shown o shown Nothing
   step-none d = record { told = record { stands = nothing c w (sym u ∙ d); left = refl; lent = refl; shows = refl } }
 
-  pub step-done : {r : Outcome} {area area' out out' shown shown' : List ℕ} {o o' n : ℕ} → t ≡ false → Told (answerTo s c (length out) (holds area)) r area area' out out'
-      → Wrote (answerText r out') o shown o' shown' → n ≡ nextOf c → Stepped s at area area' out out' shown o shown' (Done n o')
+  pub step-done : {r : Outcome} {area area' out out' shown shown' : List ℕ} {o o' n : ℕ} → t ≡ false → CallTold (answerTo s c (length out) (holds area)) r area area' out out'
+      → Wrote (answerText r out') o shown o' shown' → n ≡ nextOf c → CommandStepped s at area area' out out' shown o shown' (Done n o')
   step-done {r} {area} {area'} {out} {out'} d a v e =
-      let f : Found s (command (from s at)) c (length out) (holds area) = found-by s (command (from s at)) c (length out) (holds area) w (sym u ∙ d) in
+      let f : CommandFound s (command (from s at)) c (length out) (holds area) = found-by s (command (from s at)) c (length out) (holds area) w (sym u ∙ d) in
       let p : answerText r out' ≡ printed (called (length out) (holds area) (f .found .command)) = answer-printed a ∙ rw (f .answers) in record {
         told = record {
           found = f .found;
@@ -149,7 +149,7 @@ module _ {s area out shown whole start : List ℕ} {at k o room span : ℕ} (m :
   unfolding replayFrom
   replay-out h = let e : k ≡ 0 = omega arith in left-none (rw e at (m .left))
 
-  module _ (h : 0 < k) {area' out' shown' : List ℕ} {r : Step} (w : Stepped s at area area' out out' shown o shown' r) where
+  module _ (h : 0 < k) {area' out' shown' : List ℕ} {r : Step} (w : CommandStepped s at area area' out out' shown o shown' r) where
     pub replay-ends : r ≡ Nothing → Wrote whole 0 start o shown'
     replay-ends e = let t : Stayed s at area area' out out' shown shown' = step-stayed w e in rw (t .shows) (left-none (rw (run-ends (from s at) k room (holds area) (t .stands)) at (m .left)))
 
@@ -169,19 +169,19 @@ module _ {s area out shown whole start : List ℕ} {at k o room span : ℕ} (m :
 -- ---- by the case of a command
 
 module _ (s : List ℕ) (c : Command) {r : Outcome} {area area' out out' : List ℕ} where
-  pub perform-open : (day a b : ℕ) → c ≡ Opens day a b → Told (openCall areaSize (holds area) (cut s a b) day) r area area' out out' → Told (answerTo s c (length out) (holds area)) r area area' out out'
+  pub perform-open : (day a b : ℕ) → c ≡ Opens day a b → CallTold (openCall areaSize (holds area) (cut s a b) day) r area area' out out' → CallTold (answerTo s c (length out) (holds area)) r area area' out out'
   unfolding answerTo
   perform-open day a b e t = rw e t
 
-  pub perform-message : (a b : ℕ) → c ≡ Sends a b → Told (messageCall (length out) (holds area) (cut s a b)) r area area' out out' → Told (answerTo s c (length out) (holds area)) r area area' out out'
+  pub perform-message : (a b : ℕ) → c ≡ Sends a b → CallTold (messageCall (length out) (holds area) (cut s a b)) r area area' out out' → CallTold (answerTo s c (length out) (holds area)) r area area' out out'
   unfolding answerTo
   perform-message a b e t = rw e t
 
-  pub perform-turn : (day n : ℕ) → c ≡ Turns day n → Told (turnCall (length out) (holds area) day) r area area' out out' → Told (answerTo s c (length out) (holds area)) r area area' out out'
+  pub perform-turn : (day n : ℕ) → c ≡ Turns day n → CallTold (turnCall (length out) (holds area) day) r area area' out out' → CallTold (answerTo s c (length out) (holds area)) r area area' out out'
   unfolding answerTo
   perform-turn day n e t = rw e t
 
-  pub perform-end : c ≡ End → Told (turnCall (length out) (holds area) 0) r area area' out out' → Told (answerTo s c (length out) (holds area)) r area area' out out'
+  pub perform-end : c ≡ End → CallTold (turnCall (length out) (holds area) 0) r area area' out out' → CallTold (answerTo s c (length out) (holds area)) r area area' out out'
   unfolding answerTo
   perform-end e t = rw e t
 

@@ -19,7 +19,7 @@ use Rattle.engine_laws.specs.Keeps.{opened-within}
 use Rattle.engine_laws.specs.Calls.{Done, done-holds, done-text, done-length, Takes, message-there, Turns, turn-there}
 
 -- an answer, and a result over area and output
-pub record Same (a : Answer) (r : Result) (area out : List ℕ) : Type 0 where
+pub record SameAnswer (a : Answer) (r : Result) (area out : List ℕ) : Type 0 where
   pub number : r .number ≡ a .number
   pub difference : r .difference ≡ a .difference
   pub text : take (r .written) (r .output) ≡ a .text
@@ -39,13 +39,13 @@ on-zero a area out z = rw (eq-eqb _ _ z)
 
 -- refused
 module _ (k : ℕ) (area out : List ℕ) (n : eqb k 0 ≡ false) where
-  same-refused : Same (refused k (holds area)) (onAreas (refused k (holds area)) area out) area out
+  same-refused : SameAnswer (refused k (holds area)) (onAreas (refused k (holds area)) area out) area out
   unfolding onAreas
   same-refused = record { number = rw n; difference = rw n; text = rw n; next = rw n; size = rw n; room = rw n; fits = rw n (omega arith) }
 
 -- accepted
 same-done : {r : Result} {area out text : List ℕ} {d : ℤ} {next : Engine} → r .number ≡ 0 → areaSize ≤ length area → length text ≤ length out → Done r area out text d next
-    → Same record { number = 0; text = text; difference = d; next = some next } r area out
+    → SameAnswer record { number = 0; text = text; difference = d; next = some next } r area out
 same-done {out = out} {text = text} z l f w = record {
   number = z;
   difference = w .difference;
@@ -57,17 +57,17 @@ same-done {out = out} {text = text} z l f w = record {
 }
 
 -- any call, by its conditions: a refusal is the same, so that its acceptance must be
-same-answered : (ss : List Stop) (a : Answer) (area out : List ℕ) → (firstOf ss ≡ 0 → Same a (onAreas a area out) area out) → Same (answered ss (holds area) a) (onAreas (answered ss (holds area) a) area out) area out
+same-answered : (ss : List Stop) (a : Answer) (area out : List ℕ) → (firstOf ss ≡ 0 → SameAnswer a (onAreas a area out) area out) → SameAnswer (answered ss (holds area) a) (onAreas (answered ss (holds area) a) area out) area out
 same-answered ss a area out f = go (eqb (firstOf ss) 0) refl
   where
-    go : (t : Bool) → eqb (firstOf ss) 0 ≡ t → Same (answered ss (holds area) a) (onAreas (answered ss (holds area) a) area out) area out
+    go : (t : Bool) → eqb (firstOf ss) 0 ≡ t → SameAnswer (answered ss (holds area) a) (onAreas (answered ss (holds area) a) area out) area out
     go true n = let z : firstOf ss ≡ 0 = eqb-true _ 0 n in rw (answered-accepted ss (holds area) a z) (f z)
     go false n = rw (answered-refused ss (holds area) a (firstOf ss) refl n) (same-refused _ area out n)
 
 module _ (area : List ℕ) (l : areaSize ≤ length area) where
   -- opening: its output is nobody's
   module _ (text : List ℕ) (day : ℕ) where
-    open-same : firstOf (openStops (length area) text day) ≡ 0 → Same (acceptedOpening text day) (onAreas (acceptedOpening text day) area []) area []
+    open-same : firstOf (openStops (length area) text day) ≡ 0 → SameAnswer (acceptedOpening text day) (onAreas (acceptedOpening text day) area []) area []
     unfolding acceptedOpening onAreas stored over
     open-same k = same-done refl l (omega arith) record { good = opened-within (length area) text day k; written = refl; difference = refl; area = refl; output = refl }
 
@@ -75,13 +75,13 @@ module _ (area : List ℕ) (l : areaSize ≤ length area) where
     unfolding openStops
     sizes = rw (le-leb _ _ l)
 
-    pub same-open : Same (openCall areaSize (holds area) text day) (cardOpen text day area) area []
+    pub same-open : SameAnswer (openCall areaSize (holds area) text day) (cardOpen text day area) area []
     unfolding openCall cardOpen
     same-open = rw sizes (same-answered (openStops (length area) text day) (acceptedOpening text day) area [] open-same)
 
   -- a message
   module _ (out s : List ℕ) where
-    message-same : firstOf (messageStops (length out) (holds area) s) ≡ 0 → Same (bothOf (holds area) (read s)) (onAreas (bothOf (holds area) (read s)) area out) area out
+    message-same : firstOf (messageStops (length out) (holds area) s) ≡ 0 → SameAnswer (bothOf (holds area) (read s)) (onAreas (bothOf (holds area) (read s)) area out) area out
     unfolding cardMessage messageCall bothOf acceptedMessage
     message-same k =
         let w : Takes s area out = message-there s area out k in
@@ -89,19 +89,19 @@ module _ (area : List ℕ) (l : areaSize ≤ length area) where
         let r : Result = onAreas (acceptedMessage (w .engine) (w .message)) area out in
         rw e (same-done {r = r} (on-zero (acceptedMessage (w .engine) (w .message)) area out refl) l (w .clear .fits) (rw (answered-accepted _ (holds area) (bothOf (holds area) (read s)) k, e) at (w .done)))
 
-    pub same-message : Same (messageCall (length out) (holds area) s) (cardMessage s area out) area out
+    pub same-message : SameAnswer (messageCall (length out) (holds area) s) (cardMessage s area out) area out
     unfolding messageCall cardMessage
     same-message = same-answered (messageStops (length out) (holds area) s) (bothOf (holds area) (read s)) area out message-same
 
   -- a turn
   module _ (out : List ℕ) (day : ℕ) where
-    turn-same : firstOf (turnStops (length out) (holds area) day) ≡ 0 → Same (acceptedTurn (holds area) day) (onAreas (acceptedTurn (holds area) day) area out) area out
+    turn-same : firstOf (turnStops (length out) (holds area) day) ≡ 0 → SameAnswer (acceptedTurn (holds area) day) (onAreas (acceptedTurn (holds area) day) area out) area out
     unfolding cardTurn turnCall acceptedTurn
     turn-same k =
         let w : Turns day area out = turn-there day area out k in
         let r : Result = onAreas (acceptedTurn (some (w .engine)) day) area out in
         rw (w .holding) (same-done {r = r} (on-zero (acceptedTurn (some (w .engine)) day) area out refl) l (w .fits) (rw (answered-accepted _ (holds area) (acceptedTurn (holds area) day) k, w .holding) at (w .done)))
 
-    pub same-turn : Same (turnCall (length out) (holds area) day) (cardTurn day area out) area out
+    pub same-turn : SameAnswer (turnCall (length out) (holds area) day) (cardTurn day area out) area out
     unfolding turnCall cardTurn
     same-turn = same-answered (turnStops (length out) (holds area) day) (acceptedTurn (holds area) day) area out turn-same

@@ -19,11 +19,11 @@ use Rattle.laws.specs.Parts.{cut, from, from-take}
 use Rattle.laws.specs.Digits.{places-length}
 use Rattle.laws.specs.Writing.{Wrote, wrote-then}
 use Rattle.card.specs.Answers.{Answers}
-use Rattle.day.specs.Same.{Same, same-open, same-message, same-turn}
+use Rattle.day.specs.Same.{SameAnswer, same-open, same-message, same-turn}
 use Rattle.day.specs.declared.call.Outcome.{Outcome}
 
 -- the outcome, and area and output then, are the answer's
-pub record Told (a : Answer) (o : Outcome) (area area' out out' : List ℕ) : Type 0 where
+pub record CallTold (a : Answer) (o : Outcome) (area area' out out' : List ℕ) : Type 0 where
   pub number : o .number ≡ a .number
   pub difference : o .difference ≡ a .difference
   pub text : take (o .written) out' ≡ a .text
@@ -37,7 +37,7 @@ pub record Told (a : Answer) (o : Outcome) (area area' out out' : List ℕ) : Ty
 unfoldable pub answerText : Outcome → List ℕ → List ℕ
 answerText o out = decimal (o .number) ++ ascii "," ++ signed (o .difference) ++ ascii "\r\n" ++ take (o .written) out
 
-pub answer-printed : {a : Answer} {o : Outcome} {area area' out out' : List ℕ} → Told a o area area' out out' → answerText o out' ≡ printed a
+pub answer-printed : {a : Answer} {o : Outcome} {area area' out out' : List ℕ} → CallTold a o area area' out out' → answerText o out' ≡ printed a
 unfolding answerText printed
 answer-printed t = rw (t .number, t .difference, t .text) refl
 
@@ -73,7 +73,7 @@ unfolding from
 part-is s a b h = let e : a + (b - a) ≡ b = omega arith in sym (rw e at (from-take s a (b - a)))
 
 module _ (area : List ℕ) (l : areaSize ≤ length area) {k n : ℕ} {d : ℤ} {area' : List ℕ} where
-  told : (a : Answer) (r : Result) {out out' : List ℕ} → Same a r area out → Answers r k n d area' out' → Told a (record { number = k; written = n; difference = toZ w64 (ofZ w64 d) }) area area' out out'
+  told : (a : Answer) (r : Result) {out out' : List ℕ} → SameAnswer a r area out → Answers r k n d area' out' → CallTold a (record { number = k; written = n; difference = toZ w64 (ofZ w64 d) }) area area' out out'
   told a r {out} s w = record {
     number = w .number ∙ s .number;
     difference = toZ-ofZ record { sfits = w .small } ∙ w .difference ∙ s .difference;
@@ -85,16 +85,16 @@ module _ (area : List ℕ) (l : areaSize ≤ length area) {k n : ℕ} {d : ℤ} 
     small = rw (toZ-ofZ record { sfits = w .small }) (w .small);
   }
 
-  pub told-turn : (day : ℕ) (out : List ℕ) {out' : List ℕ} → Answers (cardTurn day area out) k n d area' out' → Told (turnCall (length out) (holds area) day) (record { number = k; written = n; difference = toZ w64 (ofZ w64 d) }) area area' out out'
+  pub told-turn : (day : ℕ) (out : List ℕ) {out' : List ℕ} → Answers (cardTurn day area out) k n d area' out' → CallTold (turnCall (length out) (holds area) day) (record { number = k; written = n; difference = toZ w64 (ofZ w64 d) }) area area' out out'
   told-turn day out w = told _ _ (same-turn area l out day) w
 
-  pub told-message : (input : List ℕ) (a b : ℕ) (out : List ℕ) {out' : List ℕ} → a ≤ b → Answers (cardMessage (take (b - a) (drop a input)) area out) k n d area' out' → Told (messageCall (length out) (holds area) (cut input a b)) (record { number = k; written = n; difference = toZ w64 (ofZ w64 d) }) area area' out out'
+  pub told-message : (input : List ℕ) (a b : ℕ) (out : List ℕ) {out' : List ℕ} → a ≤ b → Answers (cardMessage (take (b - a) (drop a input)) area out) k n d area' out' → CallTold (messageCall (length out) (holds area) (cut input a b)) (record { number = k; written = n; difference = toZ w64 (ofZ w64 d) }) area area' out out'
   told-message input a b out h w = rw (part-is input a b h) (told _ _ (same-message area l out (take (b - a) (drop a input))) w)
 
   -- opening writes nothing
-  opened-told : (text : List ℕ) (day : ℕ) (out : List ℕ) → Answers (cardOpen text day area) k n d area' [] → Told (openCall areaSize (holds area) text day) (record { number = k; written = n; difference = toZ w64 (ofZ w64 d) }) area area' out out
+  opened-told : (text : List ℕ) (day : ℕ) (out : List ℕ) → Answers (cardOpen text day area) k n d area' [] → CallTold (openCall areaSize (holds area) text day) (record { number = k; written = n; difference = toZ w64 (ofZ w64 d) }) area area' out out
   opened-told text day out w =
-      let s : Same (openCall areaSize (holds area) text day) (cardOpen text day area) area [] = same-open area l text day in
+      let s : SameAnswer (openCall areaSize (holds area) text day) (cardOpen text day area) area [] = same-open area l text day in
       let y : cardOpen text day area .written ≡ 0 = omega (arith, s .fits) in
       let z : n ≡ 0 = w .written ∙ y in record {
         number = w .number ∙ s .number;
@@ -109,7 +109,7 @@ module _ (area : List ℕ) (l : areaSize ≤ length area) {k n : ℕ} {d : ℤ} 
 
   -- the text is a part of the input
   pub told-open : (input : List ℕ) (a b day : ℕ) (out : List ℕ) → a ≤ b → Answers (cardOpen (take (b - a) (drop a input)) day area) k n d area' []
-      → Told (openCall areaSize (holds area) (cut input a b) day) (record { number = k; written = n; difference = toZ w64 (ofZ w64 d) }) area area' out out
+      → CallTold (openCall areaSize (holds area) (cut input a b) day) (record { number = k; written = n; difference = toZ w64 (ofZ w64 d) }) area area' out out
   told-open input a b day out h w = rw (part-is input a b h) (opened-told (take (b - a) (drop a input)) day out w)
 
 pub ruleset telling = (answer-wrote, told-turn, told-message, told-open)

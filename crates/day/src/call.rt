@@ -6,7 +6,7 @@ ghost use Rattle.rules.specs.Calls.{openCall, messageCall, turnCall};
 ghost use Rattle.rules.specs.Area.{holds, areaSize};
 ghost use Rattle.laws.specs.Parts.{cut};
 ghost use Rattle.commands.specs.Answers.{Placed};
-ghost use Rattle.day.specs.Told.{Told};
+ghost use Rattle.day.specs.Told.{CallTold};
 ghost use Rattle.day.specs.Replaying.{answerTo};
 
 // What a call answered.
@@ -21,7 +21,7 @@ fn call_open(input: &[u8], a: usize, b: usize, day: u32, area: &mut [u8], out: &
     requires { ⌜ a ≤ b ⌝ }
     requires { ⌜ b ≤ length (now input) ⌝ }
     requires { ⌜ areaSize ≤ length (now area) ⌝ }
-    ensures { λ r. ⌜ Told (openCall areaSize (holds (now (area .entry))) (cut (now (input .entry)) a b) day) r (now (area .entry)) (now (area .exit)) (now (out .entry)) (now (out .entry)) ⌝ }
+    ensures { λ r. ⌜ CallTold (openCall areaSize (holds (now (area .entry))) (cut (now (input .entry)) a b) day) r (now (area .entry)) (now (area .exit)) (now (out .entry)) (now (out .entry)) ⌝ }
 {
     let mut written: usize = 0;
     let mut difference: i64 = 0;
@@ -38,7 +38,7 @@ fn call_message(input: &[u8], a: usize, b: usize, area: &mut [u8], out: &mut [u8
     requires { ⌜ a ≤ b ⌝ }
     requires { ⌜ b ≤ length (now input) ⌝ }
     requires { ⌜ areaSize ≤ length (now area) ⌝ }
-    ensures { λ r. ⌜ Told (messageCall (length (now (out .entry))) (holds (now (area .entry))) (cut (now (input .entry)) a b)) r (now (area .entry)) (now (area .exit)) (now (out .entry)) (now (out .exit)) ⌝ }
+    ensures { λ r. ⌜ CallTold (messageCall (length (now (out .entry))) (holds (now (area .entry))) (cut (now (input .entry)) a b)) r (now (area .entry)) (now (area .exit)) (now (out .entry)) (now (out .exit)) ⌝ }
 {
     let mut written: usize = 0;
     let mut difference: i64 = 0;
@@ -53,7 +53,7 @@ fn call_message(input: &[u8], a: usize, b: usize, area: &mut [u8], out: &mut [u8
 // A turn to a day.
 fn call_turn(day: u32, area: &mut [u8], out: &mut [u8]) -> Outcome
     requires { ⌜ areaSize ≤ length (now area) ⌝ }
-    ensures { λ r. ⌜ Told (turnCall (length (now (out .entry))) (holds (now (area .entry))) day) r (now (area .entry)) (now (area .exit)) (now (out .entry)) (now (out .exit)) ⌝ }
+    ensures { λ r. ⌜ CallTold (turnCall (length (now (out .entry))) (holds (now (area .entry))) day) r (now (area .entry)) (now (area .exit)) (now (out .entry)) (now (out .exit)) ⌝ }
 {
     let mut written: usize = 0;
     let mut difference: i64 = 0;
@@ -69,7 +69,7 @@ fn call_turn(day: u32, area: &mut [u8], out: &mut [u8]) -> Outcome
 pub fn perform(input: &[u8], c: Command, area: &mut [u8], out: &mut [u8]) -> Outcome
     requires { ⌜ Placed (now input) c ⌝ }
     requires { ⌜ areaSize ≤ length (now area) ⌝ }
-    ensures { λ r. ⌜ Told (answerTo (now (input .entry)) c (length (now (out .entry))) (holds (now (area .entry)))) r (now (area .entry)) (now (area .exit)) (now (out .entry)) (now (out .exit)) ⌝ }
+    ensures { λ r. ⌜ CallTold (answerTo (now (input .entry)) c (length (now (out .entry))) (holds (now (area .entry)))) r (now (area .entry)) (now (area .exit)) (now (out .entry)) (now (out .exit)) ⌝ }
 {
     match c {
         Command::Opens(day, a, b) => call_open(input, a, b, day, area, out),

@@ -1,7 +1,7 @@
 // A turn over a window of the input.
 use crate::replay::Step;
 use crate::replay::carry_out;
-ghost use Rattle.day.specs.Onwards.{Ready, Unread, Wanted, Onwards};
+ghost use Rattle.day.specs.Onwards.{WindowReady, Unread, Wanted, Onwards};
 
 // What came of a turn: an answer was printed, with the place behind its command and its size; more input is wanted behind so many bytes; or no command follows.
 pub enum Onward {
@@ -31,7 +31,7 @@ pub fn go_on(
     out: &mut [u8],
     printed: &mut [u8],
 ) -> Onward
-    requires { ⌜ Ready (now input) at n (now area) (now out) (now printed) ⌝ }
+    requires { ⌜ WindowReady (now input) at n (now area) (now out) (now printed) ⌝ }
     ensures { λ r. ⌜ Onwards (now (input .entry)) at n (now (area .entry)) (now (out .entry)) (now (printed .entry)) (now (input .exit)) (now (area .exit)) (now (out .exit)) (now (printed .exit)) r ⌝ }
 {
     match carry_out(&input[0..n], at, area, out, printed, 0) {

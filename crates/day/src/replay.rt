@@ -9,7 +9,7 @@ ghost use lib.ListN.{length};
 ghost use Rattle.rules.specs.Replay.{replayFrom};
 ghost use Rattle.rules.specs.Area.{holds, areaSize};
 ghost use Rattle.laws.specs.Writing.{Wrote};
-ghost use Rattle.day.specs.Replaying.{isEnd, nextOf, Stepped};
+ghost use Rattle.day.specs.Replaying.{isEnd, nextOf, CommandStepped};
 
 // Is there no command?
 fn is_end(c: Command) -> bool
@@ -52,7 +52,7 @@ pub fn carry_out(
 ) -> Step
     requires { ⌜ at ≤ length (now input) ⌝ }
     requires { ⌜ areaSize ≤ length (now area) ⌝ }
-    ensures { λ r. ⌜ Stepped (now (input .entry)) at (now (area .entry)) (now (area .exit)) (now (out .entry)) (now (out .exit)) (now (printed .entry)) o (now (printed .exit)) r ⌝ }
+    ensures { λ r. ⌜ CommandStepped (now (input .entry)) at (now (area .entry)) (now (area .exit)) (now (out .entry)) (now (out .exit)) (now (printed .entry)) o (now (printed .exit)) r ⌝ }
 {
     let c = read_command(input, at);
     if is_end(c) {

@@ -31,13 +31,13 @@ pub record LinesAs (s : List ℕ) (d : M.Detail) (places : List ℕ) (i : ℕ) :
   pub baeref : LineOf s d detailBaeref (lineAt places (3 * i + 2))
 
 -- there is room for 16
-pub record Room (amounts places : List ℕ) : Type 0 where
+pub record DetailRoom (amounts places : List ℕ) : Type 0 where
   pub amounts-size : length amounts ≡ 16
   pub places-size : length places ≡ 96
 
 -- the first 16 of some details are kept
 pub record Kept (s : List ℕ) (ds : List M.Detail) (amounts places : List ℕ) : Type 0 where
-  pub room : Room amounts places
+  pub room : DetailRoom amounts places
   pub amounts-are : (i : ℕ) → i < length ds → i < 16 → getD amounts i 0 ≡ detailAt ds i .amount
   pub lines-are : (i : ℕ) → i < length ds → i < 16 → LinesAs s (detailAt ds i) places i
 
@@ -73,7 +73,7 @@ module _ {A : Type 0} (i n : ℕ) (h : i < n + 1) where
       go true e = let l : n ≤ i = leb-true n i e in g (omega arith)
       go false e = f (leb-false n i e)
 
-pub kept-none : (s : List ℕ) {amounts places : List ℕ} → Room amounts places → Kept s [] amounts places
+pub kept-none : (s : List ℕ) {amounts places : List ℕ} → DetailRoom amounts places → Kept s [] amounts places
 kept-none s r = record { room = r; amounts-are = λ i h k. absurd (omega arith); lines-are = λ i h k. absurd (omega arith) }
 
 module _ (s : List ℕ) (ds : List M.Detail) {amounts places : List ℕ} (k : Kept s ds amounts places) where

@@ -25,7 +25,7 @@ isFirst k [] = false
 isFirst k (p ∷ ps) = sameKey (p .key) k
 
 -- i positions stand before a key: its position is to be booked, and found, among the others
-pub record Passed (k : Key) (ps : List Position) (i : ℕ) : Type 0 where
+pub record KeyPassed (k : Key) (ps : List Position) (i : ℕ) : Type 0 where
   pub within : i ≤ length ps
   pub sorted : Sorted Before (drop i ps)
   pub left : (t d : ℕ) → booked (position k t d) ps ≡ take i ps ++ booked (position k t d) (drop i ps)
@@ -43,10 +43,10 @@ pub record PlaceOf (k : Key) (ps : List Position) (i : ℕ) : Type 0 where
 
 -- ---- from one position to the next
 
-pub passed-none : (k : Key) (ps : List Position) → Sorted Before ps → Passed k ps 0
+pub passed-none : (k : Key) (ps : List Position) → Sorted Before ps → KeyPassed k ps 0
 passed-none k ps s = record { within = omega arith; sorted = s; left = λ t d. refl; found = refl; opens = refl }
 
-module _ {k : Key} {ps : List Position} {i : ℕ} (g : Passed k ps i) where
+module _ {k : Key} {ps : List Position} {i : ℕ} (g : KeyPassed k ps i) where
   pub place-end : length ps ≤ i → PlaceOf k ps i
   unfolding isFirst booked inserted positionOf isOpen any
   place-end h =
@@ -73,7 +73,7 @@ module _ {k : Key} {ps : List Position} {i : ℕ} (g : Passed k ps i) where
     tail : Sorted Before (p ∷ rest) → Sorted Before rest
     tail (next a s) = s
 
-    pub passed-more : keyBefore (getD ps i (position k 0 0) .key) k ≡ true → Passed k ps (i + 1)
+    pub passed-more : keyBefore (getD ps i (position k 0 0) .key) k ≡ true → KeyPassed k ps (i + 1)
     unfolding p rest
     passed-more b =
         let before = test-before (p .key) k b in

@@ -29,16 +29,16 @@ pub record TotalsOf (ps : List Position) (k : Key) (r : Totals) : Type 0 where
   pub few : r .detailed < 2 ^ 48
 
 -- an open position stands at its place
-pub record Found (a : List ℕ) (n i : ℕ) (k : Key) : Type 0 where
+pub record PositionFound (a : List ℕ) (n i : ℕ) (k : Key) : Type 0 where
   pub inside : i < n
   pub is : positionOf k (decode a .positions) ≡ nthPosition a i
 
 module _ (a : List ℕ) (n i : ℕ) (k : Key) (m : Many a n) (p : PlaceOf k (decode a .positions) i) where
-  pub found : isFirst k (drop i (decode a .positions)) ≡ true → Found a n i k
+  pub found : isFirst k (drop i (decode a .positions)) ≡ true → PositionFound a n i k
   unfolding isFirst
   found f = go (leb n i) refl
     where
-      go : (t : Bool) → leb n i ≡ t → Found a n i k
+      go : (t : Bool) → leb n i ≡ t → PositionFound a n i k
       go true e =
           let l : length (decode a .positions) ≤ i = omega (arith, m .same, leb-true n i e) in
           never (rw (drop-of-length-le (decode a .positions) l) at f)
@@ -49,7 +49,7 @@ module _ (a : List ℕ) (n i : ℕ) (k : Key) (m : Many a n) (p : PlaceOf k (dec
 
 module _ (a : List ℕ) (x : Header) (i : ℕ) (k : Key) (s : isSome (holds a) ≡ true) (n : HeaderOf a x) (p : PlaceOf k (decode a .positions) i) (t : Bool) (e : t ≡ isFirst k (drop i (decode a .positions))) where
   module _ (h : t ≡ true) where
-    here : Found a (x .positions) i k
+    here : PositionFound a (x .positions) i k
     here = found a (x .positions) i k (many a x s n) p (sym e ∙ h)
 
     pub found-place : i < 32

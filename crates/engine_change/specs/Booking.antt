@@ -18,7 +18,7 @@ use Rattle.laws.specs.Laid.{laid, laid-length}
 use Rattle.laws.specs.Writing.{Wrote, wrote-then}
 use Rattle.laws.specs.Sections.{Each, inserted, replaced, each-map, each-inserted, map-inserted, padded-length}
 use Rattle.laws.specs.Standing.{Stands, moved}
-use Rattle.laws.specs.Moving.{Opens, opens}
+use Rattle.laws.specs.Moving.{RoomFor, opens}
 use Rattle.engine_laws.specs.Facts.{or-left, or-right}
 use Rattle.engine_laws.specs.Limits.{Limits, limits}
 use Rattle.engine_laws.specs.Held.{Held}
@@ -37,7 +37,7 @@ use Rattle.engine.specs.Positions.{PositionAt}
 use Rattle.engine.specs.Places.{position, isFirst, PlaceOf}
 use Rattle.engine_change.specs.Filing.{reference, FiledAt, Files}
 use Rattle.engine.specs.Records.{Many}
-use Rattle.engine.specs.Totals.{Found, found}
+use Rattle.engine.specs.Totals.{PositionFound, found}
 
 -- ---- the engine then
 
@@ -116,7 +116,7 @@ module _ (a : List ℕ) (at : ℕ) (q : Position) (x : P.Position) (e : Position
 module _ (a : List ℕ) (n i : ℕ) (q : Position) (m : Many a n) (p : PlaceOf (q .key) (decode a .positions) i) (at : ℕ) (place : at ≡ positionsPlace + recordSize * i) (x : Bool) (f : x ≡ isFirst (q .key) (drop i (decode a .positions))) where
   -- an open position is raised
   module _ (k : x ≡ true) where
-    here : Found a n i (q .key)
+    here : PositionFound a n i (q .key)
     here = found a n i (q .key) m p (sym f ∙ k)
 
     standing : positionAt a at ≡ positionOf (q .key) (decode a .positions)
@@ -144,7 +144,7 @@ module _ (a : List ℕ) (n i : ℕ) (q : Position) (m : Many a n) (p : PlaceOf (
     grown : length (booked q (decode a .positions)) ≡ n + 1
     grown = rw after-place (inserted-length i q (decode a .positions) (p .within) ∙ omega (arith, m .same))
 
-    pub insert-fits : CanBook (decode a) q → Opens positionsPlace recordSize n i (length a)
+    pub insert-fits : CanBook (decode a) q → RoomFor positionsPlace recordSize n i (length a)
     insert-fits g = opens positionsPlace 24 n i (length a) (omega (arith, p .within, m .same)) (omega (arith, g .few, grown, m .long))
 
     pub insert-done : {r : ℕ} {b c : List ℕ} → isSome (holds a) ≡ true → CanBook (decode a) q
@@ -166,7 +166,7 @@ reference-wide r h = rw (length-append, places-length, padded-length 16 (r .text
 module _ (a : List ℕ) (x : Header) (q : Position) (bank : ℕ) (text : List ℕ) (from to count : ℕ) (h : isSome (holds a) ≡ true) (n : HeaderOf a x) (g : CanBook (decode a) q) where
   module _ {i : ℕ} (f : FiledAt (reference bank (cut text from to)) (decode a .references) i) {k : ℕ} {b : List ℕ} (p : Positions (booked q (decode a .positions)) a k b) where
     -- there is room for the reference
-    pub file-fits : Opens referencesPlace recordSize (x .references) i (length b)
+    pub file-fits : RoomFor referencesPlace recordSize (x .references) i (length b)
     file-fits =
         let l : length b ≡ length a = ap length (p .bytes) ∙ laid-length (positionPart (booked q (decode a .positions))) positionsPlace a in
         opens 16 24 (x .references) i (length b) (omega (arith, f .within, n .references)) (omega (arith, g .today, n .references, n .long, l))

@@ -16,7 +16,7 @@ use Rattle.laws.specs.Sections.{Each, Each.no-record, Each.and-record, each-map
 use Rattle.laws.specs.Standing.{Stands}
 use Rattle.rule_laws.specs.Options.{There, there}
 use Rattle.engine_laws.specs.Limits.{limits}
-use Rattle.engine_laws.specs.Layout.{Kept, All, All.none, All.more}
+use Rattle.engine_laws.specs.Layout.{WrittenBack, All, All.none, All.more}
 use Rattle.engine_laws.specs.Held.{Held, held, references-kept}
 use Rattle.engine_laws.specs.Sections.{referencePart, positionPart, textPart, Of, header-length, sections-encode, held-sections, positions-stand}
 use Rattle.engine_change.specs.Header.{numbers, lengths, header-halves, numbers-length}
@@ -35,7 +35,7 @@ pub position-wide : (p : Position) → length (positionRecord p) ≡ 24
 unfolding positionRecord keyBytes
 position-wide p = simp (length-append, places-length)
 
-kept-each : {A : Type 0} (write : A → List ℕ) (reads : List ℕ → A) {xs : List A} → All (Kept write reads) xs → Each recordSize (map write xs)
+kept-each : {A : Type 0} (write : A → List ℕ) (reads : List ℕ → A) {xs : List A} → All (WrittenBack write reads) xs → Each recordSize (map write xs)
 kept-each write reads none = no-record
 kept-each write reads (more k s) = and-record (k .wide) (kept-each write reads s)
 

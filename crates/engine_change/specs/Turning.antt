@@ -16,7 +16,7 @@ use Rattle.laws.specs.Writing.{Wrote}
 use Rattle.laws.specs.Sections.{Each, Each.no-record, passing, Agree, Agree.on-none, Agree.on-more, each-map}
 use Rattle.laws.specs.Moving.{Sifted}
 use Rattle.engine_laws.specs.Limits.{Limits, limits}
-use Rattle.engine_laws.specs.Layout.{Kept, All, All.none, All.more}
+use Rattle.engine_laws.specs.Layout.{WrittenBack, All, All.none, All.more}
 use Rattle.engine_laws.specs.Held.{Held, positions-kept}
 use Rattle.engine_laws.specs.Sections.{referencePart, positionPart}
 use Rattle.engine_laws.specs.Positions.{kept-length}
@@ -63,7 +63,7 @@ passing-kept (p ∷ ps) = go (hasDetails p) (passing-kept ps)
     go true e = e
     go false e = ap (λ (l : List Position). p ∷ l) e
 
-stays-agrees : {ps : List Position} → All (Kept positionRecord positionIn) ps → Agree positionRecord stays undetailed ps
+stays-agrees : {ps : List Position} → All (WrittenBack positionRecord positionIn) ps → Agree positionRecord stays undetailed ps
 unfolding stays
 stays-agrees none = on-none
 stays-agrees (more k s) = on-more (ap undetailed (k .back)) (stays-agrees s)

@@ -14,7 +14,7 @@ ghost use Rattle.rules.specs.Engine.{precedes};
 ghost use Rattle.rules.specs.Area.{referenceRecord, decode, referencesPlace, recordSize};
 ghost use Rattle.laws.specs.Parts.{cut};
 ghost use Rattle.laws.specs.Writing.{Wrote};
-ghost use Rattle.laws.specs.Moving.{Opens};
+ghost use Rattle.laws.specs.Moving.{RoomFor};
 ghost use Rattle.engine_change.specs.Filing.{reference, referenceAt, Today, FiledAt, Files};
 
 // Does the reference of the record at a place precede a bank's, the bytes of s from a up to b?
@@ -70,7 +70,7 @@ fn put_reference(area: &mut [u8], at: usize, bank: u64, s: &[u8], a: usize, b: u
 // The reference put in its place i among n: those behind it are moved up.
 pub fn file_reference(area: &mut [u8], n: u32, i: u32, bank: u64, s: &[u8], a: usize, b: usize)
     requires { ⌜ n ≤ 64 ⌝ }
-    requires { ⌜ Opens referencesPlace recordSize n i (length (now area)) ⌝ }
+    requires { ⌜ RoomFor referencesPlace recordSize n i (length (now area)) ⌝ }
     requires { ⌜ a ≤ b ⌝ }
     requires { ⌜ b ≤ length (now s) ⌝ }
     requires { ⌜ b - a ≤ 16 ⌝ }

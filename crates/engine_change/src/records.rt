@@ -5,12 +5,12 @@ ghost use mathlib.Core.Path.{_≡_};
 ghost use Prim.Native.Nat.{_+_, _-_, _*_, _≤_};
 ghost use lib.ListN.{length};
 ghost use Rattle.laws.specs.Standing.{moved};
-ghost use Rattle.laws.specs.Moving.{Opens, Lowers};
+ghost use Rattle.laws.specs.Moving.{RoomFor, Lowers};
 
 // Room before record i of some records of w bytes at base: those from i on are moved up by a record.
 pub fn open_record(area: &mut [u8], base: usize, w: u32, count: u32, i: u32)
     requires { ⌜ w * count ≤ 6144 ⌝ }
-    requires { ⌜ Opens base w count i (length (now area)) ⌝ }
+    requires { ⌜ RoomFor base w count i (length (now area)) ⌝ }
     ensures { λ _. ⌜ now (area .exit) ≡ moved (base + w * i) (base + w * i + w) (w * (count - i)) (now (area .entry)) ⌝ }
 {
     let p = base + (w * i) as usize;

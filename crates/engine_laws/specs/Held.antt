@@ -20,19 +20,19 @@ use Rattle.rule_laws.specs.Dates.{date-small}
 use Rattle.engine_laws.specs.Facts.{cond-left, equal-true, equal-same}
 use Rattle.engine_laws.specs.Registers.{register-length}
 use Rattle.engine_laws.specs.Limits.{Limits, limits}
-use Rattle.engine_laws.specs.Layout.{Kept, All, All.none, All.more, number-at, joined-length, records-back, position-kept, reference-kept}
+use Rattle.engine_laws.specs.Layout.{WrittenBack, All, All.none, All.more, number-at, joined-length, records-back, position-kept, reference-kept}
 use Rattle.engine_laws.specs.Tests.{textCount}
 use Rattle.engine_laws.specs.Several.{Texts, lengths-length, text-back}
 
 -- ---- the records of an engine within its limits
 
-pub positions-kept : (day : ℕ) (ps : List Position) → goodPositions day ps ≡ true → All (Kept positionRecord positionIn) ps
+pub positions-kept : (day : ℕ) (ps : List Position) → goodPositions day ps ≡ true → All (WrittenBack positionRecord positionIn) ps
 unfolding goodPositions
 positions-kept day [] h = none
 positions-kept day (p ∷ ps) h =
     more (position-kept day p (cond-left (goodPosition day p) (goodPositions day ps) h)) (positions-kept day ps (cond-right (goodPosition day p) (goodPositions day ps) h))
 
-pub references-kept : (rs : List Reference) → goodReferences rs ≡ true → All (Kept referenceRecord referenceIn) rs
+pub references-kept : (rs : List Reference) → goodReferences rs ≡ true → All (WrittenBack referenceRecord referenceIn) rs
 unfolding goodReferences
 references-kept [] h = none
 references-kept (r ∷ rs) h =

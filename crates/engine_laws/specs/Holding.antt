@@ -25,7 +25,7 @@ use Rattle.engine_laws.specs.Facts.{and-both, equal-true, equal-same, ei
 use Rattle.engine_laws.specs.Bytes.{Bytes}
 use Rattle.engine_laws.specs.Registers.{register-length}
 use Rattle.engine_laws.specs.Limits.{Limits, limits, limits-within}
-use Rattle.engine_laws.specs.Layout.{Kept, All, All.none, All.more, part-at, joined-length}
+use Rattle.engine_laws.specs.Layout.{WrittenBack, All, All.none, All.more, part-at, joined-length}
 use Rattle.engine_laws.specs.Several.{Texts, stands-zeros, zeros-stand, text-size, lengths-behind, texts-behind, textsBefore, lengths-same, texts-same}
 use Rattle.engine_laws.specs.Held.{Held, held, positions-kept, references-kept, texts-count}
 use Rattle.engine_laws.specs.Positions.{Good, all-good, good-all}
@@ -75,25 +75,25 @@ joined-records (suc n) cs = let e : recordSize * suc n ≡ 24 + recordSize * n =
 
 -- ---- an area that holds an engine passes
 
-each-kept : {A : Type 0} {write : A → List ℕ} {reads : List ℕ → A} {xs : List A} → All (Kept write reads) xs → Each recordSize (map write xs)
+each-kept : {A : Type 0} {write : A → List ℕ} {reads : List ℕ → A} {xs : List A} → All (WrittenBack write reads) xs → Each recordSize (map write xs)
 each-kept none = no-record
 each-kept (more k s) = and-record (k .wide) (each-kept s)
 
-kept-back : {A : Type 0} {write : A → List ℕ} {reads : List ℕ → A} {xs : List A} → All (Kept write reads) xs → map reads (map write xs) ≡ xs
+kept-back : {A : Type 0} {write : A → List ℕ} {reads : List ℕ → A} {xs : List A} → All (WrittenBack write reads) xs → map reads (map write xs) ≡ xs
 kept-back none = refl
 kept-back (more k s) = rw (k .back, kept-back s)
 
 -- n records at base are those of xs, pass their test, and the room behind them is zero
-record Passing {A : Type 0} (f : List ℕ → Bool) (write : A → List ℕ) (n base room : ℕ) (a : List ℕ) (xs : List A) : Type 0 where
+record SectionPasses {A : Type 0} (f : List ℕ → Bool) (write : A → List ℕ) (n base room : ℕ) (a : List ℕ) (xs : List A) : Type 0 where
   stand : records n (drop base a) ≡ map write xs
   pass : each f (records n (drop base a)) ≡ true
   zero : every isZero (cut a (base + recordSize * n) (base + room)) ≡ true
 
-module _ {A : Type 0} (f : List ℕ → Bool) (write : A → List ℕ) (reads : List ℕ → A) (P : A → Type 0) (c : Checks f write reads P) {p q a : List ℕ} {base : ℕ} (room : ℕ) (xs : List A) (n : ℕ) (b : Bytes a) (t : Stands p (padded room (joined (map write xs))) q base a) (k : All (Kept write reads) xs) (m : n ≡ length xs) (fits : recordSize * length xs ≤ room) (long : base + room ≤ length a) where
+module _ {A : Type 0} (f : List ℕ → Bool) (write : A → List ℕ) (reads : List ℕ → A) (P : A → Type 0) (c : Checks f write reads P) {p q a : List ℕ} {base : ℕ} (room : ℕ) (xs : List A) (n : ℕ) (b : Bytes a) (t : Stands p (padded room (joined (map write xs))) q base a) (k : All (WrittenBack write reads) xs) (m : n ≡ length xs) (fits : recordSize * length xs ≤ room) (long : base + room ≤ length a) where
   section-records : records n (drop base a) ≡ map write xs
   section-records = rw (m, records-are) (rw (length-map) at (stands-records room t (each-kept k)))
 
-  section-passes : All P xs → Passing f write n base room a xs
+  section-passes : All P xs → SectionPasses f write n base room a xs
   section-passes g =
       let e : map reads (records n (drop base a)) ≡ xs = rw section-records (kept-back k) in
       let j : length (joined (map write xs)) ≡ recordSize * n = joined-length write reads k ∙ rw m in record {
@@ -154,7 +154,7 @@ module _ (a : List ℕ) (b : Bytes a) (e : Engine) (h : Held a e) where
   references-pass =
       let n : number (cut a manyReferencesPlace currencyPlace) ≡ numberAt a manyReferencesPlace 1 = ap number (cut-is a 8 1) in
       let few : recordSize * length (e .references) ≤ referencesRoom = omega (arith, l .today) in
-      let c : Passing referenceFits referenceRecord (numberAt a manyReferencesPlace 1) 16 referencesRoom a (e .references) =
+      let c : SectionPasses referenceFits referenceRecord (numberAt a manyReferencesPlace 1) 16 referencesRoom a (e .references) =
       section-passes referenceFits referenceRecord referenceIn Form reference-checks referencesRoom (e .references) (numberAt a manyReferencesPlace 1) b (references-stand s) (references-kept (e .references) (l .forms)) many-references few (omega (arith, h .long)) (all-forms (e .references) (l .forms)) in
       let r : All Rec (records (numberAt a manyReferencesPlace 1) (drop referencesPlace a)) = records-bytes a b (numberAt a manyReferencesPlace 1) 16 (omega (arith, many-references, h .long)) in
       let w : All Filed (records (numberAt a manyReferencesPlace 1) (drop referencesPlace a)) = filed-all r (whole-all r (rw references-at (sym (c .stand)))) in
@@ -166,7 +166,7 @@ module _ (a : List ℕ) (b : Bytes a) (e : Engine) (h : Held a e) where
       let n : number (cut a manyPositionsPlace manyReferencesPlace) ≡ numberAt a manyPositionsPlace 1 = ap number (cut-is a 7 1) in
       let d : number (cut a dayPlace countPlace) ≡ e .day = ap number (cut-is a 2 3) ∙ day-at in
       let few : recordSize * length (e .positions) ≤ positionsRoom = omega (arith, l .few) in
-      let c : Passing (positionFits (e .day)) positionRecord (numberAt a manyPositionsPlace 1) positionsPlace positionsRoom a (e .positions) =
+      let c : SectionPasses (positionFits (e .day)) positionRecord (numberAt a manyPositionsPlace 1) positionsPlace positionsRoom a (e .positions) =
       section-passes (positionFits (e .day)) positionRecord positionIn (Good (e .day)) (position-checks (e .day)) positionsRoom (e .positions) (numberAt a manyPositionsPlace 1) b (positions-stand s) (positions-kept (e .day) (e .positions) (l .good)) many-positions few (omega (arith, h .long)) (all-good (e .day) (e .positions) (l .good)) in
       let r : All Rec (records (numberAt a manyPositionsPlace 1) (drop positionsPlace a)) = records-bytes a b (numberAt a manyPositionsPlace 1) positionsPlace (omega (arith, many-positions, l .few, h .long)) in
       rw (n, d, positions-walk, c .pass, order-walk a (numberAt a manyPositionsPlace 1) positionsPlace r, positions-at, l .order) (c .zero)
@@ -205,7 +205,7 @@ head-parts : (a : List ℕ) → (take 2 a ++ take 3 (drop 2 a) ++ take 2 (drop 5
 head-parts a = rw (take-part a lengthsPlace lengthsRoom, take-part a currencyPlace 1, take-part a 8 1, take-part a 7 1, take-part a 5 2, take-part a 2 3) (simp append-assoc)
 
 -- the tests, one by one
-record Passed (a : List ℕ) : Type 0 where
+record TestsPassed (a : List ℕ) : Type 0 where
   long : areaSize ≤ length a
   mark : take 2 a ≡ mark
   day : exists (numberAt a dayPlace 3) ≡ true
@@ -224,7 +224,7 @@ record Passed (a : List ℕ) : Type 0 where
   register : isSome (register (textAt a 0)) ≡ true
   behind-texts : every isZero (cut a (textPlace a textCount) areaSize) ≡ true
 
-passed : (a : List ℕ) → areaTest a ≡ true → Passed a
+passed : (a : List ℕ) → areaTest a ≡ true → TestsPassed a
 unfolding referencesTest positionsTest registerTest textsTest
 passed a t =
     let k : _ ≡ true = sym (area-form a) ∙ t in
@@ -252,7 +252,7 @@ passed a t =
       behind-texts = search (and-left, and-right) depth 9;
     }
 
-module _ (a : List ℕ) (b : Bytes a) (t : Passed a) where
+module _ (a : List ℕ) (b : Bytes a) (t : TestsPassed a) where
   rows : each referenceFits (records (numberAt a manyReferencesPlace 1) (drop referencesPlace a)) ≡ true
   rows = sym (references-walk a (numberAt a manyReferencesPlace 1) 16) ∙ t .references
 
@@ -335,7 +335,7 @@ encoded e h r p t a b c d = rw (a, b, c, d)
 pub passes-holds : (a : List ℕ) → Bytes a → areaTest a ≡ true → holds a ≡ some (decode a)
 unfolding holds
 passes-holds a b h =
-    let t : Passed a = passed a h in
+    let t : TestsPassed a = passed a h in
     let s : encode (decode a) ≡ take areaSize a = encoded (decode a) _ _ _ _ (header-same a b t) (reference-same a b t) (position-same a b t) (text-same a b t) ∙ area-parts a in
     let q : equal (encode (decode a)) (take areaSize a) ≡ true = ap (λ (x : List ℕ). equal x (take areaSize a)) s ∙ equal-same (take areaSize a) in
     let p : (leb areaSize (length a) && within (decode a) && equal (encode (decode a)) (take areaSize a)) ≡ true = and-both _ _ (and-both _ _ (le-leb areaSize (length a) (t .long)) (decoded-within a b t)) q in

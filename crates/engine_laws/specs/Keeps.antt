@@ -19,7 +19,7 @@ use Rattle.rules.specs.Calls.{firstOf, openStops, opened, badReference, misdate
 use Rattle.rule_laws.specs.Clear.{OpenClear, open-clear, Clear, clear, TurnClear, turn-clear}
 use Rattle.engine_laws.specs.Facts.{or-left, or-right}
 use Rattle.engine_laws.specs.Limits.{Limits, limits, limits-within}
-use Rattle.engine_laws.specs.Positions.{Before, position-order, booked-sorted, booked-few, Passes, booked-good, all-good, good-all, kept-sorted, kept-good, kept-length, corrected-length}
+use Rattle.engine_laws.specs.Positions.{Before, position-order, booked-sorted, booked-few, UnderLimit, booked-good, all-good, good-all, kept-sorted, kept-good, kept-length, corrected-length}
 use Rattle.engine_laws.specs.Order.{Sorted, ordered-sorted, sorted-ordered}
 use Rattle.engine_laws.specs.References.{reference-order, filed-length, filed-good, filed-sorted}
 use Rattle.engine_laws.specs.Accepted.{Has, read-has, sender-bank}
@@ -93,7 +93,7 @@ message-within room e s m w r h =
     let a : Has s m = read-has s m r in
     let q : Position = added m in
     let sorted : Sorted Before (e .positions) = ordered-sorted position-order (e .positions) (l .order) in
-    let passes : Passes q (e .positions) = record {
+    let passes : UnderLimit q (e .positions) = record {
       transferred = leb-true _ _ (not-false _ (or-left _ _ (c .under)));
       detailed = leb-true _ _ (not-false _ (or-right (not (leb (after e m .transferred) limit)) _ (c .under)));
     } in

@@ -31,7 +31,7 @@ number-at a p q i w v h k e = ap number (part-at a p (bytes w v) q i w h (places
 -- ---- records
 
 -- x is written in 24 bytes and read back
-pub record Kept {A : Type 0} (write : A → List ℕ) (reads : List ℕ → A) (x : A) : Type 0 where
+pub record WrittenBack {A : Type 0} (write : A → List ℕ) (reads : List ℕ → A) (x : A) : Type 0 where
   pub wide : length (write x) ≡ 24
   pub back : reads (write x) ≡ x
 
@@ -40,13 +40,13 @@ pub data All {A : Type 0} (P : A → Type 0) : List A → Type 0 where
   more : {x : A} {xs : List A} → P x → All P xs → All P (x ∷ xs)
 
 module _ {A : Type 0} (write : A → List ℕ) (reads : List ℕ → A) where
-  pub joined-length : {xs : List A} → All (Kept write reads) xs → length (joined (map write xs)) ≡ recordSize * length xs
+  pub joined-length : {xs : List A} → All (WrittenBack write reads) xs → length (joined (map write xs)) ≡ recordSize * length xs
   unfolding joined
   joined-length none = refl
   joined-length (more {x} {xs} k s) = length-append (write x) (joined (map write xs)) ∙ omega (arith, k .wide, joined-length s)
 
   -- records one behind the other, and what stands behind them
-  pub records-back : {xs : List A} (z : List ℕ) → All (Kept write reads) xs → map reads (records (length xs) (joined (map write xs) ++ z)) ≡ xs
+  pub records-back : {xs : List A} (z : List ℕ) → All (WrittenBack write reads) xs → map reads (records (length xs) (joined (map write xs) ++ z)) ≡ xs
   unfolding joined records
   records-back z none = refl
   records-back z (more {x} {xs} k s) =
@@ -54,7 +54,7 @@ module _ {A : Type 0} (write : A → List ℕ) (reads : List ℕ → A) where
 
 -- ---- a position's record, and a reference's
 
-pub position-kept : (day : ℕ) (p : Position) → goodPosition day p ≡ true → Kept positionRecord positionIn p
+pub position-kept : (day : ℕ) (p : Position) → goodPosition day p ≡ true → WrittenBack positionRecord positionIn p
 unfolding goodPosition positionRecord positionIn keyBytes keyIn
 position-kept day p h =
     let a : List ℕ = positionRecord p in
@@ -102,7 +102,7 @@ until-padded : (n : ℕ) (cs : List ℕ) → every isText cs ≡ true → untilZ
 unfolding padded
 until-padded n cs h = until-zero cs (n - length cs) h
 
-pub reference-kept : (r : Reference) → goodReference r ≡ true → Kept referenceRecord referenceIn r
+pub reference-kept : (r : Reference) → goodReference r ≡ true → WrittenBack referenceRecord referenceIn r
 unfolding goodReference referenceRecord referenceIn run
 reference-kept r h =
     let a : List ℕ = referenceRecord r in

@@ -8,7 +8,7 @@ use Rattle.engine_laws.specs.Facts.{cond-left, cond-both}
 use Rattle.engine_laws.specs.Layout.{All, All.none, All.more}
 
 -- a test of the order, and what it says
-pub record Order {A : Type 0} (before : A → A → Bool) (Before : A → A → Type 0) : Type 0 where
+pub record Ordering {A : Type 0} (before : A → A → Bool) (Before : A → A → Type 0) : Type 0 where
   pub says : (x y : A) → before x y ≡ true → Before x y
   pub tests : {x y : A} → Before x y → before x y ≡ true
   pub chains : {x y z : A} → Before x y → Before y z → Before x z
@@ -17,7 +17,7 @@ pub data Sorted {A : Type 0} (Before : A → A → Type 0) : List A → Type 0 w
   empty : Sorted Before []
   next : {x : A} {xs : List A} → All (Before x) xs → Sorted Before xs → Sorted Before (x ∷ xs)
 
-module _ {A : Type 0} {before : A → A → Bool} {Before : A → A → Type 0} (o : Order before Before) where
+module _ {A : Type 0} {before : A → A → Bool} {Before : A → A → Type 0} (o : Ordering before Before) where
   pub all-before : {x y : A} {zs : List A} → Before x y → All (Before y) zs → All (Before x) zs
   all-before h none = none
   all-before h (more k s) = more (o .chains h k) (all-before h s)

@@ -13,10 +13,10 @@ use Rattle.rules.specs.Engine.{Position, limit, earlier, alike, raised, positio
 use Rattle.rules.specs.Written.{corrected, correctedCount}
 use Rattle.laws.specs.Tests.{and-left, and-right, cond-right}
 use Rattle.rule_laws.specs.Keys as K
-use Rattle.rule_laws.specs.Keys.{before-trans, test-before, before-test, behind-other, Place, Place.same, Place.ahead, Place.behind, place}
+use Rattle.rule_laws.specs.Keys.{before-trans, test-before, before-test, behind-other, KeyPlace, KeyPlace.same, KeyPlace.ahead, KeyPlace.behind, place}
 use Rattle.engine_laws.specs.Facts.{never, cond-left, cond-both, any-neither}
 use Rattle.engine_laws.specs.Layout.{All, All.none, All.more}
-use Rattle.engine_laws.specs.Order.{Order, Sorted, Sorted.empty, Sorted.next, all-before}
+use Rattle.engine_laws.specs.Order.{Ordering, Sorted, Sorted.empty, Sorted.next, all-before}
 
 -- ---- "by BIC in byte order and then date"
 
@@ -24,7 +24,7 @@ use Rattle.engine_laws.specs.Order.{Order, Sorted, Sorted.empty, Sorted.
 abbrev pub Before : Position → Position → Type 0
 Before p q = K.Before (p .key) (q .key)
 
-pub position-order : Order earlier Before
+pub position-order : Ordering earlier Before
 position-order = record { says = λ p q. test-before (p .key) (q .key); tests = before-test; chains = before-trans }
 
 -- ---- booking
@@ -64,7 +64,7 @@ unfolding booked
 all-booked q [] h f none = more h none
 all-booked {P} q (p ∷ ps) h f (more k s) = go (place (q .key) (p .key)) (all-booked q ps h f s)
   where
-    go : Place (q .key) (p .key) → All P (booked q ps) → All P (booked q (p ∷ ps))
+    go : KeyPlace (q .key) (p .key) → All P (booked q ps) → All P (booked q (p ∷ ps))
     go (same a c) i = rw (booked-same q p ps c) (more (f p k) s)
     go (ahead a b c) i = rw (booked-ahead q p ps b c) (more h (more k s))
     go (behind a b c) i = rw (booked-behind q p ps b c) (more k i)
@@ -78,7 +78,7 @@ unfolding booked
 booked-sorted q empty = next none empty
 booked-sorted q (next {x = p} {xs = ps} a s) = go (place (q .key) (p .key)) (booked-sorted q s)
   where
-    go : Place (q .key) (p .key) → Sorted Before (booked q ps) → Sorted Before (booked q (p ∷ ps))
+    go : KeyPlace (q .key) (p .key) → Sorted Before (booked q ps) → Sorted Before (booked q (p ∷ ps))
     go (same b c) i = rw (booked-same q p ps c) (next a s)
     go (ahead h b c) i = rw (booked-ahead q p ps b c) (next (more {x = p} h (all-before position-order {x = q} {y = p} h a)) (next a s))
     go (behind h b c) i = rw (booked-behind q p ps b c) (next (all-booked q ps h (λ r k. k) a) i)
@@ -104,7 +104,7 @@ unfolding booked isOpen any
 booked-length q empty = refl
 booked-length q (next {x = p} {xs = ps} a s) = go (place (q .key) (p .key)) (isOpen (q .key) ps) refl (booked-length q s)
   where
-    go : Place (q .key) (p .key) → (t : Bool) → isOpen (q .key) ps ≡ t → length (booked q ps) ≡ cond t (length ps) (suc (length ps))
+    go : KeyPlace (q .key) (p .key) → (t : Bool) → isOpen (q .key) ps ≡ t → length (booked q ps) ≡ cond t (length ps) (suc (length ps))
         → length (booked q (p ∷ ps)) ≡ cond (isOpen (q .key) (p ∷ ps)) (suc (length ps)) (suc (suc (length ps)))
     go (same b c) t o i = rw (booked-same q p ps c, open-same q p ps c)
     go (ahead h b c) t o i = rw (booked-ahead q p ps b c, not-open q (more {x = p} h (all-before position-order {x = q} {y = p} h a)))
@@ -154,20 +154,20 @@ good-all none = refl
 good-all (more g s) = cond-both _ _ (good-test g) (good-all s)
 
 -- 15 lets both totals pass
-pub record Passes (q : Position) (ps : List Position) : Type 0 where
+pub record UnderLimit (q : Position) (ps : List Position) : Type 0 where
   pub transferred : positionOf (q .key) ps .transferred + q .transferred ≤ limit
   pub detailed : positionOf (q .key) ps .detailed + q .detailed ≤ limit
 
 module _ {day : ℕ} (q : Position) (b : isBank (q .key .bank) ≡ true) (d : exists (q .key .date) ≡ true) (l : q .key .date ≤ day) where
-  own : {ps : List Position} → Passes q ps → Good day q
+  own : {ps : List Position} → UnderLimit q ps → Good day q
   own t = record { bank = b; date = d; past = l; transferred = omega (arith, t .transferred); detailed = omega (arith, t .detailed) }
 
-  pub booked-good : {ps : List Position} → Passes q ps → All (Good day) ps → All (Good day) (booked q ps)
+  pub booked-good : {ps : List Position} → UnderLimit q ps → All (Good day) ps → All (Good day) (booked q ps)
   unfolding booked
   booked-good t none = more (own t) none
   booked-good t (more {x = p} {xs = ps} g s) = go (place (q .key) (p .key)) (λ u. booked-good u s)
     where
-      go : Place (q .key) (p .key) → (Passes q ps → All (Good day) (booked q ps)) → All (Good day) (booked q (p ∷ ps))
+      go : KeyPlace (q .key) (p .key) → (UnderLimit q ps → All (Good day) (booked q ps)) → All (Good day) (booked q (p ∷ ps))
       go (same f c) i =
           let z : positionOf (q .key) (p ∷ ps) ≡ p = found-same q p ps c in
           rw (booked-same q p ps c) (more record { bank = g .bank; date = g .date; past = g .past; transferred = rw z at (t .transferred); detailed = rw z at (t .detailed) } s)

@@ -12,7 +12,7 @@ use Rattle.rules.specs.Engine.{Reference, sameReference, precedes, filed, goodR
 use Rattle.laws.specs.Tests.{cond-right}
 use Rattle.engine_laws.specs.Facts.{never, cond-left, cond-both, or-left, or-right, any-left, any-right, any-neither}
 use Rattle.engine_laws.specs.Layout.{All, All.none, All.more}
-use Rattle.engine_laws.specs.Order.{Order, Sorted, Sorted.empty, Sorted.next, all-before}
+use Rattle.engine_laws.specs.Order.{Ordering, Sorted, Sorted.empty, Sorted.next, all-before}
 
 -- ---- byte order of texts
 
@@ -95,7 +95,7 @@ unfolding precedes
 precedes-tests {r} {q} (sender h) = rw (lt-leb (q .sender) (r .sender) h)
 precedes-tests {r} {q} (text e k) = rw (le-leb (q .sender) (r .sender) (omega arith), eq-eqb (r .sender) (q .sender) e, ahead-tests k)
 
-pub reference-order : Order precedes Precedes
+pub reference-order : Ordering precedes Precedes
 reference-order = record { says = precedes-says; tests = precedes-tests; chains = precedes-trans }
 
 -- one that precedes another is not the same

@@ -13,7 +13,7 @@ use Rattle.rules.specs.Messages as M
 use Rattle.rules.specs.Messages.{TakenDetail, detailOf, takeDetail}
 use Rattle.laws.specs.Parts.{from}
 use Rattle.forms.specs.Table.{table, part}
-use Rattle.forms.specs.Spans.{Within, within-at, held, held-line}
+use Rattle.forms.specs.Spans.{SpansWithin, within-at, held, held-line}
 use Rattle.forms.specs.Rows.{RowsAt}
 use Rattle.forms.specs.Three.{sumIn, dateIn, sum-small, three, three-on, no-first, no-second, no-third, all-three}
 use Rattle.forms.specs.declared.rows.Rows.{Rows}
@@ -31,7 +31,7 @@ detailedOf s r = cond (r .ok) (some record { detail = detailHeld s r; others = f
 pub record DetailAt (s : List ℕ) (at : ℕ) (r : Detail) : Type 0 where
   pub same : detailedOf s r ≡ takeDetail (from s at)
   pub next : r .next ≤ length s
-  pub within : Within s (r .spans)
+  pub within : SpansWithin s (r .spans)
   pub small : r .amount < 10 ^ 16
 
 detail-rows : part 23 17 ≡ detailRows

@@ -15,7 +15,7 @@ use Rattle.laws.specs.Tests.{never}
 use Rattle.lines.specs.Answers.{LineAt, LineEnd, NoLine, line-told, no-line-told}
 use Rattle.lines.specs.declared.line.Next.{Next}
 use Rattle.forms.specs.Table.{rowOf, codeAt, RowAt, row-told, part, part-none, part-step}
-use Rattle.forms.specs.Spans.{spanOf, noSpan, SpanIs, SpanIn, Within, within-none, within-set, held, held-none, held-more}
+use Rattle.forms.specs.Spans.{spanOf, noSpan, SpanIs, SpanIn, SpansWithin, within-none, within-set, held, held-none, held-more}
 use Rattle.forms.specs.declared.rows.Held.{Held}
 use Rattle.forms.specs.declared.rows.Span.{Span}
 use Rattle.forms.specs.declared.rows.Rows.{Rows}
@@ -29,7 +29,7 @@ rowsOf s count r = cond (r .ok) (some record { rows = held s (r .spans) count; o
 pub record RowsAt (s : List ℕ) (at first count : ℕ) (r : Rows) : Type 0 where
   pub same : rowsOf s count r ≡ takeRows (part first count) (from s at)
   pub next : r .next ≤ length s
-  pub within : Within s (r .spans)
+  pub within : SpansWithin s (r .spans)
 
 -- ---- lines before others
 
@@ -128,7 +128,7 @@ pub record Rowing (s : List ℕ) (at first count : ℕ) (l : List Span) (pos i :
   pub place : pos ≤ length s
   pub size : length l ≡ 23
   pub same : leadRows (held s l i) (takeRows (part (first + i) (count - i)) (from s pos)) ≡ takeRows (part first count) (from s at)
-  pub within : Within s l
+  pub within : SpansWithin s l
 
 module _ (s : List ℕ) (at f n : ℕ) where
   pub rows-start : at ≤ length s → Rowing s at f n (replicate 23 noSpan) at 0

@@ -31,16 +31,16 @@ pub record SpanIn (s : List ℕ) (p : Span) : Type 0 where
 -- ---- a list of parts
 
 -- each lies within the text
-pub record Within (s : List ℕ) (l : List Span) : Type 0 where
+pub record SpansWithin (s : List ℕ) (l : List Span) : Type 0 where
   pub span : (i : ℕ) → SpanIn s (getD l i noSpan)
 
-pub within-at : (s : List ℕ) (l : List Span) (i : ℕ) → Within s l → SpanIn s (getD l i noSpan)
+pub within-at : (s : List ℕ) (l : List Span) (i : ℕ) → SpansWithin s l → SpanIn s (getD l i noSpan)
 within-at s l i w = w .span i
 
-pub within-order : (s : List ℕ) (l : List Span) (i : ℕ) → Within s l → getD l i noSpan .start ≤ getD l i noSpan .end
+pub within-order : (s : List ℕ) (l : List Span) (i : ℕ) → SpansWithin s l → getD l i noSpan .start ≤ getD l i noSpan .end
 within-order s l i w = w .span i .order
 
-pub within-none : (s : List ℕ) (n : ℕ) → Within s (replicate n noSpan)
+pub within-none : (s : List ℕ) (n : ℕ) → SpansWithin s (replicate n noSpan)
 within-none s n = record { span = go n }
   where
     go : (n i : ℕ) → SpanIn s (getD (replicate n noSpan) i noSpan)
@@ -48,7 +48,7 @@ within-none s n = record { span = go n }
     go (suc n) zero = record { order = omega arith; room = omega arith }
     go (suc n) (suc i) = go n i
 
-pub within-set : (s : List ℕ) (l : List Span) (k : ℕ) (p : Span) → Within s l → SpanIn s p → Within s (set l k p)
+pub within-set : (s : List ℕ) (l : List Span) (k : ℕ) (p : Span) → SpansWithin s l → SpanIn s p → SpansWithin s (set l k p)
 within-set s l k p w h = record { span = go l k (w .span) }
   where
     go : (l : List Span) (k : ℕ) → ((i : ℕ) → SpanIn s (getD l i noSpan)) → (i : ℕ) → SpanIn s (getD (set l k p) i noSpan)

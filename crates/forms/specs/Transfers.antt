@@ -13,7 +13,7 @@ use Rattle.rules.specs.Messages.{Message, mt103, transferOf, readTransfer}
 use Rattle.laws.specs.Parts.{from}
 use Rattle.rule_laws.specs.Lines.{body-from}
 use Rattle.forms.specs.Table.{table, part}
-use Rattle.forms.specs.Spans.{Within, within-at, held, held-line}
+use Rattle.forms.specs.Spans.{SpansWithin, within-at, held, held-line}
 use Rattle.forms.specs.Rows.{RowsAt}
 use Rattle.forms.specs.Three.{sumIn, dateIn, sum-small, three, three-on, no-first, no-second, no-third, all-three}
 use Rattle.forms.specs.declared.rows.Rows.{Rows}
@@ -29,7 +29,7 @@ messageHeld s r = cond (r .ok) (some (mt103 (transferHeld s r))) none
 -- it is the message's
 pub record TransferIn (s : List ℕ) (r : Transfer) : Type 0 where
   pub same : messageHeld s r ≡ readTransfer s
-  pub within : Within s (r .spans)
+  pub within : SpansWithin s (r .spans)
   pub small : r .amount < 10 ^ 16
 
 transfer-rows : part 0 23 ≡ transferRows

@@ -73,7 +73,7 @@ module _ {a b : List ℕ} {here there : ℕ} where
 -- ---- a record's place, for an area of a size
 
 -- before record i of count there is room for one more: those from i on go up by a record
-pub record Opens (base w count i size : ℕ) : Type 0 where
+pub record RoomFor (base w count i size : ℕ) : Type 0 where
   pub low : i ≤ count
   pub parts : w * i + w * (count - i) ≡ w * count
   pub room : base + w * count + w ≤ size
@@ -83,7 +83,7 @@ pub record Lowers (base w i j size : ℕ) : Type 0 where
   pub order : w * j ≤ w * i
   pub room : base + w * i + w ≤ size
 
-pub opens : (base w count i size : ℕ) → i ≤ count → base + w * suc count ≤ size → Opens base w count i size
+pub opens : (base w count i size : ℕ) → i ≤ count → base + w * suc count ≤ size → RoomFor base w count i size
 opens base w count i size h l = record {
   low = h;
   parts = sym (mul-add w i (count - i)) ∙ ap (λ (k : ℕ). w * k) (omega arith);

@@ -29,7 +29,7 @@ abbrev pub ahead : List ℕ → Seen → ℕ
 ahead s r = cond (r .more) (length s + 1 - r .at) 0
 
 -- behind a line at `at` there is less to see
-pub record Behind (s : List ℕ) (at : ℕ) (r : Seen) : Type 0 where
+pub record SeenBehind (s : List ℕ) (at : ℕ) (r : Seen) : Type 0 where
   pub seeing : Seeing s r
   pub less : ahead s r < length s + 1 - at
 
@@ -41,20 +41,20 @@ none-seen s = record { going = λ h. record { place = ltb-true _ _ h; same = rw 
 
 module _ (s : List ℕ) (at : ℕ) (t : ToSee s at) where
   -- behind the last line, and where there is none
-  all-seen : (b : Bool) (e : ℕ) → b ≡ inLines (lines s) → Behind s at record { more = false; closed = b; at = e }
+  all-seen : (b : Bool) (e : ℕ) → b ≡ inLines (lines s) → SeenBehind s at record { more = false; closed = b; at = e }
   all-seen b e u = record { seeing = record { going = λ h. never h; done = λ h. u }; less = let k = t .place in omega arith }
 
-  pub none-left : NoLine s at → Behind s at record { more = false; closed = false; at = at }
+  pub none-left : NoLine s at → SeenBehind s at record { more = false; closed = false; at = at }
   none-left n = all-seen false at (closes-bad s at _ (t .same) _ refl n)
 
   module _ (e : ℕ) (l : LineEnd s at e) where
-    pub line-seen : e + 2 < length s → Behind s at record { more = true; closed = false; at = e + 2 }
+    pub line-seen : e + 2 < length s → SeenBehind s at record { more = true; closed = false; at = e + 2 }
     line-seen h = record {
       seeing = record { going = λ _. record { place = h; same = closes-on s at _ (t .same) _ refl (closing-later s at e l h) e l }; done = λ g. never (sym g) };
       less = let m = l .start in omega arith;
     }
 
-    pub last-seen : length s ≤ e + 2 → (b : Bool) → b ≡ closing (from s at) → Behind s at record { more = false; closed = b; at = e + 2 }
+    pub last-seen : length s ≤ e + 2 → (b : Bool) → b ≡ closing (from s at) → SeenBehind s at record { more = false; closed = b; at = e + 2 }
     last-seen h true u = all-seen true (e + 2) (closes-now s at _ (t .same) true u refl)
     last-seen h false u = all-seen false (e + 2) (closes-never s (e + 2) _ (closes-on s at _ (t .same) false u refl e l) h)
 

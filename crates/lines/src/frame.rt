@@ -10,7 +10,7 @@ ghost use lib.ListN.{length};
 ghost use Rattle.rules.specs.Lines.{lines, inLines, closing, framed};
 ghost use Rattle.laws.specs.Parts.{from};
 ghost use Rattle.lines.specs.Answers.{LineAt};
-ghost use Rattle.lines.specs.Seen.{Seeing, ToSee, Behind};
+ghost use Rattle.lines.specs.Seen.{Seeing, ToSee, SeenBehind};
 
 // Is all that is left from `at` on the closing line?
 pub fn closes_at(s: &[u8], at: usize) -> bool
@@ -44,7 +44,7 @@ fn none_seen(s: &[u8]) -> Seen
 // Behind the line that the reader handed out at `at`.
 fn line_seen(s: &[u8], line: Next, at: usize) -> Seen
     requires { ⌜ ToSee (now s) at × LineAt (now s) at line ⌝ }
-    ensures { λ r. ⌜ Behind (now (s .entry)) at r ⌝ }
+    ensures { λ r. ⌜ SeenBehind (now (s .entry)) at r ⌝ }
 {
     match line {
         Next::Line(e) => {

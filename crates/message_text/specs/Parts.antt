@@ -14,7 +14,7 @@ use Rattle.rules.specs.Written.{firstLine, field, reference, linked, position79
 use Rattle.laws.specs.Writing.{Wrote, Left, left-turn, left-none, left-length, furthest}
 use Rattle.laws.specs.Pieces.{wrote-4, left-all}
 use Rattle.details.specs.Kept.{LinesIn}
-use Rattle.detail_lines.specs.Returned.{returnedAt, Passed, RowsPut}
+use Rattle.detail_lines.specs.Returned.{returnedAt, DetailsPassed, RowsPut}
 use Rattle.detail_lines.specs.declared.returned.Place.{Place}
 use Rattle.outgoing_number.specs.declared.Numbered.{Numbered}
 use Rattle.outgoing_number.specs.declared.Outgoing.{Outgoing}
@@ -78,7 +78,7 @@ module _ {r : Reference} {parts : ℕ} {s places : List ℕ} {n : ℕ} {t : Part
 -- it was written, and t' is where the parts then stand
 pub record PartPut (r : Reference) (p : Position) (parts : ℕ) (s verdicts : List ℕ) (n : ℕ) (t : Parting) (out : List ℕ) (t' : Parting) (out' : List ℕ) : Type 0 where
   pub wrote : Wrote (mt199 (r .day) (r .number - partAt parts t) p (partAt parts t) parts (take 14 (returnedAt s verdicts (t .detail) (n - t .detail)))) (t .out) out (t' .out) out'
-  pub passed : Passed s verdicts (t .detail) n 14 (t' .detail)
+  pub passed : DetailsPassed s verdicts (t .detail) n 14 (t' .detail)
   pub fewer : t' .left ≡ t .left - 1
   pub first : t' .first + partAt parts t ≡ r .number + 1
 

@@ -17,7 +17,7 @@ use Rattle.laws.specs.Parts.{cut, cut-take, cut-drop, cut-size, from, from-done
 use Rattle.laws.specs.Tests.{and-left, and-right, cond-left, cond-right, never}
 use Rattle.laws.specs.Reading.{fits-length}
 use Rattle.rule_laws.specs.Lines.{some-line}
-use Rattle.register.specs.Blocks.{crlf, inside, line-at, Stands, stands}
+use Rattle.register.specs.Blocks.{crlf, inside, line-at, LinesStand, stands}
 use Rattle.register.specs.Places.{counted, upto, place, formAt, endsAt, boundAt, ibanIn, accountIn, lineIn, count, ibansIn, accountsIn, linesIn, firstIn, againIn, lengthIn, passesIn, registerIn}
 use Rattle.register.specs.AccountLine.{accountForm, accountOn, lineOn, account-line}
 
@@ -119,7 +119,7 @@ module _ (s : List ℕ) (i : ℕ) (l : Line) (ls : List Line) (a : Account) (h :
   on : given (lineOn l) (accountOn l) ≡ some a
   on = sym (account-line l) ∙ e
 
-  it : Stands accountForm s (place i) account-inside l ls
+  it : LinesStand accountForm s (place i) account-inside l ls
   unfolding lineOn
   it = stands accountForm s (place i) account-inside l ls h (and-left _ _ (and-left _ _ (given-held (lineOn l) (accountOn l) a on)))
 
@@ -137,27 +137,27 @@ module _ (s : List ℕ) (i : ℕ) (l : Line) (ls : List Line) (a : Account) (h :
   next-within = let k : place i + 36 + 2 ≤ length s = fits-within crlf s (place i + 36) (lit< tt) (it .ended) in omega arith
 
 -- the accounts xs are those of the lines from account line i on
-record Listed (s : List ℕ) (i : ℕ) (xs : List Account) : Type 0 where
+record AccountsListed (s : List ℕ) (i : ℕ) (xs : List Account) : Type 0 where
   size : length s ≡ place (i + length xs)
   good : every (lineIn s) (counted i (length xs)) ≡ true
   same : xs ≡ map (accountIn s) (counted i (length xs))
 
-listed : (s : List ℕ) (i : ℕ) (ls : List Line) (xs : List Account) → place i ≤ length s → lines (from s (place i)) ≡ some ls → accountLines ls ≡ some xs → Listed s i xs
+listed : (s : List ℕ) (i : ℕ) (ls : List Line) (xs : List Account) → place i ≤ length s → lines (from s (place i)) ≡ some ls → accountLines ls ≡ some xs → AccountsListed s i xs
 unfolding accountLines counted every
 listed s i [] xs b h e =
     let z : length (from s (place i)) ≡ 0 = ap length (no-lines (from s (place i)) h) in
     let k : length (from s (place i)) ≡ length s - place i = from-length s (place i) in
     let n : [] ≡ xs = cc in
-    subst (Listed s i) n record { size = omega arith; good = refl; same = refl }
+    subst (AccountsListed s i) n record { size = omega arith; good = refl; same = refl }
 listed s i (l ∷ ls) xs b h e = go (accountLine l) refl (accountLines ls) refl e (λ (ys : List Account) (w : place (i + 1) ≤ length s). listed s (i + 1) ls ys w)
   where
     go : (o : Option Account) → accountLine l ≡ o → (u : Option (List Account)) → accountLines ls ≡ u → then o (λ a. Option·map (λ (more : List Account). a ∷ more) u) ≡ some xs
-        → ((ys : List Account) → place (i + 1) ≤ length s → lines (from s (place (i + 1))) ≡ some ls → accountLines ls ≡ some ys → Listed s (i + 1) ys) → Listed s i xs
+        → ((ys : List Account) → place (i + 1) ≤ length s → lines (from s (place (i + 1))) ≡ some ls → accountLines ls ≡ some ys → AccountsListed s (i + 1) ys) → AccountsListed s i xs
     go (some a) f (some ys) g e more =
         let m = more ys (next-within s i l ls a h f) (next-lines s i l ls a h f) g in
         let n : a ∷ ys ≡ xs = cc in
         let z : length s ≡ place (i + 1 + length ys) = m .size in
-        subst (Listed s i) n record {
+        subst (AccountsListed s i) n record {
           size = omega arith;
           good = rw (line-held s i l ls a h f) (m .good);
           same = rw (account-same s i l ls a h f) (ap (λ (more : List Account). accountIn s i ∷ more) (m .same));
@@ -261,11 +261,11 @@ module _ (s : List ℕ) (l : Line) (ls : List Line) (xs : List Account) (h : lin
   unfolding sound
   first-passes = and-left _ _ (and-left _ _ g)
 
-  first : Stands ibanForm s 0 iban-inside l ls
+  first : LinesStand ibanForm s 0 iban-inside l ls
   unfolding passes ibanShape
   first = stands ibanForm s 0 iban-inside l ls (rw from-all h) (and-left _ _ first-passes)
 
-  all : Listed s 0 xs
+  all : AccountsListed s 0 xs
   all =
       let k : 24 ≤ length s = fits-within crlf s 22 (lit< tt) (first .ended) in
       listed s 0 ls xs (omega arith) (first .others) e

@@ -107,12 +107,12 @@ module _ (p s : List ℕ) (at : ℕ) (i : every inside p ≡ true) where
       (fits-line p (from s at) i (rw (from-take s at n) f) (rw (from-drop s at n, from-take s (at + n) 2) g))
 
   -- the first line from a place on fits: so it stands there, and the others behind it
-  pub record Stands (l : Line) (ls : List Line) : Type 0 where
+  pub record LinesStand (l : Line) (ls : List Line) : Type 0 where
     pub same : l ≡ cut s at (at + length p)
     pub ended : fits crlf (cut s (at + length p) (at + length p + 2)) ≡ true
     pub others : lines (from s (at + length p + 2)) ≡ some ls
 
-  pub stands : (l : Line) (ls : List Line) → lines (from s at) ≡ some (l ∷ ls) → fits p l ≡ true → Stands l ls
+  pub stands : (l : Line) (ls : List Line) → lines (from s at) ≡ some (l ∷ ls) → fits p l ≡ true → LinesStand l ls
   stands l ls h f = go (lines (from s (at + length p + 2))) refl
     where
       both : (fits p (cut s at (at + length p)) ≡ true) × (fits crlf (cut s (at + length p) (at + length p + 2)) ≡ true)
@@ -120,7 +120,7 @@ module _ (p s : List ℕ) (at : ℕ) (i : every inside p ≡ true) where
           let w = line-fits p (from s at) l ls h f in
           (rw (from-take s at (length p)) at (w .0), rw (from-drop s at (length p), from-take s (at + length p) 2) at (w .1))
 
-      go : (o : Option (List Line)) → lines (from s (at + length p + 2)) ≡ o → Stands l ls
+      go : (o : Option (List Line)) → lines (from s (at + length p + 2)) ≡ o → LinesStand l ls
       go none e = absurd (let g : some (l ∷ ls) ≡ none = sym h ∙ line-at (both .0) (both .1) ∙ rw e in let z : _≡_ {A = ℕ} 0 1 = cc in omega arith)
       go (some ms) e =
           let g : some (l ∷ ls) ≡ some (cut s at (at + length p) ∷ ms) = sym h ∙ line-at (both .0) (both .1) ∙ rw e in

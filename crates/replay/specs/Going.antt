@@ -12,7 +12,7 @@ use Rattle.text.specs.declared.numbers.Num.the-variants.{Value}
 use Rattle.commands.specs.Numbers.{roomOf, room-small}
 use Rattle.day.specs.declared.onward.Onward.{Onward}
 use Rattle.day.specs.declared.onward.Onward.the-variants.{Answered, Wants}
-use Rattle.day.specs.Onwards.{Ready, Kept, Answering, Reading, OnwardTold, Onwards}
+use Rattle.day.specs.Onwards.{WindowReady, WindowKept, Answering, Reading, OnwardTold, Onwards}
 use Rattle.replay.specs.declared.words.Room.{Room}
 use Rattle.replay.specs.declared.words.Room.the-variants.{Bytes, Unknown}
 
@@ -47,15 +47,15 @@ more-read s ys n m k h e l =
 
 -- what a turn begins with, and what the first one began with
 pub record Going (s : List ℕ) (at n : ℕ) (area out shown s₀ area₀ out₀ shown₀ : List ℕ) : Type 0 where
-  pub ready : Ready s at n area out shown
-  pub kept : Kept s₀ area₀ out₀ shown₀ s area out shown
+  pub ready : WindowReady s at n area out shown
+  pub kept : WindowKept s₀ area₀ out₀ shown₀ s area out shown
 
-pub going-starts : {s area out shown : List ℕ} → Ready s 0 0 area out shown → Going s 0 0 area out shown s area out shown
+pub going-starts : {s area out shown : List ℕ} → WindowReady s 0 0 area out shown → Going s 0 0 area out shown s area out shown
 going-starts r = record { ready = r; kept = record { window = refl; size = refl; lent = refl; shows = refl } }
 
 -- a turn changes no length
 module _ {s area out shown s₀ area₀ out₀ shown₀ : List ℕ} {at n : ℕ} (g : Going s at n area out shown s₀ area₀ out₀ shown₀) {s' area' out' shown' : List ℕ} {r : Onward} (w : Onwards s at n area out shown s' area' out' shown' r) where
-  both : Kept s₀ area₀ out₀ shown₀ s' area' out' shown'
+  both : WindowKept s₀ area₀ out₀ shown₀ s' area' out' shown'
   both = record {
     window = w .kept .window ∙ g .kept .window;
     size = w .kept .size ∙ g .kept .size;
@@ -63,7 +63,7 @@ module _ {s area out shown s₀ area₀ out₀ shown₀ : List ℕ} {at n : ℕ}
     shows = w .kept .shows ∙ g .kept .shows;
   }
 
-  again : (at' n' : ℕ) → at' ≤ n' → n' ≤ length s' → Ready s' at' n' area' out' shown'
+  again : (at' n' : ℕ) → at' ≤ n' → n' ≤ length s' → WindowReady s' at' n' area' out' shown'
   again at' n' h l = record {
     order = h;
     within = l;
@@ -92,7 +92,7 @@ module _ {s area out shown s₀ area₀ out₀ shown₀ : List ℕ} {at n : ℕ}
 
     pub going-read : {m : ℕ} {s'' : List ℕ} → More s' left m s'' → Going s'' 0 m area' out' shown' s₀ area₀ out₀ shown₀
     going-read {m} {s''} v =
-        let b : Ready s' 0 0 area' out' shown' = again 0 0 (omega arith) (omega arith) in record {
+        let b : WindowReady s' 0 0 area' out' shown' = again 0 0 (omega arith) (omega arith) in record {
           ready = record { order = omega arith; within = v .within; wide = rw (v .size) (b .wide); narrow = rw (v .size) (b .narrow); long = b .long; print = b .print };
           kept = record { window = v .size ∙ both .window; size = both .size; lent = both .lent; shows = both .shows };
         }

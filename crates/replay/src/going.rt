@@ -5,7 +5,7 @@ use libc::STDOUT_FILENO;
 ghost use mathlib.Core.Path.{_≡_};
 ghost use Prim.Native.Nat.{_≤_};
 ghost use lib.ListN.{length};
-ghost use Rattle.day.specs.Onwards.{Ready};
+ghost use Rattle.day.specs.Onwards.{WindowReady};
 ghost use Rattle.replay.specs.Going.{More};
 
 // The bytes that one turn prints at most: an answer's line and the output.
@@ -27,7 +27,7 @@ fn read_more(input: &mut [u8], n: usize) -> usize
 // Turn by turn until no command follows, the input ends or nobody takes what is printed. Nothing says that an input ends, so the turns are counted
 // down from a number that no run uses up.
 fn replay_input(input: &mut [u8], area: &mut [u8], out: &mut [u8], printed: &mut [u8])
-    requires { ⌜ Ready (now input) 0 0 (now area) (now out) (now printed) ⌝ }
+    requires { ⌜ WindowReady (now input) 0 0 (now area) (now out) (now printed) ⌝ }
 {
     let mut at: usize = 0;
     let mut n: usize = 0;

@@ -23,28 +23,28 @@ conditionOf k [] = false
 conditionOf k (s ∷ ss) = let r = conditionOf k ss in cond (eqb (s .number) k) (s .holds) r
 
 -- such a list without its first
-record Rest (s : Stop) (ss : List Stop) : Type 0 where
+record NumberedRest (s : Stop) (ss : List Stop) : Type 0 where
   first : eqb (s .number) 0 ≡ false
   others : numbered ss ≡ true
 
-rest : (s : Stop) (ss : List Stop) → numbered (s ∷ ss) ≡ true → Rest s ss
+rest : (s : Stop) (ss : List Stop) → numbered (s ∷ ss) ≡ true → NumberedRest s ss
 unfolding numbered
 rest s ss h = go (eqb (s .number) 0) refl h
   where
-    go : (t : Bool) → eqb (s .number) 0 ≡ t → cond t false (numbered ss) ≡ true → Rest s ss
+    go : (t : Bool) → eqb (s .number) 0 ≡ t → cond t false (numbered ss) ≡ true → NumberedRest s ss
     go true e i = never i
     go false e i = record { first = e; others = i }
 
 -- where none holds the first does not, and none of the others
-record Passed (s : Stop) (ss : List Stop) : Type 0 where
+record FirstPassed (s : Stop) (ss : List Stop) : Type 0 where
   first : s .holds ≡ false
   others : firstOf ss ≡ 0
 
-passed : (s : Stop) (ss : List Stop) → eqb (s .number) 0 ≡ false → firstOf (s ∷ ss) ≡ 0 → Passed s ss
+passed : (s : Stop) (ss : List Stop) → eqb (s .number) 0 ≡ false → firstOf (s ∷ ss) ≡ 0 → FirstPassed s ss
 unfolding firstOf
 passed s ss n h = go (s .holds) refl h
   where
-    go : (t : Bool) → s .holds ≡ t → cond t (s .number) (firstOf ss) ≡ 0 → Passed s ss
+    go : (t : Bool) → s .holds ≡ t → cond t (s .number) (firstOf ss) ≡ 0 → FirstPassed s ss
     go true e i = never (sym n ∙ eq-eqb (s .number) 0 i)
     go false e i = record { first = e; others = i }
 
@@ -53,8 +53,8 @@ pub none-holds : (k : ℕ) (ss : List Stop) → numbered ss ≡ true → firstOf
 unfolding conditionOf
 none-holds k [] n h = refl
 none-holds k (s ∷ ss) n h =
-    let r : Rest s ss = rest s ss n in
-    let p : Passed s ss = passed s ss (r .first) h in
+    let r : NumberedRest s ss = rest s ss n in
+    let p : FirstPassed s ss = passed s ss (r .first) h in
     go (eqb (s .number) k) (p .first) (none-holds k ss (r .others) (p .others))
   where
     go : (t : Bool) → s .holds ≡ false → conditionOf k ss ≡ false → cond t (s .holds) (conditionOf k ss) ≡ false
@@ -68,8 +68,8 @@ pub first-later : (a b : List Stop) → numbered a ≡ true → firstOf a ≡ 0 
 unfolding firstOf
 first-later [] b n e = refl
 first-later (s ∷ a) b n e =
-    let r : Rest s a = rest s a n in
-    let p : Passed s a = passed s a (r .first) e in
+    let r : NumberedRest s a = rest s a n in
+    let p : FirstPassed s a = passed s a (r .first) e in
     rw (p .first) (first-later a b (r .others) (p .others))
 
 -- one of the first list holds

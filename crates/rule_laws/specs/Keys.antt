@@ -103,27 +103,27 @@ before-first {k} {l} b = go (keyBefore l k) refl
 
 -- ---- where k belongs against l: it is the same, before it, or behind it
 
-pub data Place (k l : Key) : Type 0 where
-  same : l ≡ k → sameKey l k ≡ true → Place k l
-  ahead : Before k l → sameKey l k ≡ false → keyBefore k l ≡ true → Place k l
-  behind : Before l k → sameKey l k ≡ false → keyBefore k l ≡ false → Place k l
+pub data KeyPlace (k l : Key) : Type 0 where
+  same : l ≡ k → sameKey l k ≡ true → KeyPlace k l
+  ahead : Before k l → sameKey l k ≡ false → keyBefore k l ≡ true → KeyPlace k l
+  behind : Before l k → sameKey l k ≡ false → keyBefore k l ≡ false → KeyPlace k l
 
-pub place : (k l : Key) → Place k l
+pub place : (k l : Key) → KeyPlace k l
 place k l = go (leb (l .bank) (k .bank)) (leb (k .bank) (l .bank)) (leb (l .date) (k .date)) (leb (k .date) (l .date)) refl refl refl refl
   where
-    first : Before k l → Place k l
+    first : Before k l → KeyPlace k l
     first b = ahead b (behind-other b) (before-test b)
 
-    last : Before l k → Place k l
+    last : Before l k → KeyPlace k l
     last b = behind b (before-other b) (before-first b)
 
-    self : l ≡ k → Place k l
+    self : l ≡ k → KeyPlace k l
     self e = same e (rw e (same-self k))
 
     banks : leb (l .bank) (k .bank) ≡ true → leb (k .bank) (l .bank) ≡ true → l .bank ≡ k .bank
     banks a b = omega (arith, leb-true (l .bank) (k .bank) a, leb-true (k .bank) (l .bank) b)
 
-    go : (s t u v : Bool) → leb (l .bank) (k .bank) ≡ s → leb (k .bank) (l .bank) ≡ t → leb (l .date) (k .date) ≡ u → leb (k .date) (l .date) ≡ v → Place k l
+    go : (s t u v : Bool) → leb (l .bank) (k .bank) ≡ s → leb (k .bank) (l .bank) ≡ t → leb (l .date) (k .date) ≡ u → leb (k .date) (l .date) ≡ v → KeyPlace k l
     go false t u v a b c d = first (bank (leb-false (l .bank) (k .bank) a))
     go true false u v a b c d = last (bank (leb-false (k .bank) (l .bank) b))
     go true true false v a b c d = first (date (sym (banks a b)) (leb-false (l .date) (k .date) c))
@@ -137,7 +137,7 @@ place k l = go (leb (l .bank) (k .bank)) (leb (k .bank) (l .bank)) (leb (l .date
 pub gives-way : (k l : Key) → keyBefore k l ≡ false → sameKey k l ≡ false → keyBefore l k ≡ true
 gives-way k l h i = go (place l k)
   where
-    go : Place l k → keyBefore l k ≡ true
+    go : KeyPlace l k → keyBefore l k ≡ true
     go (same e s) = never (sym i ∙ s)
     go (ahead b s t) = t
     go (behind b s t) = never (sym h ∙ before-test b)

@@ -14,7 +14,7 @@ use Rattle.engine.specs.Positions.{positionsFrom}
 use Rattle.engine.specs.Held.{positions-are}
 use Rattle.outgoing_number.specs.declared.Numbered.{Numbered}
 use Rattle.turn_text.specs.declared.turn.Correcting.{Correcting}
-use Rattle.turn_text.specs.Turn.{temporaryAt, Found, CorrectionsPut}
+use Rattle.turn_text.specs.Turn.{temporaryAt, NextFound, CorrectionsPut}
 
 -- the text of a turn was written, and the count is that of its corrections
 pub record TurnPut (area : List ℕ) (day at : ℕ) (out : List ℕ) (r : Numbered) (out' : List ℕ) : Type 0 where
@@ -28,7 +28,7 @@ module _ (area : List ℕ) (day : ℕ) (x : Header) (h : isSome (holds area) ≡
 
   -- "Posting lines come first, .. then messages."
   pub turn-wrote : {at m : ℕ} {r : Numbered} {out out₁ out₂ : List ℕ} {first : Correcting} (temporary : List ℕ) → temporary ≡ temporaryAt area → Wrote (correctionPostings day temporary (positionsFrom area 0 (x .positions))) at out m out₁
-      → Found area m 0 (x .positions) first → CorrectionsPut day area first out₁ r out₂ → TurnPut area day at out r out₂
+      → NextFound area m 0 (x .positions) first → CorrectionsPut day area first out₁ r out₂ → TurnPut area day at out r out₂
   turn-wrote temporary e v f w = record {
     wrote = rw (← turn-text) (wrote-then (rw e at v) (rw (f .alike .texts day (temporaryAt area) 0, ← f .behind) (w .wrote)));
     count = w .count ∙ sym (f .alike .counts) ∙ rw (positions-are area h x n);

@@ -32,7 +32,7 @@ pub record Adds (p : Position) (s r : Sums) : Type 0 where
   pub collected : r .collected ≡ s .collected + collectionOf p
 
 -- the sums of some positions, 32 of them at most
-pub record Totals (ps : List Position) (r : Sums) : Type 0 where
+pub record SumsOf (ps : List Position) (r : Sums) : Type 0 where
   pub refunded : r .refunded ≡ refunded ps
   pub collected : r .collected ≡ collected ps
   pub small : r .refunded ≤ 2 ^ 53
@@ -121,7 +121,7 @@ module _ (area : List ℕ) (i k n : ℕ) (s : Sums) (l : SumsLeft area i k n s) 
         little = omega (arith, l .little, d .collected, collection-small x, a .detailed);
       }
 
-  pub sums-end : k ≤ 0 → n ≤ 32 → Totals (positionsFrom area 0 n) s
+  pub sums-end : k ≤ 0 → n ≤ 32 → SumsOf (positionsFrom area 0 n) s
   unfolding refunded collected
   sums-end h m =
       let e : positionsFrom area i k ≡ [] = positions-none area i k h in
@@ -133,7 +133,7 @@ module _ (area : List ℕ) (i k n : ℕ) (s : Sums) (l : SumsLeft area i k n s) 
       }
 
 -- the positions of the engine that the area holds
-pub sums-held : (area : List ℕ) (x : Header) (s : Sums) → isSome (holds area) ≡ true → HeaderOf area x → Totals (positionsFrom area 0 (x .positions)) s → Totals (decode area .positions) s
-sums-held area x s h n t = subst (λ (ps : List Position). Totals ps s) (sym (positions-are area h x n)) t
+pub sums-held : (area : List ℕ) (x : Header) (s : Sums) → isSome (holds area) ≡ true → HeaderOf area x → SumsOf (positionsFrom area 0 (x .positions)) s → SumsOf (decode area .positions) s
+sums-held area x s h n t = subst (λ (ps : List Position). SumsOf ps s) (sym (positions-are area h x n)) t
 
 pub ruleset summing = (adds-nothing, adds-some, sums-all, sums-more, sums-end, sums-held, decoded-room)

@@ -62,20 +62,20 @@ pub record Alike (ps qs : List Position) : Type 0 where
   pub counts : correctedCount ps ≡ correctedCount qs
 
 -- the positions that are left are among the 32, and the first of them is to correct
-pub record Stands (area : List ℕ) (t : Correcting) : Type 0 where
+pub record ToCorrect (area : List ℕ) (t : Correcting) : Type 0 where
   pub good : isSome (holds area) ≡ true
   pub few : t .at + t .left ≤ 32
   pub due : 0 < t .left → corrected (nthPosition area (t .at)) ≡ true
 
 -- a message is due at t
 pub record Due (area : List ℕ) (t : Correcting) : Type 0 where
-  pub stands : Stands area t
+  pub stands : ToCorrect area t
   pub some : 0 < t .left
 
 -- t is where some positions from a number on have their first to correct
-pub record Found (area : List ℕ) (out from left : ℕ) (t : Correcting) : Type 0 where
+pub record NextFound (area : List ℕ) (out from left : ℕ) (t : Correcting) : Type 0 where
   pub behind : t .out ≡ out
-  pub stands : Stands area t
+  pub stands : ToCorrect area t
   pub fewer : t .left ≤ left
   pub alike : Alike (positionsFrom area from left) (positionsFrom area (t .at) (t .left))
 
@@ -91,7 +91,7 @@ seek-all area from left g f = record { good = g; few = f; fewer = omega arith; a
 
 module _ (area : List ℕ) (from left p k : ℕ) (s : Seeking area from left p k) where
   module _ (h : 0 < k) (q : P.Position) (r : PositionAt area (positionsPlace + recordSize * p) q) (b : Bool) (u : b ≡ corrected (positionValue q)) where
-    pub seek-found : b ≡ true → (out : ℕ) → Found area out from left (record { out = out; at = p; left = k })
+    pub seek-found : b ≡ true → (out : ℕ) → NextFound area out from left (record { out = out; at = p; left = k })
     seek-found e out = record {
       behind = refl;
       stands = record { good = s .good; few = s .few; due = λ _. rw (← r .value, ← u) e };
@@ -113,7 +113,7 @@ module _ (area : List ℕ) (from left p k : ℕ) (s : Seeking area from left p k
       alike = record { texts = λ day t n. s .alike .texts day t n ∙ passed-by e .texts day t n; counts = s .alike .counts ∙ passed-by e .counts };
     }
 
-  pub seek-none : k ≤ 0 → (out : ℕ) → Found area out from left (record { out = out; at = p; left = 0 })
+  pub seek-none : k ≤ 0 → (out : ℕ) → NextFound area out from left (record { out = out; at = p; left = 0 })
   seek-none h out =
       let e : k ≡ 0 = omega arith in record {
         behind = refl;
@@ -131,13 +131,13 @@ temporaryAt area = registerOf (decode area .register) .temporary
 -- the message at t was written by the reference r, and t' is the next
 pub record CorrectionPut (area : List ℕ) (t : Correcting) (r : Reference) (out : List ℕ) (t' : Correcting) (out' : List ℕ) : Type 0 where
   pub wrote : Wrote (correction (r .day) (temporaryAt area) (r .number) (nthPosition area (t .at))) (t .out) out (t' .out) out'
-  pub stands : Stands area t'
+  pub stands : ToCorrect area t'
   pub fewer : t' .left < t .left
   pub alike : Alike (positionsFrom area (t .at + 1) (t .left - 1)) (positionsFrom area (t' .at) (t' .left))
 
 pub correction-put : (area : List ℕ) (t : Correcting) (r : Reference) → Due area t → (q : P.Position) → PositionAt area (positionsPlace + recordSize * t .at) q → (temporary : List ℕ) → temporary ≡ temporaryAt area
     → {o : ℕ} {out out' : List ℕ} → Wrote (correction (r .day) temporary (r .number) (positionValue q)) (t .out) out o out'
-    → {t' : Correcting} → Found area o (t .at + 1) (t .left - 1) t' → CorrectionPut area t r out t' out'
+    → {t' : Correcting} → NextFound area o (t .at + 1) (t .left - 1) t' → CorrectionPut area t r out t' out'
 correction-put area t r d q a temporary e w f = record {
   wrote = rw (f .behind, ← a .value, ← e) w;
   stands = f .stands;
@@ -153,12 +153,12 @@ pub record CorrectionsPut (day : ℕ) (area : List ℕ) (first : Correcting) (st
 -- by the outgoing number as it is kept, the messages from t on are left to write
 pub record CorrectionsLeft (day : ℕ) (area : List ℕ) (first : Correcting) (start : List ℕ) (o : Outgoing) (t : Correcting) (out : List ℕ) : Type 0 where
   pub on-day : o .day ≡ day
-  pub stands : Stands area t
+  pub stands : ToCorrect area t
   pub room : o .count + t .left ≤ 32
   pub count : o .count + correctedCount (positionsFrom area (t .at) (t .left)) ≡ correctedCount (positionsFrom area (first .at) (first .left))
   pub text : Left (corrections day (temporaryAt area) (o .count) (positionsFrom area (t .at) (t .left))) (t .out) out (corrections day (temporaryAt area) 0 (positionsFrom area (first .at) (first .left))) (first .out) start
 
-pub corrections-start : (day : ℕ) (area : List ℕ) (first : Correcting) (start : List ℕ) → Stands area first → length start ≤ furthest → CorrectionsLeft day area first start (record { day = day; count = 0 }) first start
+pub corrections-start : (day : ℕ) (area : List ℕ) (first : Correcting) (start : List ℕ) → ToCorrect area first → length start ≤ furthest → CorrectionsLeft day area first start (record { day = day; count = 0 }) first start
 corrections-start day area first start s h = record { on-day = refl; stands = s; room = omega (arith, s .few); count = omega arith; text = left-all _ h }
 
 module _ {day : ℕ} {area : List ℕ} {first : Correcting} {start : List ℕ} {o : Outgoing} {t : Correcting} {out : List ℕ} (l : CorrectionsLeft day area first start o t out) where

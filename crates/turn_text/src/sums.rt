@@ -10,7 +10,7 @@ ghost use Rattle.rules.specs.Text.{isSome};
 ghost use Rattle.rules.specs.Area.{decode, holds, textsPlace};
 ghost use Rattle.position.specs.Values.{positionValue};
 ghost use Rattle.engine.specs.Positions.{positionsFrom};
-ghost use Rattle.turn_text.specs.Sums.{Adds, Totals};
+ghost use Rattle.turn_text.specs.Sums.{Adds, SumsOf};
 
 // The sum refunded and the sum collected.
 pub struct Sums {
@@ -47,7 +47,7 @@ fn with_position(s: Sums, p: Position) -> Sums
 fn sums_of(area: &[u8], n: u32) -> Sums
     requires { ⌜ n ≤ 32 ⌝ }
     requires { ⌜ textsPlace ≤ length (now area) ⌝ }
-    ensures { λ r. ⌜ Totals (positionsFrom (now (area .entry)) 0 n) r ⌝ }
+    ensures { λ r. ⌜ SumsOf (positionsFrom (now (area .entry)) 0 n) r ⌝ }
 {
     let mut s = Sums {
         refunded: 0,
@@ -66,7 +66,7 @@ fn sums_of(area: &[u8], n: u32) -> Sums
 // The sums of a turn.
 pub fn turn_sums(area: &[u8]) -> Sums
     requires { ⌜ isSome (holds (now area)) ≡ true ⌝ }
-    ensures { λ r. ⌜ Totals (decode (now (area .entry)) .positions) r ⌝ }
+    ensures { λ r. ⌜ SumsOf (decode (now (area .entry)) .positions) r ⌝ }
 {
     let h = header_of(area);
     sums_of(area, h.positions)

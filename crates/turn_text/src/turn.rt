@@ -18,7 +18,7 @@ ghost use Rattle.rules.specs.Written.{correctionPostings};
 ghost use Rattle.rules.specs.Area.{holds, textsPlace};
 ghost use Rattle.laws.specs.Writing.{Wrote};
 ghost use Rattle.engine.specs.Positions.{positionsFrom};
-ghost use Rattle.turn_text.specs.Turn.{Stands, Due, Found, CorrectionPut, CorrectionsPut};
+ghost use Rattle.turn_text.specs.Turn.{ToCorrect, Due, NextFound, CorrectionPut, CorrectionsPut};
 ghost use Rattle.turn_text.specs.Area.{TurnPut};
 
 // The posting lines of the n positions, in their order.
@@ -65,7 +65,7 @@ pub struct Correcting {
 fn next_corrected(area: &[u8], out: usize, from: u32, left: u32) -> Correcting
     requires { ⌜ from + left ≤ 32 ⌝ }
     requires { ⌜ isSome (holds (now area)) ≡ true ⌝ }
-    ensures { λ r. ⌜ Found (now (area .entry)) out from left r ⌝ }
+    ensures { λ r. ⌜ NextFound (now (area .entry)) out from left r ⌝ }
 {
     let mut i = from;
     let mut k = left;
@@ -100,7 +100,7 @@ fn put_next(out: &mut [u8], t: Correcting, r: Reference, area: &[u8]) -> Correct
 
 // The messages of the positions to correct, each by the next reference of the day.
 fn put_corrections(out: &mut [u8], first: Correcting, day: u32, area: &[u8]) -> Numbered
-    requires { ⌜ Stands (now area) first ⌝ }
+    requires { ⌜ ToCorrect (now area) first ⌝ }
     ensures { λ r. ⌜ CorrectionsPut day (now (area .entry)) first (now (out .entry)) r (now (out .exit)) ⌝ }
 {
     let mut o = Outgoing { day, count: 0 };

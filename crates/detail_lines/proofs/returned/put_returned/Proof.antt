@@ -5,13 +5,13 @@ use native.Mathlib.Omega.{arith}
 use Rattle.rules.specs.Written.{allReturned}
 use Rattle.laws.specs.Pieces.{left-all}
 use Rattle.laws.specs.Writing.{Left}
-use Rattle.detail_lines.specs.Returned.{returnedAt, Passing, passing-start, passing-more, passing-on, rows-more, rows-pass, returning}
+use Rattle.detail_lines.specs.Returned.{returnedAt, DetailsPassing, passing-start, passing-more, passing-on, rows-more, rows-pass, returning}
 use borrow.Author.Needs.{needs}
 use Rattle.detail_lines.proofs.returned.put_returned.Statement.{statement}
 use Rattle.detail_lines.proofs.returned.put_returned.Tie as tie
 
 abbrev Inv-loop : tie.InvT-loop
-Inv-loop out₀ at s amounts places verdicts first n most o₀ i₀ m₀ out o i m = (i ≤ n) × Passing s verdicts first n most i m × Left (allReturned (take m (returnedAt s verdicts i (n - i)))) o out (allReturned (take most (returnedAt s verdicts first (n - first)))) at out₀
+Inv-loop out₀ at s amounts places verdicts first n most o₀ i₀ m₀ out o i m = (i ≤ n) × DetailsPassing s verdicts first n most i m × Left (allReturned (take m (returnedAt s verdicts i (n - i)))) o out (allReturned (take most (returnedAt s verdicts first (n - first)))) at out₀
 
 abbrev μ-loop : tie.MeasureT-loop
 μ-loop out₀ at s amounts places verdicts first n most o₀ i₀ m₀ out o i m = n - i

@@ -38,7 +38,7 @@ use denote.Triple.Statement.{Triple}
 use denote.Triple.Table.{entered, cited}
 use Rattle.laws.specs.Walks.{Promise, Left, cell, room, calls, ends, gone, by-walk}
 use Rattle.lines.specs.Answers.{LineAt, over}
-use Rattle.lines.specs.Seen.{ToSee, Seeing, Behind, ahead}
+use Rattle.lines.specs.Seen.{ToSee, Seeing, SeenBehind, ahead}
 use Rattle.lines.specs.declared.frame.Seen.{Seen}
 use Rattle.lines.specs.declared.line.Next.{Next}
 use Rattle.lines.specs.declared.reader.Reader.{Reader}
@@ -113,7 +113,7 @@ module _ {M : Type 1} (𝓤 : URA M) (H : Heap 𝓤) (A : Atoms 𝓤) (W : Given
     abbrev Closer : Before → Before → Type 0
     Closer y x = ahead (now s) (y .seen) < ahead (now s) (x .seen)
 
-    closer : (x : Before) → x .seen .more ≡ true → (d : Seen) → Behind (now s) (x .seen .at) d → ahead (now s) d < ahead (now s) (x .seen)
+    closer : (x : Before) → x .seen .more ≡ true → (d : Seen) → SeenBehind (now s) (x .seen .at) d → ahead (now s) d < ahead (now s) (x .seen)
     closer x e d h = rw e (h .less)
 
     closer-wf : WellFounded Closer
@@ -155,7 +155,7 @@ module _ {M : Type 1} (𝓤 : URA M) (H : Heap 𝓤) (A : Atoms 𝓤) (W : Given
           use2 W (‵ Own ⊛ ‵ (fsep Own (line-at w t (c .at)))) (lends-text κ s 𝓤 H A W (line-at w t (c .at))) $ split ! $ move ! (2 ∷ 1 ∷ []) $
           calls {𝓤 = 𝓤} {H = H} {A = A} {C = 𝓣 .C} ! (fmOf 𝓤 H (W .laws) 𝓣) line-seen.ended (line-seen.clauses 𝓤 H A mem run) known-line (to-line w t (c .at)) (factI 𝓤 _ (emp 𝓤) (g, l))
           (and-then ! (load ! (from ! (stop !)) (look ! 13 refl)) (and-then ! (load ! (from ! (stop !)) (look ! 7 refl)) (and-then ! (load ! (from ! (fld ! refl (stop !))) (look-in ! 11 (sub ! 2 refl (whole !)))) (no-more !))))
-          (λ d _. Behind (now s) (c .at) d) (λ d ws′. id⊢ 𝓤 _) (λ u d ws′ behind is′.
+          (λ d _. SeenBehind (now s) (c .at) d) (λ d ws′. id⊢ 𝓤 _) (λ u d ws′ behind is′.
           -- [the token; what is owned of what is seen; true; what the text owns; true; _6; …]: local i stands at 2 · (6 − i) + 5
           let owes′ = LL.owed S.the-type S′.the-laws d _ is′ in
           land ! (from ! (stop !)) (store ! 13 refl (LL.lawful S.the-type S′.the-laws 𝓤 H A W .typed d _ is′ .0)) $ rewrite ! 13 (λ (z : Val). ‵ (fat fullShare S′.mir l₂ 0 z)) (ap only (LL.tells S.the-type S′.the-laws d _ is′)) refl $

@@ -57,7 +57,7 @@ use Rattle.outgoing_number.proofs.issue as g
 use Rattle.outgoing_number.proofs.issue.Symbol as g-def
 use Rattle.outgoing_number.proofs.issue.Symbol.{name as #issue}
 use Rattle.outgoing_number.proofs.issue.Met as g-thm
-use Rattle.turn_text.specs.Turn.{Stands, CorrectionPut, CorrectionsLeft, corrections-start, corrections-room, correction-due, corrections-long, corrections-turn, corrections-end}
+use Rattle.turn_text.specs.Turn.{ToCorrect, CorrectionPut, CorrectionsLeft, corrections-start, corrections-room, correction-due, corrections-long, corrections-turn, corrections-end}
 use Rattle.turn_text.specs.declared.turn.Correcting.{Correcting}
 use Rattle.turn_text.proofs.turn.Correcting as C
 use Rattle.turn_text.proofs.turn.Correcting.Laws as C′
@@ -112,7 +112,7 @@ record-ty = tyRef erased mut (pointee (T.the-row .written))
 module _ {M : Type 1} (𝓤 : URA M) (H : Heap 𝓤) (A : Atoms 𝓤) (W : Given 𝓤 H A) (at-mem : Memory → SProp 𝓤) (run : Routine → Fun 𝓤) (𝓣 : Tables 𝓤 H)
     (issues : Triple 𝓤 (𝓣 .C #issue) (Promise 𝓤 H A g.ended (g.clauses 𝓤 H A at-mem run))) (puts : Triple 𝓤 (𝓣 .C #put-next) (Promise 𝓤 H A p.ended (p.clauses 𝓤 H A at-mem run))) where
   module _ (κ κ₁ : Lft) (q q₁ : Share) (b o : ℕ) (γ : GName) (start : List ℕ) (t₀ : Correcting) (day : ℕ) (a : RefT (List ℕ))
-      (fits : Room u8 (length start)) (t₀-fits : Fits t₀) (day-fits : day < 2 ^ 32) (area-fits : Room u8 (length (a .now))) (ok : Stands (a .now) t₀) where
+      (fits : Room u8 (length start)) (t₀-fits : Fits t₀) (day-fits : day < 2 ^ 32) (area-fits : Room u8 (length (a .now))) (ok : ToCorrect (a .now) t₀) where
     abbrev Here : Type 0
     Here = State day (a .now) t₀ start
 
