@@ -26,7 +26,7 @@ use Rattle.engine.specs.Totals.{TotalsOf}
 use Rattle.engine.specs.Texts.{RegisterOf}
 use Rattle.engine.specs.declared.held.Totals.{Totals}
 use Rattle.engine_change.specs.Booking.{CanBook, booking-clear, bookedWith, booked-after}
-use Rattle.engine_change.specs.Filing.{reference}
+use Rattle.engine.specs.References.{ofBank}
 use Rattle.outgoing_number.specs.declared.Numbered.{Numbered}
 use Rattle.details.specs.Message.{messageIn}
 use Rattle.details.specs.Kept.{DetailRoom}
@@ -170,7 +170,7 @@ module _ (s area : List ℕ) (h : isSome (holds area) ≡ true) where
 
       -- the area with the message
       pub booked-done : {a' : List ℕ} {w : ℕ} → w ≡ decode area .count + writes (decode area) (messageIn s)
-          → a' ≡ encode (bookedWith (decode area) (positionValue p) (reference (p .key .bank) (cut s (b .reference .start) (b .reference .end))) w) ++ drop areaSize area → AreaBooked s area a'
+          → a' ≡ encode (bookedWith (decode area) (positionValue p) (ofBank (p .key .bank) (cut s (b .reference .start) (b .reference .end))) w) ++ drop areaSize area → AreaBooked s area a'
       booked-done f c = record { area = c ∙ rw (position-is, bank-is, k .reference, f, booked-after) refl }
 
 pub sent-done : {s area : List ℕ} {b : Booking} {p : P.Position} {parts : ℕ} {amounts places verdicts : List ℕ} → Ready s area b p parts amounts places verdicts → {out out' a' : List ℕ} {r : Numbered} {z : ℤ} → length (messageText (decode area) (messageIn s)) ≤ length out

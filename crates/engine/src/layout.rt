@@ -37,7 +37,7 @@ pub const POSITIONS_ROOM: usize = 768;
 
 pub const TEXTS_ROOM: usize = 3824;
 
-// The size of a record, and how far its parts stand behind its place: of a reference behind the sender, of a position behind the bank.
+// The size of a record, and where its parts begin in it: a reference's text, a position's date, block and totals.
 pub const RECORD: u32 = 24;
 
 pub const SIZE: usize = RECORD as usize;

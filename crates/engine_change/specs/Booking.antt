@@ -35,7 +35,8 @@ use Rattle.engine_change.specs.Next.{holding, position-wide, references-
 use Rattle.position.specs.declared.Position as P
 use Rattle.engine.specs.Positions.{PositionAt}
 use Rattle.engine.specs.Places.{position, isFirst, PlaceOf}
-use Rattle.engine_change.specs.Filing.{reference, FiledAt, Files}
+use Rattle.engine.specs.References.{ofBank}
+use Rattle.engine_change.specs.Filing.{FiledAt, Files}
 use Rattle.engine.specs.Records.{Many}
 use Rattle.engine.specs.Totals.{PositionFound, found}
 
@@ -164,18 +165,18 @@ unfolding referenceRecord
 reference-wide r h = rw (length-append, places-length, padded-length 16 (r .text) h)
 
 module _ (a : List ℕ) (x : Header) (q : Position) (bank : ℕ) (text : List ℕ) (from to count : ℕ) (h : isSome (holds a) ≡ true) (n : HeaderOf a x) (g : CanBook (decode a) q) where
-  module _ {i : ℕ} (f : FiledAt (reference bank (cut text from to)) (decode a .references) i) {k : ℕ} {b : List ℕ} (p : Positions (booked q (decode a .positions)) a k b) where
+  module _ {i : ℕ} (f : FiledAt (ofBank bank (cut text from to)) (decode a .references) i) {k : ℕ} {b : List ℕ} (p : Positions (booked q (decode a .positions)) a k b) where
     -- there is room for the reference
     pub file-fits : RoomFor referencesPlace recordSize (x .references) i (length b)
     file-fits =
         let l : length b ≡ length a = ap length (p .bytes) ∙ laid-length (positionPart (booked q (decode a .positions))) positionsPlace a in
         opens 16 24 (x .references) i (length b) (omega (arith, f .within, n .references)) (omega (arith, g .today, n .references, n .long, l))
 
-    pub book-done : {z : ℕ} {c d : List ℕ} → to ≤ length text → to - from ≤ 16 → Files (x .references) i (reference bank (cut text from to)) b c
-        → Wrote (numbers (x .day) count k (x .references + 1)) 0 c z d → d ≡ encode (bookedWith (decode a) q (reference bank (cut text from to)) count) ++ drop areaSize a
+    pub book-done : {z : ℕ} {c d : List ℕ} → to ≤ length text → to - from ≤ 16 → Files (x .references) i (ofBank bank (cut text from to)) b c
+        → Wrote (numbers (x .day) count k (x .references + 1)) 0 c z d → d ≡ encode (bookedWith (decode a) q (ofBank bank (cut text from to)) count) ++ drop areaSize a
     unfolding bookedWith textsOf referencePart
     book-done {z} {c} {d} j m u w =
-        let r : Reference = reference bank (cut text from to) in
+        let r : Reference = ofBank bank (cut text from to) in
         let s : length (r .text) ≤ 16 = rw (cut-length text from to j) m in
         let e : Engine = decode a in
         let rs : List Reference = e .references in

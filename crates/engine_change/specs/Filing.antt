@@ -19,45 +19,40 @@ use Rattle.laws.specs.Writing.{Wrote}
 use Rattle.engine_laws.specs.References.{filed-behind, filed-here}
 use Rattle.engine_laws.specs.Records.{number-within}
 use Rattle.engine_laws.specs.Checked.{until-before, text-in, texts-some, records-length}
+use Rattle.engine_laws.specs.Tests.{valueAt}
 use Rattle.engine.specs.Header.{HeaderOf}
 use Rattle.engine.specs.declared.header.Header.{Header}
 use Rattle.engine.specs.Records.{read-at}
-
--- a bank's reference
-abbrev pub reference : ℕ → List ℕ → Reference
-reference bank text = record { sender = bank; text = text }
+use Rattle.engine.specs.References.{ofBank, referenceAt}
 
 -- ---- the record of a reference at a place
 
-unfoldable pub referenceAt : List ℕ → ℕ → Reference
-referenceAt a at = referenceIn (take recordSize (drop at a))
-
 module _ (a : List ℕ) (at : ℕ) where
   sender-at : referenceAt a at .sender ≡ numberAt a at 8
-  unfolding referenceAt referenceIn
+  unfolding valueAt referenceIn
   sender-at = rw add-zero at (number-within a at 24 0 8 (omega arith))
 
   text-at : referenceAt a at .text ≡ untilZero (cut a (at + 8) (at + 8 + 16))
-  unfolding referenceAt referenceIn
+  unfolding valueAt referenceIn
   text-at = ap untilZero (sym (text-in a at))
 
 -- it precedes another, or not
 module _ (a : List ℕ) (at x bank : ℕ) (cs : List ℕ) (e : x ≡ numberAt a at 8) where
-  pub sender-low : x < bank → true ≡ precedes (referenceAt a at) (reference bank cs)
+  pub sender-low : x < bank → true ≡ precedes (referenceAt a at) (ofBank bank cs)
   unfolding precedes
   sender-low h = rw (sender-at a at, ← e, lt-leb bank x h)
 
-  pub sender-high : bank < x → false ≡ precedes (referenceAt a at) (reference bank cs)
+  pub sender-high : bank < x → false ≡ precedes (referenceAt a at) (ofBank bank cs)
   unfolding precedes
   sender-high h = rw (sender-at a at, ← e, le-leb bank x (omega arith), ne-eqb x bank (λ (z : x ≡ bank). omega arith))
 
-  same-told : bank ≤ x → x ≤ bank → every isText cs ≡ true → {r : Bool} → r ≡ textBefore (cut a (at + 8) (at + 8 + 16)) cs → r ≡ precedes (referenceAt a at) (reference bank cs)
+  same-told : bank ≤ x → x ≤ bank → every isText cs ≡ true → {r : Bool} → r ≡ textBefore (cut a (at + 8) (at + 8 + 16)) cs → r ≡ precedes (referenceAt a at) (ofBank bank cs)
   unfolding precedes
   same-told h k t g =
       rw (sender-at a at, ← e, le-leb bank x h, eq-eqb x bank (omega arith), text-at a at, ← until-before (cut a (at + 8) (at + 8 + 16)) (texts-some cs t)) g
 
 pub sender-same : (a : List ℕ) (at x bank : ℕ) (s : List ℕ) (i j : ℕ) → x ≡ numberAt a at 8 → bank ≤ x → x ≤ bank → i ≤ j → every isText (cut s i j) ≡ true
-    → {r : Bool} → r ≡ textBefore (cut a (at + 8) (at + 8 + 16)) (cut s i (i + (j - i))) → r ≡ precedes (referenceAt a at) (reference bank (cut s i j))
+    → {r : Bool} → r ≡ textBefore (cut a (at + 8) (at + 8 + 16)) (cut s i (i + (j - i))) → r ≡ precedes (referenceAt a at) (ofBank bank (cut s i j))
 sender-same a at x bank s i j e h k l t g = let f : i + (j - i) ≡ j = omega arith in same-told a at x bank (cut s i j) e h k t (rw f at g)
 
 -- ---- its place
@@ -82,20 +77,20 @@ module _ {r : Reference} {rs : List Reference} {i : ℕ} (g : Filing r rs i) whe
 
   module _ (h : i < length rs) where
     q : Reference
-    q = getD rs i (reference 0 [])
+    q = getD rs i (ofBank 0 [])
 
     split : drop i rs ≡ q ∷ drop (suc i) rs
     unfolding q
-    split = drop-cons rs i (reference 0 []) h
+    split = drop-cons rs i (ofBank 0 []) h
 
-    filing-on : precedes (getD rs i (reference 0 [])) r ≡ true → Filing r rs (i + 1)
+    filing-on : precedes (getD rs i (ofBank 0 [])) r ≡ true → Filing r rs (i + 1)
     unfolding q
     filing-on k =
-        let e : take (i + 1) rs ≡ take i rs ++ q ∷ [] = rw add-one (take-suc rs i (reference 0 []) h) in
+        let e : take (i + 1) rs ≡ take i rs ++ q ∷ [] = rw add-one (take-suc rs i (ofBank 0 []) h) in
         let f : drop (i + 1) rs ≡ drop (suc i) rs = rw add-one in
         record { within = omega arith; left = g .left ∙ rw (split, filed-behind r q (drop (suc i) rs) k, e, f, append-assoc) }
 
-    filing-here : precedes (getD rs i (reference 0 [])) r ≡ false → FiledAt r rs i
+    filing-here : precedes (getD rs i (ofBank 0 [])) r ≡ false → FiledAt r rs i
     unfolding q inserted
     filing-here k = record { within = g .within; place = g .left ∙ rw (split, filed-here r q (drop (suc i) rs) k) }
 
@@ -110,11 +105,11 @@ pub record Today (a : List ℕ) (n : ℕ) : Type 0 where
 pub today : (a : List ℕ) (x : Header) → HeaderOf a x → Today a (x .references)
 today a x n = record { same = n .references; few = n .today; long = n .long }
 
-reference-read : (a : List ℕ) (i : ℕ) → i < length (decode a .references) → getD (decode a .references) i (reference 0 []) ≡ referenceAt a (referencesPlace + recordSize * i)
-unfolding decode referenceAt
+reference-read : (a : List ℕ) (i : ℕ) → i < length (decode a .references) → getD (decode a .references) i (ofBank 0 []) ≡ referenceAt a (referencesPlace + recordSize * i)
+unfolding decode valueAt
 reference-read a i h =
     let n : length (decode a .references) ≡ numberAt a manyReferencesPlace 1 = records-length referenceIn (numberAt a manyReferencesPlace 1) (drop referencesPlace a) in
-    read-at referenceIn (numberAt a manyReferencesPlace 1) i (drop referencesPlace a) (reference 0 []) (rw n at h) ∙ rw (drop-drop (recordSize * i) 16 a)
+    read-at referenceIn (numberAt a manyReferencesPlace 1) i (drop referencesPlace a) (ofBank 0 []) (rw n at h) ∙ rw (drop-drop (recordSize * i) 16 a)
 
 module _ (a : List ℕ) (n i : ℕ) (m : Today a n) {r : Reference} (g : Filing r (decode a .references) i) where
   pub file-end : n ≤ i → FiledAt r (decode a .references) i

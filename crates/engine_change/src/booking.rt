@@ -23,7 +23,7 @@ ghost use Rattle.laws.specs.Parts.{cut};
 ghost use Rattle.laws.specs.Writing.{Wrote};
 ghost use Rattle.position.specs.Values.{keyValue, positionValue};
 ghost use Rattle.engine.specs.Records.{Many};
-ghost use Rattle.engine_change.specs.Filing.{reference};
+ghost use Rattle.engine.specs.References.{ofBank};
 ghost use Rattle.engine_change.specs.Booking.{raisedAt, Raises, CanBook, Positions, bookedWith};
 
 // A key, and the byte for its block.
@@ -85,7 +85,7 @@ pub fn book_area(area: &mut [u8], s: &[u8], a: usize, b: usize, p: Position, cou
     requires { ⌜ b ≤ length (now s) ⌝ }
     requires { ⌜ b - a ≤ 16 ⌝ }
     requires { ⌜ every isText (cut (now s) a b) ≡ true ⌝ }
-    ensures { λ _. ⌜ now (area .exit) ≡ encode (bookedWith (decode (now (area .entry))) (positionValue p) (reference (p .key .bank) (cut (now (s .entry)) a b)) count) ++ drop areaSize (now (area .entry)) ⌝ }
+    ensures { λ _. ⌜ now (area .exit) ≡ encode (bookedWith (decode (now (area .entry))) (positionValue p) (ofBank (p .key .bank) (cut (now (s .entry)) a b)) count) ++ drop areaSize (now (area .entry)) ⌝ }
 {
     let h = header_of(area);
     let n = h.references;

@@ -15,7 +15,8 @@ ghost use Rattle.rules.specs.Area.{referenceRecord, decode, referencesPlace, re
 ghost use Rattle.laws.specs.Parts.{cut};
 ghost use Rattle.laws.specs.Writing.{Wrote};
 ghost use Rattle.laws.specs.Moving.{RoomFor};
-ghost use Rattle.engine_change.specs.Filing.{reference, referenceAt, Today, FiledAt, Files};
+ghost use Rattle.engine.specs.References.{ofBank, referenceAt};
+ghost use Rattle.engine_change.specs.Filing.{Today, FiledAt, Files};
 
 // Does the reference of the record at a place precede a bank's, the bytes of s from a up to b?
 fn is_before(area: &[u8], at: usize, bank: u64, s: &[u8], a: usize, b: usize) -> bool
@@ -24,7 +25,7 @@ fn is_before(area: &[u8], at: usize, bank: u64, s: &[u8], a: usize, b: usize) ->
     requires { ⌜ b ≤ length (now s) ⌝ }
     requires { ⌜ b - a ≤ 16 ⌝ }
     requires { ⌜ every isText (cut (now s) a b) ≡ true ⌝ }
-    ensures { λ r. ⌜ r ≡ precedes (referenceAt (now (area .entry)) at) (reference bank (cut (now (s .entry)) a b)) ⌝ }
+    ensures { λ r. ⌜ r ≡ precedes (referenceAt (now (area .entry)) at) (ofBank bank (cut (now (s .entry)) a b)) ⌝ }
 {
     let x = number_at(area, at, 8);
     if x < bank {
@@ -43,7 +44,7 @@ pub fn reference_place(area: &[u8], n: u32, bank: u64, s: &[u8], a: usize, b: us
     requires { ⌜ b ≤ length (now s) ⌝ }
     requires { ⌜ b - a ≤ 16 ⌝ }
     requires { ⌜ every isText (cut (now s) a b) ≡ true ⌝ }
-    ensures { λ r. ⌜ FiledAt (reference bank (cut (now (s .entry)) a b)) (decode (now (area .entry)) .references) r ⌝ }
+    ensures { λ r. ⌜ FiledAt (ofBank bank (cut (now (s .entry)) a b)) (decode (now (area .entry)) .references) r ⌝ }
 {
     let mut i: u32 = 0;
     while i < n {
@@ -61,7 +62,7 @@ fn put_reference(area: &mut [u8], at: usize, bank: u64, s: &[u8], a: usize, b: u
     requires { ⌜ a ≤ b ⌝ }
     requires { ⌜ b ≤ length (now s) ⌝ }
     requires { ⌜ b - a ≤ 16 ⌝ }
-    ensures { λ r. ⌜ Wrote (referenceRecord (reference bank (cut (now (s .entry)) a b))) at (now (area .entry)) r (now (area .exit)) ⌝ }
+    ensures { λ r. ⌜ Wrote (referenceRecord (ofBank bank (cut (now (s .entry)) a b))) at (now (area .entry)) r (now (area .exit)) ⌝ }
 {
     let o = put::put_be(area, at, 8, bank);
     put_padded(area, o, 16, s, a, b)
@@ -74,7 +75,7 @@ pub fn file_reference(area: &mut [u8], n: u32, i: u32, bank: u64, s: &[u8], a: u
     requires { ⌜ a ≤ b ⌝ }
     requires { ⌜ b ≤ length (now s) ⌝ }
     requires { ⌜ b - a ≤ 16 ⌝ }
-    ensures { λ _. ⌜ Files n i (reference bank (cut (now (s .entry)) a b)) (now (area .entry)) (now (area .exit)) ⌝ }
+    ensures { λ _. ⌜ Files n i (ofBank bank (cut (now (s .entry)) a b)) (now (area .entry)) (now (area .exit)) ⌝ }
 {
     crate::records::open_record(area, FIRST_REFERENCE, RECORD, n, i);
     put_reference(area, (REFERENCES + RECORD * i) as usize, bank, s, a, b);
