@@ -12,13 +12,12 @@ use Rattle.rules.specs.Lines.{Line, lines}
 use Rattle.rules.specs.Register.{Account, Register, accountLines, sound, ofLines, register, registerOf}
 use Rattle.rules.specs.Verdict.{credited, returned, Cause, wrongShape, wrongControl, outOfBounds, found, noAccount, accountAt, shaped, inBounds, judged, verdict}
 use Rattle.laws.specs.Tests.{and-left}
-use Rattle.rule_laws.specs.Options.{There, there, Came, came, gave, some-is}
+use Rattle.rule_laws.specs.Options.{none-some, There, there, Came, came, gave, some-is}
 use Rattle.engine_laws.specs.Facts.{equal-true}
-use Rattle.balance_laws.specs.Texts.{no-some}
 
 lines-sound : (ls : List Line) (r : Register) → ofLines ls ≡ some r → sound r ≡ true
 unfolding ofLines
-lines-sound [] r h = no-some h
+lines-sound [] r h = none-some h
 lines-sound (l ∷ ls) r h =
     let a : Came (accountLines ls) _ r = came _ _ h in
     let g = gave (sound record { temporary = l; accounts = a .value }) _ (a .gives) in rw (g .is) at (g .test)
@@ -38,7 +37,7 @@ record AccountFound (iban : List ℕ) (n i : ℕ) (accounts : List Account) : Ty
 
 found-same : (iban : List ℕ) (n i : ℕ) (accounts : List Account) → found iban n accounts ≡ some i → AccountFound iban n i accounts
 unfolding found
-found-same iban n i [] h = no-some h
+found-same iban n i [] h = none-some h
 found-same iban n i (a ∷ more) h = go (equal (a .iban) iban) refl (found-same iban (n + 1) i more) h
   where
     go : (t : Bool) → equal (a .iban) iban ≡ t → (found iban (n + 1) more ≡ some i → AccountFound iban (n + 1) i more) → cond t (some n) (found iban (n + 1) more) ≡ some i → AccountFound iban n i (a ∷ more)

@@ -6,38 +6,22 @@ use mathlib.Core.List.{List, [], _∷_}
 use mathlib.Core.Option.{Option, none, some, Option·map}
 use Prim.Native.Nat.{ℕ, zero, suc, _≤_, _<_}
 use native.Mathlib.Omega.{arith}
-use lib.Dec.{eqb, lit<}
+use lib.Dec.{lit<}
 use lib.ListN.{length, getD, take, drop, length-take}
 use lib.Seq.{drop-nil}
 use Rattle.rules.specs.Text.{ascii, every, run, equal, fits}
 use Rattle.rules.specs.Dates.{date}
 use Rattle.rules.specs.Amounts.{amount}
-use Rattle.rules.specs.Lines.{Line, Taken, line, lead, closing, type, sender, body}
+use Rattle.rules.specs.Lines.{Line, line, closing, type, sender, body}
 use Rattle.rules.specs.Forms.{Row, TakenRows, nothing, account, fitsRest, fitsRow, leadRows, takeRows, transferRows, orderRows, detailRows, detail52D, detail59, detailBaeref}
 use Rattle.rules.specs.Messages.{Message, mt103, mt101, Transfer, Order, Detail, lineOf, amount32B, dateCentrb, dateBaeref, detailOf, takeDetail, details, readTransfer, readOrder, read, transferOf}
 use Rattle.laws.specs.Tests.{and-left, and-right, between-high}
-use Rattle.rule_laws.specs.Options.{Came, came, gave, some-is}
+use Rattle.rule_laws.specs.Options.{none-some, Came, came, gave, some-is}
+use Rattle.rule_laws.specs.Lines.{inLine, first-line}
 use Rattle.engine_laws.specs.Layout.{All, All.none, All.more}
 use Rattle.laws.specs.Every.{every-take, every-drop}
-use Rattle.balance_laws.specs.Texts.{no-some, inLine}
 use Rattle.balance_laws.specs.Told.{Short}
 use Rattle.balance_laws.specs.Mute.{DetailSent}
-
--- ---- a line holds no CR or LF
-
-pub line-plain : (cs : List ℕ) (t : Taken) → line cs ≡ some t → every inLine (t .line) ≡ true
-unfolding line lead every inLine
-line-plain [] t h = no-some h
-line-plain (c ∷ []) t h = no-some h
-line-plain (c ∷ d ∷ cs) t h = go (eqb c 13) (eqb d 10) (eqb c 10) (line (d ∷ cs)) refl refl (line-plain (d ∷ cs)) h
-  where
-    go : (x y z : Bool) (o : Option Taken) → eqb c 13 ≡ x → eqb c 10 ≡ z → ((u : Taken) → o ≡ some u → every inLine (u .line) ≡ true)
-        → cond x (cond y (some record { line = []; others = cs }) none) (cond z none (lead (c ∷ []) o)) ≡ some t → every inLine (t .line) ≡ true
-    go true true z o e f g k = let q : record { line = []; others = cs } ≡ t = cc in rw (← q)
-    go true false z o e f g k = no-some k
-    go false y true o e f g k = no-some k
-    go false y false none e f g k = no-some k
-    go false y false (some u) e f g k = let q : record { line = c ∷ u .line; others = u .others } ≡ t = cc in rw (← q, e, f) (g u refl)
 
 -- ---- rows
 
@@ -55,16 +39,16 @@ unfolding takeRows leadRows
 rowed-rows [] cs x h = let q : record { rows = []; others = cs } ≡ x = cc in rw (← q) end
 rowed-rows (r ∷ rs) cs x h =
     let t : Came (line cs) _ x = came _ _ h in
-    go (t .value .line) (takeRows rs (t .value .others)) (takeRows rs cs) (fitsRow r (t .value .line)) (r .optional) refl (line-plain cs (t .value) (t .is))
+    go (t .value .line) (takeRows rs (t .value .others)) (takeRows rs cs) (fitsRow r (t .value .line)) (r .optional) refl (first-line cs (t .value) (t .is) .plain)
     (rowed-rows rs (t .value .others)) (rowed-rows rs cs) (t .gives)
   where
     go : (l : Line) (o u : Option TakenRows) (b c : Bool) → fitsRow r l ≡ b → every inLine l ≡ true → ((y : TakenRows) → o ≡ some y → RowsRead rs (y .rows)) → ((y : TakenRows) → u ≡ some y → RowsRead rs (y .rows))
         → cond b (leadRows (l ∷ []) o) (cond c (leadRows ([] ∷ []) u) none) ≡ some x → RowsRead (r ∷ rs) (x .rows)
-    go l none u true c e p f g k = no-some k
+    go l none u true c e p f g k = none-some k
     go l (some y) u true c e p f g k = let q : record { rows = l ∷ y .rows; others = y .others } ≡ x = cc in rw (← q) (row (here e p) (f y refl))
-    go l o none false true e p f g k = no-some k
+    go l o none false true e p f g k = none-some k
     go l o (some y) false true e p f g k = let q : record { rows = [] ∷ y .rows; others = y .others } ≡ x = cc in rw (← q) (row out (g y refl))
-    go l o u false false e p f g k = no-some k
+    go l o u false false e p f g k = none-some k
 
 pub row-at : (d : Row) {rs : List Row} {ls : List Line} → RowsRead rs ls → (i : ℕ) → i < length rs → RowsStand (getD rs i d) (lineOf ls i)
 row-at d end i h = absurd (omega arith)
@@ -115,7 +99,7 @@ pub record DetailsListed (ds : List Detail) : Type 0 where
 
 details-listed : (k : ℕ) (cs : List ℕ) (ds : List Detail) → details k cs ≡ some ds → DetailsListed ds
 unfolding details takeDetail
-details-listed zero cs ds h = no-some h
+details-listed zero cs ds h = none-some h
 details-listed (suc k) cs ds h =
     let d : Came (takeDetail cs) _ ds = came _ _ h in
     let r : Came (takeRows detailRows cs) _ (d .value) = came _ _ (d .is) in
@@ -126,7 +110,7 @@ details-listed (suc k) cs ds h =
   where
     go : (x : Detail) (t : Bool) (y : Option (List Detail)) → DetailSent x → ((ys : List Detail) → y ≡ some ys → DetailsListed ys) → cond t (some (x ∷ [])) (Option·map (λ (ds : List Detail). x ∷ ds) y) ≡ some ds → DetailsListed ds
     go x true y f g k = let q : x ∷ [] ≡ ds = cc in rw (← q) record { sent = more f none; some = omega arith }
-    go x false none f g k = no-some k
+    go x false none f g k = none-some k
     go x false (some y) f g k = let q : x ∷ y ≡ ds = cc in rw (← q) record { sent = more f (g y refl .sent); some = omega arith }
 
 -- the details of a message, where it is an MT101

@@ -1,5 +1,4 @@
 pub mod Each
-pub mod Texts
 pub mod Told
 pub mod Signs
 pub mod Posting

@@ -15,7 +15,7 @@ use Rattle.rules.specs.Written.{reference, firstLine, field, size, returnedRows
 use Rattle.laws.specs.Digits.{places-length, width-bound, width-most}
 use Rattle.engine_laws.specs.Layout.{All, All.none, All.more}
 use Rattle.balance_laws.specs.Each.{all-take, all-drop}
-use Rattle.balance_laws.specs.Texts.{inLine}
+use Rattle.rule_laws.specs.Lines.{inLine}
 use Rattle.balance_laws.specs.Told.{Short, short-join, short-text, Mute, mute-none, mute-line, mute-join}
 use Rattle.balance_laws.specs.Signs.{short-fixed, short-decimal, short-written, short-bic, short-iban}
 

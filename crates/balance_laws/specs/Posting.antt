@@ -17,7 +17,7 @@ use Rattle.laws.specs.Numbers.{digits-decimal}
 use Rattle.laws.specs.Tests.{cond-right}
 use Rattle.engine_laws.specs.Facts.{cond-left}
 use Rattle.laws.specs.Every.{every-join}
-use Rattle.balance_laws.specs.Texts.{inLine}
+use Rattle.rule_laws.specs.Lines.{inLine}
 use Rattle.balance_laws.specs.Told.{Tells, tells-line}
 use Rattle.balance_laws.specs.Signs.{alnum-other, plain-alnum, bic-alnum, iban-alnum, fixed-alnum, fixed-fits}
 

@@ -16,7 +16,7 @@ use Rattle.laws.specs.Digits.{places-length, width-most}
 use Rattle.laws.specs.Tests.{cond-right, between-low}
 use Rattle.engine_laws.specs.Facts.{cond-left, cond-both, never}
 use Rattle.laws.specs.Every.{every-wider}
-use Rattle.balance_laws.specs.Texts.{inLine}
+use Rattle.rule_laws.specs.Lines.{inLine}
 use Rattle.balance_laws.specs.Told.{Short, short-join}
 
 -- ---- a letter or digit

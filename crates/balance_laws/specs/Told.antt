@@ -3,7 +3,7 @@
 use mathlib.Core.Path.{_≡_, refl, _∙_}
 use mathlib.Core.Bool.{Bool, true, false, _||_, cond}
 use mathlib.Core.List.{List, [], _∷_, _++_}
-use mathlib.Core.Option.{none, some, Option·getD}
+use mathlib.Core.Option.{none, Option·getD}
 use Prim.Native.Nat.{ℕ, suc, _+_, _≤_, _<_}
 use native.Mathlib.Omega.{arith}
 use lib.Dec.{leb, eqb}
@@ -18,7 +18,7 @@ use Rattle.laws.specs.Reading.{fits-length}
 use Rattle.laws.specs.Tests.{and-left, and-right, cond-right}
 use Rattle.engine_laws.specs.Facts.{cond-left, cond-both}
 use Rattle.laws.specs.Every.{every-join}
-use Rattle.balance_laws.specs.Texts.{inLine, lines-line, lines-join}
+use Rattle.rule_laws.specs.Lines.{inLine, Lined, Lined.end, Lined.next, lined-lines, lined-join}
 
 -- ---- a posting line is long
 
@@ -94,22 +94,22 @@ shortLines (l ∷ ls) = let r = shortLines ls in cond (leb (length l) 41) r fals
 
 pub record Mute (text : List ℕ) : Type 0 where
   pub all : List Line
-  pub reading : lines text ≡ some all
+  pub reading : Lined text all
   pub short : shortLines all ≡ true
 
 pub mute-none : Mute []
-unfolding lines shortLines
-mute-none = record { all = []; reading = refl; short = refl }
+unfolding shortLines
+mute-none = record { all = []; reading = end; short = refl }
 
 pub mute-line : {n : ℕ} {cs : List ℕ} → Short n cs → leb n 41 ≡ true → Mute (cs ++ ascii "\r\n")
 unfolding shortLines
-mute-line {n} {cs} s h = record { all = cs ∷ []; reading = lines-line cs (s .plain); short = rw (le-leb (length cs) 41 (omega (arith, leb-true n 41 h))) }
+mute-line {n} {cs} s h = record { all = cs ∷ []; reading = next (s .plain) end; short = rw (le-leb (length cs) 41 (omega (arith, leb-true n 41 h))) }
 
 pub mute-join : {a b : List ℕ} → Mute a → Mute b → Mute (a ++ b)
 unfolding shortLines
 mute-join {a} {b} s t = record {
   all = s .all ++ t .all;
-  reading = lines-join a b (s .all) (t .all) (s .reading) (t .reading);
+  reading = lined-join (s .reading) (t .reading);
   short = short-append (s .all) (t .all) (s .short) (t .short);
 }
   where
@@ -123,19 +123,19 @@ mute-join {a} {b} s t = record {
 -- the lines of a kind in a text, and their sum
 pub record Tells (kind : Kind) (f : Fed) (text : List ℕ) (v : ℕ) : Type 0 where
   pub all : List Line
-  pub reading : lines text ≡ some all
+  pub reading : Lined text all
   pub sum : sumOfLines kind f all ≡ v
 
 module _ {kind : Kind} {f : Fed} where
   pub tells-none : Tells kind f [] 0
-  unfolding lines sumOfLines
-  tells-none = record { all = []; reading = refl; sum = refl }
+  unfolding sumOfLines
+  tells-none = record { all = []; reading = end; sum = refl }
 
   pub tells-join : {a b : List ℕ} {v w : ℕ} → Tells kind f a v → Tells kind f b w → Tells kind f (a ++ b) (v + w)
   unfolding sumOfLines
   tells-join {a} {b} {v} {w} s t = record {
     all = s .all ++ t .all;
-    reading = lines-join a b (s .all) (t .all) (s .reading) (t .reading);
+    reading = lined-join (s .reading) (t .reading);
     sum = sum-append (s .all) (t .all) ∙ rw (s .sum, t .sum);
   }
     where
@@ -159,8 +159,8 @@ module _ {kind : Kind} {f : Fed} where
   -- one line
   pub tells-line : (cs : List ℕ) → every inLine cs ≡ true → Tells kind f (cs ++ ascii "\r\n") (amountIf kind f (posted cs))
   unfolding sumOfLines
-  tells-line cs h = record { all = cs ∷ []; reading = lines-line cs h; sum = omega arith }
+  tells-line cs h = record { all = cs ∷ []; reading = next h end; sum = omega arith }
 
   -- as demand 3 counts it
   pub told : {text : List ℕ} {v : ℕ} → Tells kind f text v → sumOfLines kind f (Option·getD (lines text) []) ≡ v
-  told s = rw (s .reading) (s .sum)
+  told s = rw (lined-lines (s .reading)) (s .sum)

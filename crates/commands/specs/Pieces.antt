@@ -2,55 +2,49 @@
 -- as the longest command has and none stands there, none follows.
 use mathlib.Core.Path.{_≡_, refl, sym, ap, _∙_}
 use mathlib.Core.Bool.{Bool, true, false, _&&_, cond}
-use mathlib.Core.List.{List, [], _∷_, _++_}
+use mathlib.Core.List.{List, [], _∷_, _++_, append-assoc}
 use mathlib.Core.Option.{Option, none, some}
-use Prim.Native.Nat.{ℕ, suc, _+_, _-_, _*_, _≤_, _<_}
+use Prim.Native.Nat.{ℕ, _+_, _-_, _*_, _≤_, _<_}
 use native.Mathlib.Omega.{arith}
 use lib.Dec.{leb, eqb}
-use lib.ListN.{length, take, drop, length-append, length-drop}
-use lib.Seq.{take-append-le, drop-append-le}
+use lib.ListN.{length, take, drop, length-append, length-drop, take-append-drop}
+use lib.Seq.{take-at, take-append-le, drop-append-le}
 use borrow.Author.Tests.{le-leb, leb-true, leb-false, ne-eqb}
 use Rattle.rules.specs.Text.{ascii, isDigit, digitsFrom, digits, fits, equal, then, given}
-use Rattle.rules.specs.Lines.{Taken, lead, line}
+use Rattle.rules.specs.Lines.{Taken, line}
 use Rattle.rules.specs.Replay.{opens, sends, turns, Commanded, lengthOf, sixDigits, withBytes, commandOf, command}
 use Rattle.laws.specs.Tests.{never, and-left}
 use Rattle.laws.specs.Reading.{fits-length}
-use Rattle.lines.specs.Laws.{line-splits}
+use Rattle.rule_laws.specs.Lines.{FirstLine, first-line, first-length, line-taken}
+use Rattle.rule_laws.specs.Options.{none-some}
 use Rattle.commands.specs.Numbers.{limited, limited-large, length-limit}
 
 -- ---- a line
 
 pub line-more : (w r : List ℕ) (t : Taken) → line w ≡ some t → line (w ++ r) ≡ some record { line = t .line; others = t .others ++ r }
-unfolding line lead
-line-more [] r t e = absurd (let z : _≡_ {A = ℕ} 0 1 = cc in omega arith)
-line-more (c ∷ []) r t e = absurd (let z : _≡_ {A = ℕ} 0 1 = cc in omega arith)
-line-more (c ∷ d ∷ cs) r t e = go (eqb c 13) (eqb d 10) (eqb c 10) (line (d ∷ cs)) (line-more (d ∷ cs) r) e
-  where
-    go : (p q b : Bool) (o : Option Taken) → ((u : Taken) → o ≡ some u → line (d ∷ cs ++ r) ≡ some record { line = u .line; others = u .others ++ r })
-        → cond p (cond q (some record { line = []; others = cs }) none) (cond b none (lead (c ∷ []) o)) ≡ some t
-        → cond p (cond q (some record { line = []; others = cs ++ r }) none) (cond b none (lead (c ∷ []) (line (d ∷ cs ++ r)))) ≡ some record { line = t .line; others = t .others ++ r }
-    go true true b o f g = let u : record { line = []; others = cs } ≡ t = cc in rw (← u)
-    go true false b o f g = absurd (let z : _≡_ {A = ℕ} 0 1 = cc in omega arith)
-    go false q true o f g = absurd (let z : _≡_ {A = ℕ} 0 1 = cc in omega arith)
-    go false q false none f g = absurd (let z : _≡_ {A = ℕ} 0 1 = cc in omega arith)
-    go false q false (some v) f g = let u : record { line = c ∷ v .line; others = v .others } ≡ t = cc in rw (← u, f v refl)
+line-more w r t e =
+    let f : FirstLine w t = first-line w t e in
+    ap (λ (x : List ℕ). line (x ++ r)) (f .text) ∙ ap line (append-assoc (t .line) (13 ∷ 10 ∷ t .others) r) ∙ line-taken (t .line) (t .others ++ r) (f .plain)
 
 -- a line that ends behind the bytes read
 pub line-late : (w r : List ℕ) (t : Taken) → line w ≡ none → line (w ++ r) ≡ some t → length w < length (t .line) + 2
-unfolding line lead
-line-late [] r t h e = omega arith
-line-late (c ∷ []) r t h e = omega arith
-line-late (c ∷ d ∷ cs) r t h e = go (eqb c 13) (eqb d 10) (eqb c 10) (line (d ∷ cs)) (line (d ∷ cs ++ r)) (line-late (d ∷ cs) r) h e
+line-late w r t h e = go (leb (length (t .line) + 2) (length w)) refl
   where
-    go : (p q b : Bool) (o x : Option Taken) → ((u : Taken) → o ≡ none → x ≡ some u → length (d ∷ cs) < length (u .line) + 2)
-        → cond p (cond q (some record { line = []; others = cs }) none) (cond b none (lead (c ∷ []) o)) ≡ none
-        → cond p (cond q (some record { line = []; others = cs ++ r }) none) (cond b none (lead (c ∷ []) x)) ≡ some t → length (c ∷ d ∷ cs) < length (t .line) + 2
-    go true true b o x f g k = absurd (let z : _≡_ {A = ℕ} 0 1 = cc in omega arith)
-    go true false b o x f g k = absurd (let z : _≡_ {A = ℕ} 0 1 = cc in omega arith)
-    go false q true o x f g k = absurd (let z : _≡_ {A = ℕ} 0 1 = cc in omega arith)
-    go false q false (some v) x f g k = absurd (let z : _≡_ {A = ℕ} 0 1 = cc in omega arith)
-    go false q false none none f g k = absurd (let z : _≡_ {A = ℕ} 0 1 = cc in omega arith)
-    go false q false none (some v) f g k = let u : record { line = c ∷ v .line; others = v .others } ≡ t = cc in rw (← u) (omega (arith, f v refl refl))
+    f : FirstLine (w ++ r) t
+    f = first-line (w ++ r) t e
+
+    -- as many bytes read as it has are the line
+    whole : length (t .line) + 2 ≤ length w → w ≡ t .line ++ 13 ∷ 10 ∷ drop (length (t .line) + 2) w
+    whole k =
+        let l : List ℕ = t .line ++ 13 ∷ 10 ∷ [] in
+        let n : length l ≡ length (t .line) + 2 = length-append (t .line) (13 ∷ 10 ∷ []) in
+        let a : take (length (t .line) + 2) w ≡ l =
+        sym (take-append-le _ w r k) ∙ ap (take (length (t .line) + 2)) (f .text ∙ sym (append-assoc (t .line) (13 ∷ 10 ∷ []) (t .others))) ∙ take-at l (t .others) _ n in
+        sym (take-append-drop (length (t .line) + 2) w) ∙ rw a (append-assoc (t .line) (13 ∷ 10 ∷ []) _)
+
+    go : (b : Bool) → leb (length (t .line) + 2) (length w) ≡ b → length w < length (t .line) + 2
+    go true k = none-some (sym h ∙ ap line (whole (leb-true _ _ k)) ∙ line-taken (t .line) _ (f .plain))
+    go false k = leb-false _ _ k
 
 -- ---- the command of a line
 
@@ -65,10 +59,10 @@ record Follows (cs r : List ℕ) (x y : Option Commanded) : Type 0 where
 
 module _ (cs r : List ℕ) where
   follows-none : Follows cs r none none
-  follows-none = record { found = λ c e. absurd (let z : _≡_ {A = ℕ} 0 1 = cc in omega arith); missed = λ _ _. refl }
+  follows-none = record { found = λ c e. none-some e; missed = λ _ _. refl }
 
   follows-some : (c : Rattle.rules.specs.Replay.Command) → Follows cs r (some record { command = c; others = cs }) (some record { command = c; others = cs ++ r })
-  follows-some k = record { found = λ c e. (let u : record { command = k; others = cs } ≡ c = cc in rw (← u)); missed = λ _ e. absurd (let z : _≡_ {A = ℕ} 0 1 = cc in omega arith) }
+  follows-some k = record { found = λ c e. (let u : record { command = k; others = cs } ≡ c = cc in rw (← u)); missed = λ _ e. none-some (sym e) }
 
   follows-with : (f : List ℕ → Rattle.rules.specs.Replay.Command) (n : ℕ) → n ≤ 8192 → Follows cs r (withBytes f n cs) (withBytes f n (cs ++ r))
   unfolding withBytes
@@ -79,8 +73,8 @@ module _ (cs r : List ℕ) where
           let l : n ≤ length cs = leb-true _ _ e in
           let m : n ≤ length (cs ++ r) = omega (arith, length-append cs r) in
           rw (le-leb _ _ m, take-append-le n cs r l, drop-append-le n cs r l)
-          record { found = λ c g. (let u : record { command = f (take n cs); others = drop n cs } ≡ c = cc in rw (← u)); missed = λ _ g. absurd (let z : _≡_ {A = ℕ} 0 1 = cc in omega arith) }
-      go false e = record { found = λ c g. absurd (let z : _≡_ {A = ℕ} 0 1 = cc in omega arith); missed = λ k g. (let l : n ≤ length cs = omega arith in never (sym e ∙ le-leb _ _ l)) }
+          record { found = λ c g. (let u : record { command = f (take n cs); others = drop n cs } ≡ c = cc in rw (← u)); missed = λ _ g. none-some (sym g) }
+      go false e = record { found = λ c g. none-some g; missed = λ k g. (let l : n ≤ length cs = omega arith in never (sym e ∙ le-leb _ _ l)) }
 
   -- a length is at most 8,192
   follows-length : (l : List ℕ) (f : List ℕ → Rattle.rules.specs.Replay.Command) → Follows cs r (then (lengthOf l) (λ n. withBytes f n cs)) (then (lengthOf l) (λ n. withBytes f n (cs ++ r)))
@@ -111,7 +105,7 @@ bytes-behind f n cs c e = go (leb n (length cs)) e
   where
     go : (t : Bool) → given t record { command = f (take n cs); others = drop n cs } ≡ some c → length (c .others) ≤ length cs
     go true k = let u : record { command = f (take n cs); others = drop n cs } ≡ c = cc in rw (← u, length-drop) (omega arith)
-    go false k = absurd (let z : _≡_ {A = ℕ} 0 1 = cc in omega arith)
+    go false k = none-some k
 
 -- a command that stands in the bytes read is the input's
 pub command-more : (w r : List ℕ) (c : Commanded) → command w ≡ some c → command (w ++ r) ≡ some (followed c r)
@@ -119,7 +113,7 @@ unfolding command
 command-more w r c e = go (line w) refl e
   where
     go : (o : Option Taken) → line w ≡ o → then o (λ t. commandOf (t .line) (t .others)) ≡ some c → command (w ++ r) ≡ some (followed c r)
-    go none h k = absurd (let z : _≡_ {A = ℕ} 0 1 = cc in omega arith)
+    go none h k = none-some k
     go (some t) h k = rw (line-more w r t h) (follows-line (t .others) r (t .line) .found c k)
 
 -- less input stands behind a command than before it
@@ -130,24 +124,22 @@ line-behind l cs c e = go (equal (take 2 l) (ascii "M,")) (equal (take 2 l) (asc
     go : (p q b : Bool) (n d x m : Option ℕ)
         → cond p (then n (λ n. withBytes sends n cs)) (cond q (then d (λ d. some record { command = turns d; others = cs })) (cond b (then x (λ d. then m (λ n. withBytes (opens d) n cs))) none)) ≡ some c
         → length (c .others) ≤ length cs
-    go true q b none d x m h = absurd (let z : _≡_ {A = ℕ} 0 1 = cc in omega arith)
+    go true q b none d x m h = none-some h
     go true q b (some n) d x m h = bytes-behind sends n cs c h
-    go false true b n none x m h = absurd (let z : _≡_ {A = ℕ} 0 1 = cc in omega arith)
+    go false true b n none x m h = none-some h
     go false true b n (some d) x m h = let u : record { command = turns d; others = cs } ≡ c = cc in rw (← u) (omega arith)
-    go false false true n d none m h = absurd (let z : _≡_ {A = ℕ} 0 1 = cc in omega arith)
-    go false false true n d (some x) none h = absurd (let z : _≡_ {A = ℕ} 0 1 = cc in omega arith)
+    go false false true n d none m h = none-some h
+    go false false true n d (some x) none h = none-some h
     go false false true n d (some x) (some m) h = bytes-behind (opens x) m cs c h
-    go false false false n d x m h = absurd (let z : _≡_ {A = ℕ} 0 1 = cc in omega arith)
+    go false false false n d x m h = none-some h
 
 pub command-behind : (w : List ℕ) (c : Commanded) → command w ≡ some c → length (c .others) < length w
 unfolding command
 command-behind w c e = go (line w) refl e
   where
     go : (o : Option Taken) → line w ≡ o → then o (λ t. commandOf (t .line) (t .others)) ≡ some c → length (c .others) < length w
-    go none h k = absurd (let z : _≡_ {A = ℕ} 0 1 = cc in omega arith)
-    go (some t) h k =
-        let s : length w ≡ length (t .line) + suc (suc (length (t .others))) = ap (λ (x : List ℕ). length x) (line-splits w t h) ∙ length-append (t .line) (13 ∷ 10 ∷ t .others) in
-        omega (arith, line-behind (t .line) (t .others) c k)
+    go none h k = none-some k
+    go (some t) h k = omega (arith, first-length w t h, line-behind (t .line) (t .others) c k)
 
 -- ---- the longest command
 
@@ -189,14 +181,14 @@ limited-step v c n cs e = go (isDigit c) refl e
   where
     go : (t : Bool) → isDigit c ≡ t → then (cond t (digitsFrom (v * 10 + (c - 48)) cs) none) (λ m. given (leb m 8192) m) ≡ some n → (48 ≤ c) × (limited (v * 10 + (c - 48)) cs ≡ some n)
     go true h k = (leb-true 48 c (and-left (leb 48 c) (leb c 57) h), k)
-    go false h k = absurd (let z : _≡_ {A = ℕ} 0 1 = cc in omega arith)
+    go false h k = none-some k
 
 limited-under : (v n : ℕ) (cs : List ℕ) → limited v cs ≡ some n → v ≤ 8192
 limited-under v n cs e = go (leb v 8192) refl
   where
     go : (t : Bool) → leb v 8192 ≡ t → v ≤ 8192
     go true h = leb-true _ _ h
-    go false h = absurd (let y : none ≡ some n = limited-large v cs (leb-false _ _ h) ∙ e in let z : _≡_ {A = ℕ} 0 1 = cc in omega arith)
+    go false h = none-some (limited-large v cs (leb-false _ _ h) ∙ e)
 
 -- six digits of a length begin with two zeros
 long-zeros : (cs : List ℕ) (n : ℕ) → lengthOf cs ≡ some n → 6 ≤ length cs → take 2 cs ≡ ascii "00"
@@ -270,13 +262,12 @@ module _ (w r : List ℕ) (h : longest ≤ length w) (d : doubled w ≡ false) w
     where
       late : (o : Option Taken) → line w ≡ none → line (w ++ r) ≡ o → then o (λ t. commandOf (t .line) (t .others)) ≡ none
       late none m k = refl
-      late (some t) m k = line-none (t .line) (t .others) (omega (arith, line-late w r t m k)) (line-splits (w ++ r) t k)
+      late (some t) m k = line-none (t .line) (t .others) (omega (arith, line-late w r t m k)) (first-line (w ++ r) t k .text)
 
       soon : (t : Taken) → line w ≡ some t → commandOf (t .line) (t .others) ≡ none → (b : Bool) → leb 8192 (length (t .others)) ≡ b → commandOf (t .line) (t .others ++ r) ≡ none
       soon t m k true f = follows-line (t .others) r (t .line) .missed (leb-true _ _ f) k
       soon t m k false f =
-          let s : length w ≡ length (t .line) + suc (suc (length (t .others))) = ap (λ (x : List ℕ). length x) (line-splits w t m) ∙ length-append (t .line) (13 ∷ 10 ∷ t .others) in
-          line-none (t .line) (t .others ++ r) (omega (arith, leb-false 8192 (length (t .others)) f)) (line-splits (w ++ r) _ (line-more w r t m))
+          line-none (t .line) (t .others ++ r) (omega (arith, first-length w t m, leb-false 8192 (length (t .others)) f)) (first-line (w ++ r) _ (line-more w r t m) .text)
 
       go : (o : Option Taken) → line w ≡ o → then o (λ t. commandOf (t .line) (t .others)) ≡ none → then (line (w ++ r)) (λ t. commandOf (t .line) (t .others)) ≡ none
       go none m k = late (line (w ++ r)) m refl

@@ -5,19 +5,20 @@ use mathlib.Core.Bool.{Bool, true, false, _&&_, cond}
 use mathlib.Core.List.{List, [], _∷_, _++_, append-assoc, append-nil}
 use mathlib.Core.Option.{Option, none, some, Option·map}
 use mathlib.Core.Logic.{_⊎_, inl, inr}
-use Prim.Native.Nat.{ℕ, zero, suc, _+_, _-_, _≤_, _<_}
+use Prim.Native.Nat.{ℕ, _+_, _-_, _≤_, _<_}
 use native.Mathlib.Nat.{add-zero, eq-or-lt-of-le}
 use native.Mathlib.Omega.{arith}
 use lib.ListN.{length, getD, drop, length-append}
 use lib.Seq.{drop-at, drop-drop}
-use lib.Dec.{leb, eqb}
-use borrow.Author.Tests.{le-leb, lt-leb, eq-eqb, ne-eqb, eqb-true}
-use Rattle.rules.specs.Text.{ascii, equal, fits, then}
-use Rattle.rules.specs.Lines.{Line, Taken, lead, line, lines, begun, before, closes, inLines, closing, opening, framed}
-use Rattle.laws.specs.Parts.{cut, from, cut-done, cut-snoc, cut-all, from-step, from-done, from-length, from-cut, from-all}
+use lib.Dec.{leb}
+use borrow.Author.Tests.{le-leb, lt-leb, eq-eqb, ne-eqb}
+use Rattle.rules.specs.Text.{ascii, equal, fits}
+use Rattle.rules.specs.Lines.{Line, Taken, lead, line, lines, before, closes, inLines, closing, opening, framed}
+use Rattle.laws.specs.Parts.{cut, from, cut-done, cut-snoc, cut-all, from-step, from-done, from-length, from-cut}
 use Rattle.laws.specs.Equal.{equal-true}
 use Rattle.laws.specs.Tests.{not-held, never, and-left, and-right}
-use Rattle.rule_laws.specs.Lines.{begun-before}
+use Rattle.rule_laws.specs.Lines.{FirstLine, first-line, line-taken, Lined, Lined.end, Lined.next, lines-lined, lines-before}
+use Rattle.rule_laws.specs.Options.{none-some}
 use Rattle.lines.specs.Answers.{taken, LineEnd, NoLine, Plain}
 
 -- ---- bytes before a line
@@ -125,66 +126,24 @@ module _ (s : List ℕ) (at n k : ℕ) (inv : lead (cut s at (at + k)) (line (fr
 pub plain-bad : (s : List ℕ) (at n k : ℕ) → Plain s at n k → at + k + 1 < length s → at + n ≡ length s → (getD s (at + k) 0 ≡ 13 → ⊥) → line (from s at) ≡ none
 plain-bad s at n k p h e c = line-lf s at (at + k) _ (p .same) h c (p .stop (omega arith) c)
 
--- ---- all lines of a text
-
-abbrev linesOf : Option Taken → Option (List Line)
-linesOf o = then o (λ t. Option·map (before (t .line)) (lines (t .others)))
-
-lines-lead : (c : ℕ) (o : Option Taken) → Option·map (begun c) (linesOf o) ≡ linesOf (lead (c ∷ []) o)
-unfolding lead
-lines-lead c none = refl
-lines-lead c (some t) = begun-before c (t .line) (lines (t .others))
-
--- the lines of a text are its first line and the lines of what stands behind it
-pub lines-line : (c : ℕ) (cs : List ℕ) → lines (c ∷ cs) ≡ then (line (c ∷ cs)) (λ t. Option·map (before (t .line)) (lines (t .others)))
-unfolding lines line
-lines-line c [] = refl
-lines-line c (d ∷ cs) = go (eqb c 13) (eqb d 10) (eqb c 10) (lines-line d cs)
-  where
-    go : (p q r : Bool) → lines (d ∷ cs) ≡ linesOf (line (d ∷ cs))
-        → cond p (cond q (Option·map (before []) (lines cs)) none) (cond r none (Option·map (begun c) (lines (d ∷ cs))))
-        ≡ linesOf (cond p (cond q (some record { line = []; others = cs }) none) (cond r none (lead (c ∷ []) (line (d ∷ cs)))))
-    go true true r h = refl
-    go true false r h = refl
-    go false q true h = refl
-    go false q false h = rw h (lines-lead c (line (d ∷ cs)))
-
--- a text is its first line, CR LF, and what stands behind
-pub line-splits : (cs : List ℕ) (t : Taken) → line cs ≡ some t → cs ≡ t .line ++ (13 ∷ 10 ∷ t .others)
-unfolding line lead
-line-splits [] t e = absurd (let z : _≡_ {A = ℕ} 0 1 = cc in omega arith)
-line-splits (c ∷ []) t e = absurd (let z : _≡_ {A = ℕ} 0 1 = cc in omega arith)
-line-splits (c ∷ d ∷ cs) t e = go (eqb c 13) (eqb d 10) (eqb c 10) refl refl (line (d ∷ cs)) (line-splits (d ∷ cs)) e
-  where
-    go : (p q r : Bool) → eqb c 13 ≡ p → eqb d 10 ≡ q → (o : Option Taken) → ((u : Taken) → o ≡ some u → d ∷ cs ≡ u .line ++ (13 ∷ 10 ∷ u .others))
-        → cond p (cond q (some record { line = []; others = cs }) none) (cond r none (lead (c ∷ []) o)) ≡ some t → c ∷ d ∷ cs ≡ t .line ++ (13 ∷ 10 ∷ t .others)
-    go true true r h k o f g = let a : c ≡ 13 = eqb-true c 13 h in let b : d ≡ 10 = eqb-true d 10 k in let u : record { line = []; others = cs } ≡ t = cc in rw (← u, a, b)
-    go true false r h k o f g = absurd (let z : _≡_ {A = ℕ} 0 1 = cc in omega arith)
-    go false q true h k o f g = absurd (let z : _≡_ {A = ℕ} 0 1 = cc in omega arith)
-    go false q false h k none f g = absurd (let z : _≡_ {A = ℕ} 0 1 = cc in omega arith)
-    go false q false h k (some v) f g = let u : record { line = c ∷ v .line; others = v .others } ≡ t = cc in rw (← u) (ap (λ (l : List ℕ). c ∷ l) (f v refl))
-
 -- ---- the closing line
 
 closed : inLines (lines (ascii "-\r\n")) ≡ true
 unfolding lines closes equal
 closed = refl
 
--- two lines or more close as those behind the first do
-two-close : (l : Line) (o : Option Taken) → inLines (linesOf o) ≡ inLines (Option·map (before l) (linesOf o))
-unfolding closes
-two-close l none = refl
-two-close l (some t) = go (lines (t .others))
-  where
-    go : (o : Option (List Line)) → inLines (Option·map (before (t .line)) o) ≡ inLines (Option·map (before l) (Option·map (before (t .line)) o))
-    go none = refl
-    go (some ls) = refl
-
 -- a text that is more than its closing line closes as what stands behind its first line does
-closes-behind : (l cs : List ℕ) → closing (l ++ (13 ∷ 10 ∷ cs)) ≡ false → inLines (lines cs) ≡ inLines (Option·map (before l) (lines cs))
-unfolding closing equal closes lines
-closes-behind l [] h = not-held _ (λ e. let z : _≡_ {A = ℕ} 1 0 = (rw (equal-true l (ascii "-") e) at (ap (λ (b : Bool). cond {A = ℕ} b 1 0) h)) in omega arith)
-closes-behind l (c ∷ cs) h = rw (lines-line c cs) (two-close l (line (c ∷ cs)))
+closes-behind : (l cs : List ℕ) → closing (l ++ 13 ∷ 10 ∷ cs) ≡ false → inLines (lines cs) ≡ inLines (Option·map (before l) (lines cs))
+unfolding closing equal closes
+closes-behind l cs h = go (lines cs) (lines-lined cs)
+  where
+    same : {cs : List ℕ} {ls : List Line} → Lined cs ls → closing (l ++ 13 ∷ 10 ∷ cs) ≡ false → closes ls ≡ closes (l ∷ ls)
+    same end h = not-held _ (λ e. let z : _≡_ {A = ℕ} 1 0 = (rw (equal-true l (ascii "-") e) at (ap (λ (b : Bool). cond {A = ℕ} b 1 0) h)) in omega arith)
+    same (next p r) h = refl
+
+    go : (o : Option (List Line)) → ((ls : List Line) → o ≡ some ls → Lined cs ls) → inLines o ≡ inLines (Option·map (before l) o)
+    go none f = refl
+    go (some ls) f = same (f ls refl) h
 
 -- nothing stands behind the closing line
 closing-last : (cs : List ℕ) (t : Taken) → line cs ≡ some t → closing cs ≡ true → t .others ≡ []
@@ -200,14 +159,19 @@ closing-later s at e l h = sym (not-held _ (λ c. let z : length (from s (e + 2)
 
 -- a text with a first line, and one without
 lines-taken : (cs : List ℕ) (t : Taken) → line cs ≡ some t → lines cs ≡ Option·map (before (t .line)) (lines (t .others))
-unfolding line
-lines-taken [] t e = absurd (let z : _≡_ {A = ℕ} 0 1 = cc in omega arith)
-lines-taken (c ∷ cs) t e = rw (lines-line c cs, e)
+lines-taken cs t e = let f : FirstLine cs t = first-line cs t e in ap lines (f .text) ∙ lines-before (t .line) (t .others) (f .plain)
 
 none-closes : (cs : List ℕ) → line cs ≡ none → inLines (lines cs) ≡ false
-unfolding lines closes
-none-closes [] e = refl
-none-closes (c ∷ cs) e = rw (lines-line c cs, e)
+unfolding closes
+none-closes cs e = go (lines cs) (lines-lined cs)
+  where
+    lineless : {cs : List ℕ} {ls : List Line} → Lined cs ls → line cs ≡ none → closes ls ≡ false
+    lineless end e = refl
+    lineless (next {cs = cs} {l = l} p r) e = none-some (sym e ∙ line-taken l cs p)
+
+    go : (o : Option (List Line)) → ((ls : List Line) → o ≡ some ls → Lined cs ls) → inLines o ≡ false
+    go none f = refl
+    go (some ls) f = lineless (f ls refl) e
 
 -- the loop from line to line: what is left closes as the whole does
 module _ (s : List ℕ) (at : ℕ) (x : Bool) (inv : inLines (lines (from s at)) ≡ x) where
@@ -224,7 +188,7 @@ module _ (s : List ℕ) (at : ℕ) (x : Bool) (inv : inLines (lines (from s at))
     closes-bad n = sym (none-closes (from s at) (n .same)) ∙ inv
 
     pub closes-on : b ≡ false → (e : ℕ) → LineEnd s at e → inLines (lines (from s (e + 2))) ≡ x
-    closes-on h e l = closes-behind (cut s at e) (from s (e + 2)) (rw (← line-splits (from s at) _ (l .same)) (sym u ∙ h)) ∙ sym (rw (lines-taken (from s at) _ (l .same))) ∙ inv
+    closes-on h e l = closes-behind (cut s at e) (from s (e + 2)) (rw (← first-line (from s at) _ (l .same) .text) (sym u ∙ h)) ∙ sym (rw (lines-taken (from s at) _ (l .same))) ∙ inv
 
 -- all that is left, as a part of three bytes
 module _ (s : List ℕ) (at : ℕ) where
@@ -249,31 +213,25 @@ closing-size : (cs : List ℕ) → closing cs ≡ true → length cs ≡ 3
 unfolding closing
 closing-size cs h = ap (λ (l : List ℕ). length l) (equal-true cs (ascii "-\r\n") h)
 
--- so does what stands behind a first line
-ends-step : (cs : List ℕ) (n : ℕ) → length cs ≤ suc n → inLines (lines cs) ≡ true → ((ds : List ℕ) → length ds ≤ n → inLines (lines ds) ≡ true → closing (from ds (length ds - 3)) ≡ true)
-    → closing (from cs (length cs - 3)) ≡ true
-ends-step cs n l h rec = go (line cs) refl (closing cs) refl
-  where
-    go : (o : Option Taken) → line cs ≡ o → (b : Bool) → closing cs ≡ b → closing (from cs (length cs - 3)) ≡ true
-    go none e b f = never (sym (none-closes cs e) ∙ h)
-    go (some t) e true f = let z : length cs - 3 ≡ 0 = omega (arith, closing-size cs f) in rw (z, from-all) f
-    go (some t) e false f =
-        let p : cs ≡ t .line ++ (13 ∷ 10 ∷ []) ++ t .others = line-splits cs t e ∙ sym (append-assoc (t .line) (13 ∷ 10 ∷ []) (t .others)) in
-        let k : inLines (lines (t .others)) ≡ true = closes-behind (t .line) (t .others) (rw (← line-splits cs t e) f) ∙ sym (rw (lines-taken cs t e)) ∙ h in
-        let m : length cs ≡ length (t .line) + 2 + length (t .others) = ap (λ (x : List ℕ). length x) p ∙ rw (length-append, length-append) in
-        let r : closing (from (t .others) (length (t .others) - 3)) ≡ true = rec (t .others) (omega arith) k in
-        let z : 3 ≤ length (t .others) = omega (arith, closing-size _ r, from-length (t .others) (length (t .others) - 3)) in
-        ap (λ (x : List ℕ). closing (from x (length x - 3))) p ∙ rw (last-three (t .line ++ (13 ∷ 10 ∷ [])) (t .others) z) r
+-- a text ends in the closing line where what stands behind its first line does
+ends-behind : (l cs : List ℕ) → closing (from cs (length cs - 3)) ≡ true → closing (from (l ++ 13 ∷ 10 ∷ cs) (length (l ++ 13 ∷ 10 ∷ cs) - 3)) ≡ true
+ends-behind l cs h =
+    let z : 3 ≤ length cs = omega (arith, closing-size _ h, from-length cs (length cs - 3)) in
+    rw (← append-assoc l (13 ∷ 10 ∷ []) cs, last-three (l ++ 13 ∷ 10 ∷ []) cs z) h
 
--- a text in lines ends in the closing line; n is at least its length
-ends : (n : ℕ) (cs : List ℕ) → length cs ≤ n → inLines (lines cs) ≡ true → closing (from cs (length cs - 3)) ≡ true
-unfolding lines closes
-ends zero cs l h = empty cs l h
+-- so does a text in lines whose last one closes it
+lined-ends : {cs : List ℕ} {ls : List Line} → Lined cs ls → closes ls ≡ true → closing (from cs (length cs - 3)) ≡ true
+unfolding closes closing equal from
+lined-ends end h = never h
+lined-ends (next {l = l} p end) h = rw (equal-true l (ascii "-") h)
+lined-ends (next {cs = cs} {l = l} p (next q r)) h = ends-behind l cs (lined-ends (next q r) h)
+
+ends : (s : List ℕ) → inLines (lines s) ≡ true → closing (from s (length s - 3)) ≡ true
+ends s h = go (lines s) (lines-lined s) h
   where
-    empty : (cs : List ℕ) → length cs ≤ 0 → inLines (lines cs) ≡ true → closing (from cs (length cs - 3)) ≡ true
-    empty [] l h = never h
-    empty (c ∷ cs) l h = absurd (omega arith)
-ends (suc n) cs l h = ends-step cs n l h (ends n)
+    go : (o : Option (List Line)) → ((ls : List Line) → o ≡ some ls → Lined s ls) → inLines o ≡ true → closing (from s (length s - 3)) ≡ true
+    go none f k = never k
+    go (some ls) f k = lined-ends (f ls refl) k
 
 module _ (s : List ℕ) where
   pub framed-long : 4096 < length s → false ≡ framed s
@@ -282,7 +240,7 @@ module _ (s : List ℕ) where
 
   pub framed-open : (b : Bool) → b ≡ closing (from s (length s - 3)) → b ≡ false → false ≡ framed s
   unfolding framed
-  framed-open b u k = not-held _ (λ x. never (sym k ∙ u ∙ ends (length s) s (omega arith) (and-right (leb (length s) 4096) (inLines (lines s)) (and-left (leb (length s) 4096 && inLines (lines s)) (opening s) x))))
+  framed-open b u k = not-held _ (λ x. never (sym k ∙ u ∙ ends s (and-right (leb (length s) 4096) (inLines (lines s)) (and-left (leb (length s) 4096 && inLines (lines s)) (opening s) x))))
 
   module _ (h : length s ≤ 4096) (b : Bool) (u : b ≡ inLines (lines s)) where
     pub framed-not : b ≡ false → false ≡ framed s

@@ -16,7 +16,7 @@ use Rattle.rules.specs.Register.{Account, Register, accountLine, accountLines, 
 use Rattle.laws.specs.Parts.{cut, cut-take, cut-drop, cut-size, from, from-done, from-all, from-length}
 use Rattle.laws.specs.Tests.{and-left, and-right, cond-left, cond-right, never}
 use Rattle.laws.specs.Reading.{fits-length}
-use Rattle.rule_laws.specs.Lines.{some-line}
+use Rattle.rule_laws.specs.Lines.{Lined, Lined.end, lines-lined}
 use Rattle.register.specs.Blocks.{crlf, inside, line-at, LinesStand, stands}
 use Rattle.register.specs.Places.{counted, upto, place, formAt, endsAt, boundAt, ibanIn, accountIn, lineIn, count, ibansIn, accountsIn, linesIn, firstIn, againIn, lengthIn, passesIn, registerIn}
 use Rattle.register.specs.AccountLine.{accountForm, accountOn, lineOn, account-line}
@@ -95,8 +95,10 @@ lines-in s i (suc k) h g =
 
 -- no lines: nothing is left
 no-lines : (t : List ℕ) → lines t ≡ some [] → t ≡ []
-no-lines [] h = refl
-no-lines (c ∷ t) h = absurd (some-line c t h)
+no-lines t h = go (lines-lined t [] h)
+  where
+    go : {t : List ℕ} → Lined t [] → t ≡ []
+    go end = refl
 
 -- bytes that fit stand within the text
 fits-within : (p s : List ℕ) (at : ℕ) → 0 < length p → fits p (cut s at (at + length p)) ≡ true → at + length p ≤ length s

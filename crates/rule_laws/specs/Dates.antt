@@ -11,7 +11,7 @@ use borrow.Author.Tests.{leb-true}
 use Rattle.rules.specs.Text.{digits, then, given}
 use Rattle.rules.specs.Dates.{exists, date}
 use Rattle.laws.specs.Tests.{and-left}
-use Rattle.rule_laws.specs.Options.{Came, came, Gave, gave}
+use Rattle.rule_laws.specs.Options.{none-some, Came, came, Gave, gave}
 
 -- an existing date has at most six digits
 pub date-small : (n : ℕ) → exists n ≡ true → n < 1000000
@@ -28,4 +28,4 @@ date-exists cs d h = go (eqb (length cs) 6) h
         let x : Came (digits cs) (λ n. given (exists n) n) d = came _ _ k in
         let g : Gave (exists (x .value)) (x .value) d = gave _ _ (x .gives) in
         rw (g .is) at (g .test)
-    go false k = absurd (let z : _≡_ {A = ℕ} 0 1 = cc in omega arith)
+    go false k = none-some k

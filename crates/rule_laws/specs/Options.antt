@@ -1,11 +1,15 @@
 -- What an option that is there tells of how it was made.
 use mathlib.Core.Path.{_≡_, refl}
 use mathlib.Core.Bool.{Bool, true, false}
-use mathlib.Core.Option.{Option, none, some}
+use mathlib.Core.Option.{Option, none, some, Option·map}
 use Prim.Native.Nat.{ℕ}
 use native.Mathlib.Omega.{arith}
 use Rattle.rules.specs.Text.{then, given, isSome}
 use Rattle.laws.specs.Tests.{never}
+
+-- none is not some
+pub none-some : {A B : Type 0} {a : A} → none ≡ some a → B
+none-some h = absurd (let z : _≡_ {A = ℕ} 0 1 = cc in omega arith)
 
 pub isSome-is : {A : Type 0} (x : Option A) (a : A) → x ≡ some a → isSome x ≡ true
 isSome-is x a h = rw h
@@ -29,8 +33,18 @@ pub record Came {A B : Type 0} (x : Option A) (f : A → Option B) (b : B) : Typ
   pub gives : f value ≡ some b
 
 pub came : {A B : Type 0} {b : B} (x : Option A) (f : A → Option B) → then x f ≡ some b → Came x f b
-came none f h = absurd (let z : _≡_ {A = ℕ} 0 1 = cc in omega arith)
+came none f h = none-some h
 came (some a) f h = record { value = a; is = refl; gives = h }
+
+-- so did what was made of it
+pub record Mapped {A B : Type 0} (f : A → B) (x : Option A) (b : B) : Type 0 where
+  pub value : A
+  pub is : x ≡ some value
+  pub gives : f value ≡ b
+
+pub mapped : {A B : Type 0} {b : B} (f : A → B) (x : Option A) → Option·map f x ≡ some b → Mapped f x b
+mapped f none h = none-some h
+mapped f (some a) h = record { value = a; is = refl; gives = some-is h }
 
 -- a value that is given passed its test
 pub record Gave {A : Type 0} (t : Bool) (a b : A) : Type 0 where
@@ -39,4 +53,4 @@ pub record Gave {A : Type 0} (t : Bool) (a b : A) : Type 0 where
 
 pub gave : {A : Type 0} {b : A} (t : Bool) (a : A) → given t a ≡ some b → Gave t a b
 gave true a h = record { test = refl; is = cc }
-gave false a h = absurd (let z : _≡_ {A = ℕ} 0 1 = cc in omega arith)
+gave false a h = none-some h
