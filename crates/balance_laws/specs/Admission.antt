@@ -6,7 +6,6 @@ use mathlib.Core.Option.{some}
 use Prim.Native.Nat.{ℕ, _+_, _^_, _≤_, _<_}
 use native.Mathlib.Omega.{arith}
 use lib.Dec.{leb, eqb}
-use lib.ListN.{length}
 use borrow.Author.Tests.{eqb-true, eqb-false, leb-true, not-false}
 use Rattle.rules.specs.Text.{ascii, any, equal}
 use Rattle.rules.specs.Messages.{Message, mt103, mt101, Detail, currency32B, read, sumOf}
@@ -17,7 +16,8 @@ use Rattle.engine_laws.specs.Facts.{or-left, or-right, any-left}
 use Rattle.engine_laws.specs.Limits.{Limits, bank-small}
 use Rattle.engine_laws.specs.Accepted.{Has, read-has, sender-bank}
 use Rattle.rule_laws.specs.Clear.{Clear}
-use Rattle.balance_laws.specs.Details.{Details, Details.transfer, Details.order, read-details}
+use Rattle.rule_laws.specs.Messages.{DetailsRead, DetailsRead.last, DetailsRead.more, ReadAs, ReadAs.transfer, ReadAs.order, read-as}
+use Rattle.balance_laws.specs.Details.{read-sent}
 use Rattle.balance_laws.specs.Accounts.{temporary-shape}
 use Rattle.balance_laws.specs.Message.{bookOf, Postable}
 use Rattle.balance_laws.specs.Untouched.{Admitted, Admitted.transfer, Admitted.order}
@@ -35,18 +35,21 @@ postable room e s m l r c =
         small = omega (arith, bank-small (bankOf m) b);
         account = temporary-shape (e .register) (l .register);
       };
-      details = read-details s m r;
+      details = read-sent (read-as s m r);
       transferred = small-sum _ _ (not-false _ (or-left _ _ (c .under)));
       detailed = small-sum _ _ (not-false _ (or-right (not (leb (after e m .transferred) limit)) _ (c .under)));
     }
 
-pub admitted : (room : ℕ) (e : Engine) (s : List ℕ) (m : Message) → Details m → Clear room e s m → Admitted (e .day) m
+pub admitted : (room : ℕ) (e : Engine) (s : List ℕ) (m : Message) → ReadAs s m → Clear room e s m → Admitted (e .day) m
 unfolding misdated badAmount badSum any sumOf
-admitted room e s (mt103 t) transfer c = transfer (eqb-true _ _ (not-false _ (c .today)))
-admitted room e s (mt101 o) (order l) c = order (leb-true _ _ (not-false _ (c .today))) (go (o .details) (l .some) (c .amounts))
+admitted room e s (mt103 t) (transfer r) c = transfer (eqb-true _ _ (not-false _ (c .today)))
+admitted room e s (mt101 o) (order r) c = order (leb-true _ _ (not-false _ (c .today))) (go (r .details) (c .amounts))
   where
-    go : (ds : List Detail) → 1 ≤ length ds → any (λ (d : Detail). badSum (currency32B d) (d .amount)) ds ≡ false → 1 ≤ sumOf ds
-    go [] n h = n
-    go (d ∷ ds) n h =
+    worth : (d : Detail) (ds : List Detail) → any (λ (d : Detail). badSum (currency32B d) (d .amount)) (d ∷ ds) ≡ false → 1 ≤ sumOf (d ∷ ds)
+    worth d ds h =
         let z : d .amount ≡ 0 → ⊥ = eqb-false (d .amount) 0 (or-right (not (equal (currency32B d) (ascii "BGN"))) (eqb (d .amount) 0) (any-left (badSum (currency32B d) (d .amount)) (any (λ (d : Detail). badSum (currency32B d) (d .amount)) ds) h)) in
         omega arith
+
+    go : {ds : List Detail} → DetailsRead ds → any (λ (d : Detail). badSum (currency32B d) (d .amount)) ds ≡ false → 1 ≤ sumOf ds
+    go (last {d = d} r) h = worth d [] h
+    go (more {d = d} {ds = ds} r _) h = worth d ds h

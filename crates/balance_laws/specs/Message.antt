@@ -2,11 +2,10 @@
 use mathlib.Core.Path.{_≡_, refl, sym}
 use mathlib.Core.Bool.{Bool, true, false, cond}
 use mathlib.Core.List.{List, [], _∷_}
-use mathlib.Core.Option.{none}
 use Prim.Native.Nat.{ℕ, _+_, _^_, _<_}
 use native.Mathlib.Omega.{arith}
 use Rattle.rules.specs.Messages.{Message, mt103, mt101, Detail, account59, detailsOf, dateOf, transferredBy, detailedBy, sumOf}
-use Rattle.rules.specs.Register.{Register, register, registerOf}
+use Rattle.rules.specs.Register.{Register, registerOf}
 use Rattle.rules.specs.Verdict.{Verdict, credited, returned, isReturned, accountAt}
 use Rattle.rules.specs.Engine.{Engine, bic}
 use Rattle.rules.specs.Written.{Book, posting, verdicts}
@@ -15,7 +14,6 @@ use Rattle.rules.specs.Ledger.{Kind, Fed, isParty}
 use Rattle.engine_laws.specs.Layout.{All, All.none, All.more}
 use Rattle.balance_laws.specs.Told.{Tells, tells-none, tells-join, tells-same, tells-mute, Mute, mute-none}
 use Rattle.balance_laws.specs.Mute.{DetailSent, mute-verdicts}
-use Rattle.balance_laws.specs.Details.{Details, Details.transfer, Details.order}
 use Rattle.balance_laws.specs.Accounts.{credited-shape}
 use Rattle.balance_laws.specs.Kinds.{comesIn, goesOut, Readable, mine, mine-none, mine-adds, bank-party, iban-party, in-from, out-from, in-paid, out-paid}
 
@@ -83,20 +81,19 @@ bookOf e m = record { day = e .day; temporary = registerOf (e .register) .tempor
 -- what the lines of an accepted message need
 pub record Postable (e : Engine) (m : Message) : Type 0 where
   pub book : Readable (bookOf e m)
-  pub details : Details m
+  pub details : All DetailSent (detailsOf m)
   pub transferred : transferredBy m < 10 ^ 20
   pub detailed : detailedBy m < 10 ^ 20
 
 module _ (e : Engine) (m : Message) (w : Postable e m) where
   -- the verdicts that follow tell nothing
   mute-judged : Mute (cond (hasVerdict m (after e m)) (verdicts (e .day) (e .count) (after e m) (returnedOf (registerOf (e .register)) (detailsOf m))) [])
-  unfolding bookOf after detailsOf
-  mute-judged = go (hasVerdict m (after e m)) (w .details)
+  unfolding bookOf after
+  mute-judged = go (hasVerdict m (after e m))
     where
-      go : (t : Bool) {n : Message} → Details n → Mute (cond t (verdicts (e .day) (e .count) (after e m) (returnedOf (registerOf (e .register)) (detailsOf n))) [])
-      go true transfer = mute-verdicts (e .day) (e .count) (after e m) (w .book .known) (returned-sent (registerOf (e .register)) none)
-      go true (order l) = mute-verdicts (e .day) (e .count) (after e m) (w .book .known) (returned-sent (registerOf (e .register)) (l .sent))
-      go false d = mute-none
+      go : (t : Bool) → Mute (cond t (verdicts (e .day) (e .count) (after e m) (returnedOf (registerOf (e .register)) (detailsOf m))) [])
+      go true = mute-verdicts (e .day) (e .count) (after e m) (w .book .known) (returned-sent (registerOf (e .register)) (w .details))
+      go false = mute-none
 
   module _ (bank : ℕ) (f : Fed) (s : bank < 2 ^ 64) where
     pub message-in : Tells (comesIn bank) f (messageText e m) (mine bank (bankOf m) (transferredBy m))

@@ -28,7 +28,7 @@ use Rattle.engine_laws.specs.Calls.{Stays, done-holds, done-text, Takes, messag
 use Rattle.balance_laws.specs.Told.{Tells, tells-none, told}
 use Rattle.balance_laws.specs.Tally.{Measure, tally, SameEntries, only, like, bare, one, kept-bare, same-kept}
 use Rattle.balance_laws.specs.Booking.{many, many-past, keyed, sorted-many, entered-same}
-use Rattle.balance_laws.specs.Details.{read-details}
+use Rattle.rule_laws.specs.Messages.{read-as}
 use Rattle.balance_laws.specs.Kinds.{comesIn, goesOut, mine}
 use Rattle.balance_laws.specs.Message.{Postable, message-in, message-out}
 use Rattle.balance_laws.specs.Turn.{closed, nothing, turn-in, turn-out}
@@ -114,7 +114,7 @@ module _ (temporary area : List ℕ) (ledger : List Position) (sent : List Messa
           agrees = record {
             account = g .account;
             same = entered-same (added m) (e .positions) ledger (l .order) (g .same);
-            history = history-message (g .history) m (admitted (length out) e s m (read-details s m (t .reads)) (t .clear)) (once (l .order) (g .same) (bankOf m) (dateOf m));
+            history = history-message (g .history) m (admitted (length out) e s m (read-as s m (t .reads)) (t .clear)) (once (l .order) (g .same) (bankOf m) (dateOf m));
             settled = λ f. never (sym f);
           };
         };
