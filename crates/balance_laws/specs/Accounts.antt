@@ -8,26 +8,18 @@ use native.Mathlib.Omega.{arith}
 use lib.ListN.{getD, take}
 use Rattle.rules.specs.Text.{equal, isSome}
 use Rattle.rules.specs.Accounts.{ibanShape, control, passes}
-use Rattle.rules.specs.Lines.{Line, lines}
-use Rattle.rules.specs.Register.{Account, Register, accountLines, sound, ofLines, register, registerOf}
+use Rattle.rules.specs.Register.{Account, Register, sound, register, registerOf}
 use Rattle.rules.specs.Verdict.{credited, returned, Cause, wrongShape, wrongControl, outOfBounds, found, noAccount, accountAt, shaped, inBounds, judged, verdict}
 use Rattle.laws.specs.Tests.{and-left}
-use Rattle.rule_laws.specs.Options.{none-some, There, there, Came, came, gave, some-is}
+use Rattle.rule_laws.specs.Options.{none-some, There, there, some-is}
+use Rattle.rule_laws.specs.Registers.{register-read}
 use Rattle.engine_laws.specs.Facts.{equal-true}
 
-lines-sound : (ls : List Line) (r : Register) → ofLines ls ≡ some r → sound r ≡ true
-unfolding ofLines
-lines-sound [] r h = none-some h
-lines-sound (l ∷ ls) r h =
-    let a : Came (accountLines ls) _ r = came _ _ h in
-    let g = gave (sound record { temporary = l; accounts = a .value }) _ (a .gives) in rw (g .is) at (g .test)
-
 pub temporary-shape : (text : List ℕ) → isSome (register text) ≡ true → ibanShape (registerOf text .temporary) ≡ true
-unfolding registerOf register sound passes
+unfolding registerOf sound passes
 temporary-shape text h =
     let t : There (register text) = there (register text) h in
-    let l : Came (lines text) ofLines (t .value) = came (lines text) ofLines (t .is) in
-    rw (t .is) (and-left _ _ (and-left _ _ (and-left _ _ (lines-sound (l .value) (t .value) (l .gives)))))
+    rw (t .is) (and-left _ _ (and-left _ _ (and-left _ _ (register-read text (t .value) (t .is) .good))))
 
 -- the line found has the IBAN looked for
 record AccountFound (iban : List ℕ) (n i : ℕ) (accounts : List Account) : Type 0 where

@@ -2,7 +2,7 @@
 use mathlib.Core.Path.{_≡_, refl, _∙_}
 use mathlib.Core.Bool.{true}
 use mathlib.Core.List.{List, [], _∷_, _++_, append-nil}
-use Prim.Native.Nat.{ℕ, _+_, _-_, _≤_}
+use Prim.Native.Nat.{ℕ, _≤_}
 use native.Mathlib.Omega.{arith}
 use lib.ListN.{length, drop, length-append}
 use Rattle.rules.specs.Text.{over, isSome}
@@ -13,7 +13,7 @@ use Rattle.laws.specs.Digits.{places-length}
 use Rattle.laws.specs.Pieces.{wrote-5}
 use Rattle.laws.specs.Writing.{Wrote, wrote-over}
 use Rattle.laws.specs.Sections.{zeros-length, padded-length}
-use Rattle.engine_laws.specs.Registers.{register-length}
+use Rattle.rule_laws.specs.Registers.{register-length}
 use Rattle.engine_laws.specs.Several.{lengths-length}
 use Rattle.engine_laws.specs.Sections.{textPart}
 use Rattle.engine_change.specs.Header.{numbers, lengths}

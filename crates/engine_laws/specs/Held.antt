@@ -18,7 +18,7 @@ use Rattle.laws.specs.Tests.{and-left, and-right, cond-right}
 use Rattle.rule_laws.specs.Options.{Gave, gave}
 use Rattle.rule_laws.specs.Dates.{date-small}
 use Rattle.engine_laws.specs.Facts.{cond-left, equal-true, equal-same}
-use Rattle.engine_laws.specs.Registers.{register-length}
+use Rattle.rule_laws.specs.Registers.{register-length}
 use Rattle.engine_laws.specs.Limits.{Limits, limits}
 use Rattle.engine_laws.specs.Layout.{WrittenBack, All, All.none, All.more, number-at, joined-length, records-back, position-kept, reference-kept}
 use Rattle.engine_laws.specs.Tests.{textCount}

@@ -23,7 +23,7 @@ use Rattle.laws.specs.Tests.{and-left, and-right}
 use Rattle.rule_laws.specs.Options.{isSome-is, There, there}
 use Rattle.engine_laws.specs.Facts.{and-both, equal-true, equal-same, either}
 use Rattle.engine_laws.specs.Bytes.{Bytes}
-use Rattle.engine_laws.specs.Registers.{register-length}
+use Rattle.rule_laws.specs.Registers.{register-length}
 use Rattle.engine_laws.specs.Limits.{Limits, limits, limits-within}
 use Rattle.engine_laws.specs.Layout.{WrittenBack, All, All.none, All.more, part-at, joined-length}
 use Rattle.engine_laws.specs.Several.{Texts, stands-zeros, zeros-stand, text-size, lengths-behind, texts-behind, textsBefore, lengths-same, texts-same}

@@ -1,5 +1,4 @@
 pub mod Facts
-pub mod Registers
 pub mod Limits
 pub mod Layout
 pub mod Several

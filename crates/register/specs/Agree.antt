@@ -1,23 +1,23 @@
 -- A text passes 9 exactly where the tests at its places hold, and then the register is what stands there.
-use mathlib.Core.Path.{_≡_, refl, sym, ap, subst, _∙_}
+use mathlib.Core.Path.{_≡_, refl, sym, ap, _∙_}
 use mathlib.Core.Bool.{Bool, true, false, _&&_, not}
 use mathlib.Core.List.{List, [], _∷_, map}
 use mathlib.Core.Option.{Option, none, some, Option·map}
-use Prim.Native.Nat.{ℕ, zero, suc, _+_, _-_, _≤_, _<_, min}
+use Prim.Native.Nat.{ℕ, zero, suc, _+_, _-_, _≤_}
 use native.Mathlib.Nat.{zero-add}
 use native.Mathlib.Omega.{arith}
-use lib.Dec.{leb, eqb, lit<}
+use lib.Dec.{leb, eqb}
 use lib.ListN.{length, take, drop, length-map}
 use borrow.Author.Tests.{eqb-true, leb-true, eq-eqb, le-leb}
 use Rattle.rules.specs.Text.{ascii, isDigit, isLetter, isAlnum, fitsSign, every, fits, then, given}
 use Rattle.rules.specs.Accounts.{ibanShape, passes}
 use Rattle.rules.specs.Lines.{Line, before, lines}
 use Rattle.rules.specs.Register.{Account, Register, accountLine, accountLines, sound, ofLines, register}
-use Rattle.laws.specs.Parts.{cut, cut-take, cut-drop, cut-size, from, from-done, from-all, from-length}
+use Rattle.laws.specs.Parts.{cut, cut-take, cut-drop, from, from-done, from-all}
 use Rattle.laws.specs.Tests.{and-left, and-right, cond-left, cond-right, never}
-use Rattle.laws.specs.Reading.{fits-length}
-use Rattle.rule_laws.specs.Lines.{Lined, Lined.end, lines-lined}
-use Rattle.register.specs.Blocks.{crlf, inside, line-at, LinesStand, stands}
+use Rattle.rule_laws.specs.Options.{Gave, gave}
+use Rattle.rule_laws.specs.Registers.{AccountsRead, AccountsRead.none, AccountsRead.more, RegisterRead, register-read, register-size}
+use Rattle.register.specs.Blocks.{inside, line-at, LinesStand, stands}
 use Rattle.register.specs.Places.{counted, upto, place, formAt, endsAt, boundAt, ibanIn, accountIn, lineIn, count, ibansIn, accountsIn, linesIn, firstIn, againIn, lengthIn, passesIn, registerIn}
 use Rattle.register.specs.AccountLine.{accountForm, accountOn, lineOn, account-line}
 
@@ -93,79 +93,38 @@ lines-in s i (suc k) h g =
 
 -- ---- and back: from the accounts to the places
 
--- no lines: nothing is left
-no-lines : (t : List ℕ) → lines t ≡ some [] → t ≡ []
-no-lines t h = go (lines-lined t [] h)
-  where
-    go : {t : List ℕ} → Lined t [] → t ≡ []
-    go end = refl
-
--- bytes that fit stand within the text
-fits-within : (p s : List ℕ) (at : ℕ) → 0 < length p → fits p (cut s at (at + length p)) ≡ true → at + length p ≤ length s
-fits-within p s at h f =
-    let e : length p ≡ length (cut s at (at + length p)) = fits-length p _ f in
-    let k : length (cut s at (at + length p)) ≡ min (at + length p) (length s) - at = cut-size s at (at + length p) in
-    omega arith
-
--- what is given passed its test
-given-held : {A : Type 0} (t : Bool) (a b : A) → given t a ≡ some b → t ≡ true
-given-held true a b h = refl
-given-held false a b h = absurd (let z : _≡_ {A = ℕ} 0 1 = cc in omega arith)
-
-given-same : {A : Type 0} (t : Bool) (a b : A) → given t a ≡ some b → a ≡ b
-given-same true a b h = cc
-given-same false a b h = absurd (let z : _≡_ {A = ℕ} 0 1 = cc in omega arith)
-
 -- a line from place i on that is an account's
-module _ (s : List ℕ) (i : ℕ) (l : Line) (ls : List Line) (a : Account) (h : lines (from s (place i)) ≡ some (l ∷ ls)) (e : accountLine l ≡ some a) where
-  on : given (lineOn l) (accountOn l) ≡ some a
-  on = sym (account-line l) ∙ e
+module _ (s : List ℕ) (i : ℕ) {l : Line} {ls : List Line} {a : Account} (h : lines (from s (place i)) ≡ some (l ∷ ls)) (e : accountLine l ≡ some a) where
+  on : Gave (lineOn l) (accountOn l) a
+  on = gave _ _ (sym (account-line l) ∙ e)
 
   it : LinesStand accountForm s (place i) account-inside l ls
   unfolding lineOn
-  it = stands accountForm s (place i) account-inside l ls h (and-left _ _ (and-left _ _ (given-held (lineOn l) (accountOn l) a on)))
+  it = stands accountForm s (place i) account-inside l ls h (and-left _ _ (and-left _ _ (on .test)))
 
   line-held : lineIn s i ≡ true
   unfolding endsAt
-  line-held = sym (line-in s i) ∙ rw (← it .same, given-held (lineOn l) (accountOn l) a on) (it .ended)
+  line-held = sym (line-in s i) ∙ rw (← it .same, on .test) (it .ended)
 
   account-same : a ≡ accountIn s i
-  account-same = sym (given-same (lineOn l) (accountOn l) a on) ∙ ap accountOn (it .same) ∙ account-in s i
+  account-same = sym (on .is) ∙ ap accountOn (it .same) ∙ account-in s i
 
   next-lines : lines (from s (place (i + 1))) ≡ some ls
   next-lines = let k : place (i + 1) ≡ place i + 36 + 2 = omega arith in rw k (it .others)
 
-  next-within : place (i + 1) ≤ length s
-  next-within = let k : place i + 36 + 2 ≤ length s = fits-within crlf s (place i + 36) (lit< tt) (it .ended) in omega arith
-
 -- the accounts xs are those of the lines from account line i on
 record AccountsListed (s : List ℕ) (i : ℕ) (xs : List Account) : Type 0 where
-  size : length s ≡ place (i + length xs)
   good : every (lineIn s) (counted i (length xs)) ≡ true
   same : xs ≡ map (accountIn s) (counted i (length xs))
 
-listed : (s : List ℕ) (i : ℕ) (ls : List Line) (xs : List Account) → place i ≤ length s → lines (from s (place i)) ≡ some ls → accountLines ls ≡ some xs → AccountsListed s i xs
-unfolding accountLines counted every
-listed s i [] xs b h e =
-    let z : length (from s (place i)) ≡ 0 = ap length (no-lines (from s (place i)) h) in
-    let k : length (from s (place i)) ≡ length s - place i = from-length s (place i) in
-    let n : [] ≡ xs = cc in
-    subst (AccountsListed s i) n record { size = omega arith; good = refl; same = refl }
-listed s i (l ∷ ls) xs b h e = go (accountLine l) refl (accountLines ls) refl e (λ (ys : List Account) (w : place (i + 1) ≤ length s). listed s (i + 1) ls ys w)
-  where
-    go : (o : Option Account) → accountLine l ≡ o → (u : Option (List Account)) → accountLines ls ≡ u → then o (λ a. Option·map (λ (more : List Account). a ∷ more) u) ≡ some xs
-        → ((ys : List Account) → place (i + 1) ≤ length s → lines (from s (place (i + 1))) ≡ some ls → accountLines ls ≡ some ys → AccountsListed s (i + 1) ys) → AccountsListed s i xs
-    go (some a) f (some ys) g e more =
-        let m = more ys (next-within s i l ls a h f) (next-lines s i l ls a h f) g in
-        let n : a ∷ ys ≡ xs = cc in
-        let z : length s ≡ place (i + 1 + length ys) = m .size in
-        subst (AccountsListed s i) n record {
-          size = omega arith;
-          good = rw (line-held s i l ls a h f) (m .good);
-          same = rw (account-same s i l ls a h f) (ap (λ (more : List Account). accountIn s i ∷ more) (m .same));
-        }
-    go none f u g e more = absurd (let z : _≡_ {A = ℕ} 0 1 = cc in omega arith)
-    go (some a) f none g e more = absurd (let z : _≡_ {A = ℕ} 0 1 = cc in omega arith)
+listed : (s : List ℕ) (i : ℕ) {ls : List Line} {xs : List Account} → lines (from s (place i)) ≡ some ls → AccountsRead ls xs → AccountsListed s i xs
+unfolding counted every
+listed s i h none = record { good = refl; same = refl }
+listed s i h (more e r) =
+    let m = listed s (i + 1) (next-lines s i h e) r in record {
+      good = rw (line-held s i h e) (m .good);
+      same = rw (account-same s i h e) (ap (λ (more : List Account). accountIn s i ∷ more) (m .same));
+    }
 
 -- ---- the whole text
 
@@ -227,11 +186,11 @@ module _ (s : List ℕ) (h : passesIn s (count s) ≡ true) where
   unfolding passesIn
   in-single = and-right (lengthIn s (count s) && firstIn s && linesIn s 0 (count s)) _ h
 
-  pub in-size : length s ≡ place (count s)
+  in-size : length s ≡ place (count s)
   unfolding lengthIn
   in-size = eqb-true (length s) (place (count s)) (and-left _ _ in-length)
 
-  pub in-count : count s ≤ 40
+  in-count : count s ≤ 40
   unfolding lengthIn
   in-count = leb-true (count s) 40 (and-right (eqb (length s) (place (count s))) _ in-length)
 
@@ -258,46 +217,41 @@ module _ (s : List ℕ) (h : passesIn s (count s) ≡ true) where
   in-register = rw (first-here, first-before, accounts-here) sound-given
 
 -- where there is a register, the tests at the places hold
-module _ (s : List ℕ) (l : Line) (ls : List Line) (xs : List Account) (h : lines s ≡ some (l ∷ ls)) (e : accountLines ls ≡ some xs) (g : sound record { temporary = l; accounts = xs } ≡ true) where
-  first-passes : passes l ≡ true
-  unfolding sound
-  first-passes = and-left _ _ (and-left _ _ g)
+module _ (s : List ℕ) (r : Register) (h : register s ≡ some r) where
+  its : RegisterRead s r
+  its = register-read s r h
 
-  first : LinesStand ibanForm s 0 iban-inside l ls
-  unfolding passes ibanShape
-  first = stands ibanForm s 0 iban-inside l ls (rw from-all h) (and-left _ _ first-passes)
+  first : LinesStand ibanForm s 0 iban-inside (r .temporary) (its .others)
+  unfolding sound passes ibanShape
+  first = stands ibanForm s 0 iban-inside (r .temporary) (its .others) (rw from-all (its .all)) (and-left _ _ (and-left _ _ (and-left _ _ (its .good))))
 
-  all : AccountsListed s 0 xs
-  all =
-      let k : 24 ≤ length s = fits-within crlf s 22 (lit< tt) (first .ended) in
-      listed s 0 ls xs (omega arith) (first .others) e
+  all : AccountsListed s 0 (r .accounts)
+  all = listed s 0 (first .others) (its .accounts)
 
-  counts : length xs ≡ count s
+  counts : length (r .accounts) ≡ count s
   unfolding count
-  counts = let k : length s ≡ place (0 + length xs) = all .size in omega arith
+  counts = omega (arith, register-size s r h)
 
-  accounts-are : xs ≡ accountsIn s 0 (count s)
+  accounts-are : r .accounts ≡ accountsIn s 0 (count s)
   unfolding accountsIn
   accounts-are = all .same ∙ rw (counts, upto-0)
 
-  register-is : record { temporary = l; accounts = xs } ≡ registerIn s
+  register-is : r ≡ registerIn s
   unfolding registerIn
-  register-is = rw (first .same, ← accounts-are)
+  register-is = λ i. record { temporary = first .same i; accounts = accounts-are i }
 
   sound-held : (passes (cut s 0 22) && leb (count s) 40 && not (againIn s (count s))) ≡ true
-  sound-held = sym (sound-in s) ∙ ap sound (sym register-is) ∙ g
+  sound-held = sym (sound-in s) ∙ ap sound (sym register-is) ∙ its .good
 
   size-held : eqb (length s) (place (count s)) ≡ true
-  size-held =
-      let k : length s ≡ place (0 + length xs) = all .size in
-      eq-eqb (length s) (place (count s)) (rw (← counts) (omega arith))
+  size-held = eq-eqb (length s) (place (count s)) (register-size s r h ∙ rw counts)
 
   lines-held : every (lineIn s) (upto 0 (count s)) ≡ true
   lines-held = rw (upto-0, ← counts) (all .good)
 
-  held : passesIn s (count s) ≡ true
+  register-held : passesIn s (count s) ≡ true
   unfolding passesIn lengthIn firstIn linesIn endsAt
-  held =
+  register-held =
       let k = and-left (passes (cut s 0 22) && leb (count s) 40) _ sound-held in
       rw (
         size-held,
@@ -307,19 +261,6 @@ module _ (s : List ℕ) (l : Line) (ls : List Line) (xs : List Account) (h : lin
         lines-held,
         and-right (passes (cut s 0 22) && leb (count s) 40) _ sound-held,
       )
-
-register-held : (s : List ℕ) (r : Register) → register s ≡ some r → passesIn s (count s) ≡ true
-unfolding register ofLines
-register-held s r h = go (lines s) refl h
-  where
-    go : (o : Option (List Line)) → lines s ≡ o → then o ofLines ≡ some r → passesIn s (count s) ≡ true
-    go none e h = absurd (let z : _≡_ {A = ℕ} 0 1 = cc in omega arith)
-    go (some []) e h = absurd (let z : _≡_ {A = ℕ} 0 1 = cc in omega arith)
-    go (some (l ∷ ls)) e h = more (accountLines ls) refl h
-      where
-        more : (u : Option (List Account)) → accountLines ls ≡ u → then u (λ xs. let q : Register = record { temporary = l; accounts = xs } in given (sound q) q) ≡ some r → passesIn s (count s) ≡ true
-        more none f h = absurd (let z : _≡_ {A = ℕ} 0 1 = cc in omega arith)
-        more (some xs) f h = held s l ls xs e f (given-held (sound record { temporary = l; accounts = xs }) record { temporary = l; accounts = xs } r h)
 
 -- the register of a text, by its places
 pub in-places : (s : List ℕ) → register s ≡ given (passesIn s (count s)) (registerIn s)

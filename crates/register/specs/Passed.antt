@@ -3,7 +3,7 @@ use mathlib.Core.Path.{_≡_, refl, sym, ap, _∙_}
 use mathlib.Core.Bool.{Bool, true, false}
 use mathlib.Core.List.{List, map}
 use mathlib.Core.Option.{some}
-use Prim.Native.Nat.{ℕ, zero, suc, _+_, _-_, _*_, _≤_, _<_}
+use Prim.Native.Nat.{ℕ, zero, suc, _+_, _*_, _≤_, _<_}
 use native.Mathlib.Nat.{zero-add, add-zero}
 use native.Mathlib.Omega.{arith}
 use lib.ListN.{length, getD}
@@ -11,8 +11,9 @@ use Rattle.rules.specs.Text.{given, isSome}
 use Rattle.rules.specs.Register.{Account, Register, register, registerOf}
 use Rattle.rules.specs.Verdict.{found, noAccount, accountAt}
 use Rattle.laws.specs.Parts.{cut}
+use Rattle.rule_laws.specs.Registers.{register-size, register-few}
 use Rattle.register.specs.Places.{counted, place, boundAt, ibanIn, accountIn, count, accountsIn, foundIn, passesIn, registerIn}
-use Rattle.register.specs.Agree.{in-places, in-size, in-count, accounts-length, upto-0}
+use Rattle.register.specs.Agree.{in-places, accounts-length, upto-0}
 
 -- is there a register? the tests at the places say
 pub some-given : (s : List ℕ) → isSome (register s) ≡ passesIn s (count s)
@@ -42,16 +43,15 @@ module _ (s : List ℕ) (h : isSome (register s) ≡ true) where
 
   -- its length
   pub text-size : length s ≡ place (count s)
-  text-size = in-size s by-places
+  unfolding registerIn
+  text-size = register-size s (registerIn s) register-some ∙ rw accounts-length
 
   pub text-first : 24 ≤ length s
   text-first = omega (arith, text-size)
 
-  pub text-short : length s ≤ 1544
-  text-short = omega (arith, text-size, in-count s by-places)
-
   pub text-count : count s ≤ 40
-  text-count = in-count s by-places
+  unfolding registerIn
+  text-count = rw accounts-length at (register-few s (registerIn s) register-some)
 
   -- the temporary account
   pub temporary-at : registerOf s .temporary ≡ cut s 0 22
