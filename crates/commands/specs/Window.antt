@@ -22,6 +22,7 @@ use Rattle.laws.specs.Laid.{laid, laid-fits, laid-length}
 use Rattle.laws.specs.Tests.{and-left, and-right, cond-left, cond-right}
 use Rattle.laws.specs.Equal.{equal-true}
 use Rattle.commands.specs.Lines.{no-comma}
+use Rattle.rule_laws.specs.Lines.{Begins, Begins.ends, Begins.goes, Begins.breaks, begins, line-goes}
 use Rattle.commands.specs.Pieces.{lengthPlace, doubled}
 
 -- ---- a zero that goes
@@ -46,22 +47,17 @@ shorter [] (d ∷ v) = go (line (d ∷ v))
     go : (o : Option Taken) → Shorter [] (lead (48 ∷ []) (lead (48 ∷ []) o)) (lead (48 ∷ []) o)
     go none = neither
     go (some t) = behind (t .line) (t .others)
-shorter (c ∷ []) v = go (eqb c 13) (eqb c 10) (shorter [] v)
+shorter (c ∷ []) v = go (begins c 48) (shorter [] v)
   where
-    go : (p q : Bool) → Shorter [] (line (48 ∷ 48 ∷ v)) (line (48 ∷ v))
-        → Shorter (c ∷ []) (cond p none (cond q none (lead (c ∷ []) (line (48 ∷ 48 ∷ v))))) (cond p none (cond q none (lead (c ∷ []) (line (48 ∷ v)))))
-    go true q h = neither
-    go false true h = neither
-    go false false h = shorter-lead [] c _ _ h
-shorter (c ∷ d ∷ p) v = go (eqb c 13) (eqb d 10) (eqb c 10) (shorter (d ∷ p) v)
+    go : {c : ℕ} → Begins c 48 → Shorter [] (line (48 ∷ 48 ∷ v)) (line (48 ∷ v)) → Shorter (c ∷ []) (line (c ∷ 48 ∷ 48 ∷ v)) (line (c ∷ 48 ∷ v))
+    go {c} (goes e) h = rw (line-goes c (48 ∷ 48 ∷ v) e, line-goes c (48 ∷ v) e) (shorter-lead [] c _ _ h)
+    go (breaks e _) h = rw (e (48 ∷ v), e v) neither
+shorter (c ∷ d ∷ p) v = go (begins c d) (shorter (d ∷ p) v)
   where
-    go : (a b q : Bool) → Shorter (d ∷ p) (line (d ∷ p ++ (48 ∷ 48 ∷ v))) (line (d ∷ p ++ (48 ∷ v)))
-        → Shorter (c ∷ d ∷ p) (cond a (cond b (some record { line = []; others = p ++ (48 ∷ 48 ∷ v) }) none) (cond q none (lead (c ∷ []) (line (d ∷ p ++ (48 ∷ 48 ∷ v))))))
-        (cond a (cond b (some record { line = []; others = p ++ (48 ∷ v) }) none) (cond q none (lead (c ∷ []) (line (d ∷ p ++ (48 ∷ v))))))
-    go true true q h = before [] _ _ (omega arith)
-    go true false q h = neither
-    go false b true h = neither
-    go false b false h = shorter-lead (d ∷ p) c _ _ h
+    go : {c d : ℕ} → Begins c d → Shorter (d ∷ p) (line (d ∷ p ++ (48 ∷ 48 ∷ v))) (line (d ∷ p ++ (48 ∷ v))) → Shorter (c ∷ d ∷ p) (line (c ∷ d ∷ p ++ (48 ∷ 48 ∷ v))) (line (c ∷ d ∷ p ++ (48 ∷ v)))
+    go ends h = before [] _ _ (omega arith)
+    go {c} {d} (goes e) h = rw (line-goes c (d ∷ p ++ (48 ∷ 48 ∷ v)) e, line-goes c (d ∷ p ++ (48 ∷ v)) e) (shorter-lead (d ∷ p) c _ _ h)
+    go (breaks e _) h = rw (e (p ++ (48 ∷ 48 ∷ v)), e (p ++ (48 ∷ v))) neither
 
 -- of a length's two first zeros one may go
 

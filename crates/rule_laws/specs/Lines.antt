@@ -1,5 +1,5 @@
 -- The lines of a text, taken apart: a text in lines is its lines, each with its CR LF, and a line holds no CR or LF. The first line alone, `line`, and all of them, `lines`.
-use mathlib.Core.Path.{_≡_, refl, ap, _∙_}
+use mathlib.Core.Path.{_≡_, refl, sym, ap, _∙_}
 use mathlib.Core.Bool.{Bool, true, false, _&&_, not}
 use mathlib.Core.List.{List, [], _∷_, _++_, append-assoc}
 use mathlib.Core.Option.{Option, none, some, Option·map}
@@ -18,26 +18,26 @@ use Rattle.rule_laws.specs.Options.{none-some, some-is, Mapped, mapped}
 unfoldable pub inLine : ℕ → Bool
 inLine c = not (eqb c 13) && not (eqb c 10)
 
--- ---- the first bytes of a text
+-- ---- the first two bytes of a text
 
 -- a line ends, goes on, or is none
-data Begins (cs : List ℕ) : ℕ → ℕ → Type 0 where
-  ends : Begins cs 13 10
-  goes : {c d : ℕ} → inLine c ≡ true → Begins cs c d
-  breaks : {c d : ℕ} → line (c ∷ d ∷ cs) ≡ none → lines (c ∷ d ∷ cs) ≡ none → Begins cs c d
+pub data Begins : ℕ → ℕ → Type 0 where
+  ends : Begins 13 10
+  goes : {c d : ℕ} → inLine c ≡ true → Begins c d
+  breaks : {c d : ℕ} → ((cs : List ℕ) → line (c ∷ d ∷ cs) ≡ none) → ((cs : List ℕ) → lines (c ∷ d ∷ cs) ≡ none) → Begins c d
 
-begins : (c d : ℕ) (cs : List ℕ) → Begins cs c d
+pub begins : (c d : ℕ) → Begins c d
 unfolding line lines inLine
-begins c d cs = go (eqb c 13) refl (eqb d 10) refl (eqb c 10) refl
+begins c d = go (eqb c 13) refl (eqb d 10) refl (eqb c 10) refl
   where
-    go : (x : Bool) → eqb c 13 ≡ x → (y : Bool) → eqb d 10 ≡ y → (z : Bool) → eqb c 10 ≡ z → Begins cs c d
+    go : (x : Bool) → eqb c 13 ≡ x → (y : Bool) → eqb d 10 ≡ y → (z : Bool) → eqb c 10 ≡ z → Begins c d
     go true e true f z g = rw (eqb-true c 13 e, eqb-true d 10 f) ends
-    go true e false f z g = breaks {c = c} {d = d} (rw (e, f)) (rw (e, f))
-    go false e y f true g = breaks {c = c} {d = d} (rw (e, g)) (rw (e, g))
+    go true e false f z g = breaks {c = c} {d = d} (λ cs. rw (e, f)) (λ cs. rw (e, f))
+    go false e y f true g = breaks {c = c} {d = d} (λ cs. rw (e, g)) (λ cs. rw (e, g))
     go false e y f false g = goes {c = c} (rw (e, g))
 
 -- a byte of a line before others
-line-goes : (c : ℕ) (cs : List ℕ) → inLine c ≡ true → line (c ∷ cs) ≡ lead (c ∷ []) (line cs)
+pub line-goes : (c : ℕ) (cs : List ℕ) → inLine c ≡ true → line (c ∷ cs) ≡ lead (c ∷ []) (line cs)
 unfolding line lead inLine
 line-goes c [] h = refl
 line-goes c (d ∷ cs) h = rw (not-true (eqb c 13) (and-left _ _ h), not-true (eqb c 10) (and-right (not (eqb c 13)) _ h))
@@ -64,12 +64,12 @@ pub first-line : (cs : List ℕ) (t : Taken) → line cs ≡ some t → FirstLin
 unfolding line every
 first-line [] t h = none-some h
 first-line (c ∷ []) t h = none-some h
-first-line (c ∷ d ∷ cs) t h = go (begins c d cs) (first-line (d ∷ cs)) h
+first-line (c ∷ d ∷ cs) t h = go (begins c d) (first-line (d ∷ cs)) h
   where
-    go : {c d : ℕ} → Begins cs c d → ((u : Taken) → line (d ∷ cs) ≡ some u → FirstLine (d ∷ cs) u) → line (c ∷ d ∷ cs) ≡ some t → FirstLine (c ∷ d ∷ cs) t
+    go : {c d : ℕ} → Begins c d → ((u : Taken) → line (d ∷ cs) ≡ some u → FirstLine (d ∷ cs) u) → line (c ∷ d ∷ cs) ≡ some t → FirstLine (c ∷ d ∷ cs) t
     go ends f k = rw (← some-is k) record { text = refl; plain = refl }
     go {c} {d} (goes e) f k = first-byte c (d ∷ cs) (line (d ∷ cs)) t e f (rw (line-goes c (d ∷ cs) e) at k)
-    go {c} {d} (breaks e _) f k = none-some (rw e at k)
+    go (breaks e _) f k = none-some (sym (e cs) ∙ k)
 
 pub first-length : (cs : List ℕ) (t : Taken) → line cs ≡ some t → length cs ≡ length (t .line) + 2 + length (t .others)
 first-length cs t h = ap length (first-line cs t h .text) ∙ length-append (t .line) (13 ∷ 10 ∷ t .others) ∙ omega arith
@@ -102,14 +102,14 @@ pub lines-lined : (cs : List ℕ) (ls : List Line) → lines cs ≡ some ls → 
 unfolding lines every
 lines-lined [] ls h = rw (← some-is h) end
 lines-lined (c ∷ []) ls h = none-some h
-lines-lined (c ∷ d ∷ cs) ls h = go (begins c d cs) (lines-lined cs) (lines-lined (d ∷ cs)) h
+lines-lined (c ∷ d ∷ cs) ls h = go (begins c d) (lines-lined cs) (lines-lined (d ∷ cs)) h
   where
-    go : {c d : ℕ} → Begins cs c d → ((ms : List Line) → lines cs ≡ some ms → Lined cs ms) → ((ms : List Line) → lines (d ∷ cs) ≡ some ms → Lined (d ∷ cs) ms) → lines (c ∷ d ∷ cs) ≡ some ls → Lined (c ∷ d ∷ cs) ls
+    go : {c d : ℕ} → Begins c d → ((ms : List Line) → lines cs ≡ some ms → Lined cs ms) → ((ms : List Line) → lines (d ∷ cs) ≡ some ms → Lined (d ∷ cs) ms) → lines (c ∷ d ∷ cs) ≡ some ls → Lined (c ∷ d ∷ cs) ls
     go ends f g k = let m : Mapped (before []) (lines cs) ls = mapped _ _ k in rw (← m .gives) (next {l = []} refl (f (m .value) (m .is)))
     go {c} {d} (goes e) f g k =
         let m : Mapped (begun c) (lines (d ∷ cs)) ls = mapped _ _ (rw (lines-go c d cs e) at k) in
         rw (← m .gives) (lined-byte c e (omega arith) (g (m .value) (m .is)))
-    go {c} {d} (breaks _ e) f g k = none-some (rw e at k)
+    go (breaks _ e) f g k = none-some (sym (e cs) ∙ k)
 
 -- and back: a line before a text
 pub lines-before : (l cs : List ℕ) → every inLine l ≡ true → lines (l ++ 13 ∷ 10 ∷ cs) ≡ Option·map (before l) (lines cs)
