@@ -17,7 +17,7 @@ use Rattle.rules.specs.Lines.{Line, Taken, lead, line, lines, before, closes, i
 use Rattle.laws.specs.Parts.{cut, from, cut-done, cut-snoc, cut-all, from-step, from-done, from-length, from-cut}
 use Rattle.laws.specs.Equal.{equal-true}
 use Rattle.laws.specs.Tests.{not-held, never, and-left, and-right}
-use Rattle.rule_laws.specs.Lines.{FirstLine, first-line, line-taken, Lined, Lined.end, Lined.next, lines-lined, lines-before}
+use Rattle.rule_laws.specs.Lines.{FirstLine, first-line, line-taken, Lined, Lined.end, Lined.next, lines-cases, lines-before}
 use Rattle.rule_laws.specs.Options.{none-some}
 use Rattle.lines.specs.Answers.{taken, LineEnd, NoLine, Plain}
 
@@ -135,15 +135,11 @@ closed = refl
 -- a text that is more than its closing line closes as what stands behind its first line does
 closes-behind : (l cs : List ℕ) → closing (l ++ 13 ∷ 10 ∷ cs) ≡ false → inLines (lines cs) ≡ inLines (Option·map (before l) (lines cs))
 unfolding closing equal closes
-closes-behind l cs h = go (lines cs) (lines-lined cs)
+closes-behind l cs h = lines-cases (λ (o : Option (List Line)). inLines o ≡ inLines (Option·map (before l) o)) cs refl (λ ls r. same r h)
   where
     same : {cs : List ℕ} {ls : List Line} → Lined cs ls → closing (l ++ 13 ∷ 10 ∷ cs) ≡ false → closes ls ≡ closes (l ∷ ls)
     same end h = not-held _ (λ e. let z : _≡_ {A = ℕ} 1 0 = (rw (equal-true l (ascii "-") e) at (ap (λ (b : Bool). cond {A = ℕ} b 1 0) h)) in omega arith)
     same (next p r) h = refl
-
-    go : (o : Option (List Line)) → ((ls : List Line) → o ≡ some ls → Lined cs ls) → inLines o ≡ inLines (Option·map (before l) o)
-    go none f = refl
-    go (some ls) f = same (f ls refl) h
 
 -- nothing stands behind the closing line
 closing-last : (cs : List ℕ) (t : Taken) → line cs ≡ some t → closing cs ≡ true → t .others ≡ []
@@ -163,15 +159,11 @@ lines-taken cs t e = let f : FirstLine cs t = first-line cs t e in ap lines (f .
 
 none-closes : (cs : List ℕ) → line cs ≡ none → inLines (lines cs) ≡ false
 unfolding closes
-none-closes cs e = go (lines cs) (lines-lined cs)
+none-closes cs e = lines-cases (λ (o : Option (List Line)). inLines o ≡ false) cs refl (λ ls r. lineless r e)
   where
     lineless : {cs : List ℕ} {ls : List Line} → Lined cs ls → line cs ≡ none → closes ls ≡ false
     lineless end e = refl
     lineless (next {cs = cs} {l = l} p r) e = none-some (sym e ∙ line-taken l cs p)
-
-    go : (o : Option (List Line)) → ((ls : List Line) → o ≡ some ls → Lined cs ls) → inLines o ≡ false
-    go none f = refl
-    go (some ls) f = lineless (f ls refl) e
 
 -- the loop from line to line: what is left closes as the whole does
 module _ (s : List ℕ) (at : ℕ) (x : Bool) (inv : inLines (lines (from s at)) ≡ x) where
@@ -227,11 +219,7 @@ lined-ends (next {l = l} p end) h = rw (equal-true l (ascii "-") h)
 lined-ends (next {cs = cs} {l = l} p (next q r)) h = ends-behind l cs (lined-ends (next q r) h)
 
 ends : (s : List ℕ) → inLines (lines s) ≡ true → closing (from s (length s - 3)) ≡ true
-ends s h = go (lines s) (lines-lined s) h
-  where
-    go : (o : Option (List Line)) → ((ls : List Line) → o ≡ some ls → Lined s ls) → inLines o ≡ true → closing (from s (length s - 3)) ≡ true
-    go none f k = never k
-    go (some ls) f k = lined-ends (f ls refl) k
+ends s = lines-cases (λ (o : Option (List Line)). inLines o ≡ true → closing (from s (length s - 3)) ≡ true) s never (λ ls r. lined-ends r)
 
 module _ (s : List ℕ) where
   pub framed-long : 4096 < length s → false ≡ framed s

@@ -111,6 +111,14 @@ lines-lined (c ∷ d ∷ cs) ls h = go (begins c d) (lines-lined cs) (lines-line
         rw (← m .gives) (lined-byte c e (omega arith) (g (m .value) (m .is)))
     go (breaks _ e) f g k = none-some (sym (e cs) ∙ k)
 
+-- any text: it is not in lines, or it is
+pub lines-cases : (P : Option (List Line) → Type 0) (cs : List ℕ) → P none → ((ls : List Line) → Lined cs ls → P (some ls)) → P (lines cs)
+lines-cases P cs n f = go (lines cs) (lines-lined cs)
+  where
+    go : (o : Option (List Line)) → ((ls : List Line) → o ≡ some ls → Lined cs ls) → P o
+    go none g = n
+    go (some ls) g = f ls (g ls refl)
+
 -- and back: a line before a text
 pub lines-before : (l cs : List ℕ) → every inLine l ≡ true → lines (l ++ 13 ∷ 10 ∷ cs) ≡ Option·map (before l) (lines cs)
 unfolding lines every

@@ -44,6 +44,7 @@ rows-read (r ∷ rs) cs x h =
     go t false true e f p g k = first (takeRows rs cs) (out f) (g cs) k
     go t false false e f p g k = none-some k
 
+-- row i of them
 pub row-at : (d : Row) {rs : List Row} {ls : List Line} → RowsRead rs ls → (i : ℕ) → i < length rs → RowStands (getD rs i d) (lineOf ls i)
 row-at d end i h = absurd (omega arith)
 row-at d (row s t) zero h = s
@@ -56,6 +57,7 @@ row-first m (row (here e p) t) = e
 
 -- ---- details of an MT101
 
+-- what is read of a detail: its rows, 32B's amount, and 70's dates behind CENTRB and BAEREF
 pub record DetailRead (d : Detail) : Type 0 where
   pub rows : RowsRead detailRows (d .rows)
   pub sum : amount (amount32B (d .rows)) ≡ some (d .amount)
@@ -94,6 +96,7 @@ details-read (suc k) cs ds h = let t : Came (takeDetail cs) _ ds = came _ _ h in
 
 -- ---- messages
 
+-- what is read of an MT103: its rows, 32A's date and amount, and BAEREF's date
 pub record TransferRead (s : List ℕ) (t : Transfer) : Type 0 where
   pub sent : t .sender ≡ sender s
   pub rows : RowsRead transferRows (t .rows)
@@ -101,11 +104,13 @@ pub record TransferRead (s : List ℕ) (t : Transfer) : Type 0 where
   pub sum : amount (amount32A (t .rows)) ≡ some (t .amount)
   pub baeref : There (date (baerefDate103 (t .rows)))
 
+-- what is read of an MT101
 pub record OrderRead (s : List ℕ) (o : Order) : Type 0 where
   pub sent : o .sender ≡ sender s
   pub rows : RowsRead orderRows (o .rows)
   pub details : DetailsRead (o .details)
 
+-- a message, read as one or the other
 pub data ReadAs (s : List ℕ) : Message → Type 0 where
   transfer : {t : Transfer} → TransferRead s t → ReadAs s (mt103 t)
   order : {o : Order} → OrderRead s o → ReadAs s (mt101 o)
