@@ -115,11 +115,6 @@ no-free : (bank b d : ℕ) (t : Dates) → free bank t (keyed b d) ≡ 0
 unfolding free keyed
 no-free bank b d t = nought (eqb b bank && t d && not (hasDetails (keyed b d)))
 
-shut : (a b : Bool) (w : ℕ) → cond (a && b && false) w 0 ≡ 0
-shut true true w = refl
-shut true false w = refl
-shut false b w = refl
-
 eqb-sym : (m n : ℕ) → eqb m n ≡ eqb n m
 eqb-sym m n = go (eqb n m) refl
   where
@@ -165,7 +160,7 @@ module _ (bank x d : ℕ) (t : Dates) (ledger : List Position) (l : many (keyed 
       let q : Position = record { key = record { bank = x; date = d }; transferred = 0; detailed = v } in
       let g : Measure = free bank t in
       let b : BookedSums q ledger (entered q ledger) = entered-booked q ledger l in
-      let z : g (total q ledger) ≡ 0 = rw (le-leb 1 (tally (only (like (keyed x d)) details) ledger + v) (omega arith)) (shut (eqb x bank) (t d) _) in
+      let z : g (total q ledger) ≡ 0 = rw (le-leb 1 (tally (only (like (keyed x d)) details) ledger + v) (omega arith), and-false) in
       let r : tally (free bank taken) ledger + tally (only (like q) g) ledger ≡ tally g ledger =
       tally-add (free bank taken) (only (like q) g) ledger
       ∙ tally-each (λ p. free bank taken p + only (like q) g p) g

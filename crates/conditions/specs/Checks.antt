@@ -1,6 +1,6 @@
 -- The check of a message, one law for each way that the code goes.
 use mathlib.Core.Path.{_≡_, refl, sym, ap, _∙_, subst}
-use mathlib.Core.Bool.{Bool, true, false, _&&_, _||_}
+use mathlib.Core.Bool.{Bool, true, false, _&&_, and-true, and-false}
 use mathlib.Core.List.{List}
 use mathlib.Core.Option.{Option, none, some}
 use Prim.Native.Nat.{ℕ, _≤_, _<_}
@@ -217,21 +217,13 @@ receiver-cut : (s : List ℕ) → receiver s ≡ cut s 13 21
 unfolding receiver from
 receiver-cut s = from-take s 13 8
 
-and-nothing : (b : Bool) → false ≡ (b && false)
-and-nothing true = refl
-and-nothing false = refl
-
-and-all : (b : Bool) → b ≡ (b && true)
-and-all true = refl
-and-all false = refl
-
 module _ (s : List ℕ) (b : Bool) (u : b ≡ equal (cut s 13 21) (cut (ascii "BNBGBGSD") 0 8)) where
   received : equal (receiver s) (ascii "BNBGBGSD") ≡ b
   received = rw (receiver-cut s) (sym (u ∙ ap (equal (cut s 13 21)) (cut-all (ascii "BNBGBGSD"))))
 
   pub addressed-not : b ≡ false → false ≡ addressed s
   unfolding addressed
-  addressed-not h = rw (received, h) (and-nothing (equal (type s) (ascii "101") || equal (type s) (ascii "103")))
+  addressed-not h = rw (received, h, and-false)
 
   module _ (h : b ≡ true) (q : Bool) (v : q ≡ equal (type s) (ascii "101")) where
     pub addressed-101 : q ≡ true → true ≡ addressed s
@@ -240,7 +232,7 @@ module _ (s : List ℕ) (b : Bool) (u : b ≡ equal (cut s 13 21) (cut (ascii "B
 
     pub addressed-103 : q ≡ false → (r : Bool) → r ≡ equal (type s) (ascii "103") → r ≡ addressed s
     unfolding addressed
-    addressed-103 k r e = rw (← v, k, ← e, received, h) (and-all r)
+    addressed-103 k r e = rw (← v, k, ← e, received, h, and-true)
 
 -- ---- the whole message
 

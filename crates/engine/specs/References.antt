@@ -1,6 +1,6 @@
 -- A bank's reference held against those of an area: its bytes against a text that ends at the first zero.
 use mathlib.Core.Path.{_≡_, refl, sym, ap, _∙_}
-use mathlib.Core.Bool.{Bool, true, false, _&&_, cond}
+use mathlib.Core.Bool.{Bool, true, false, cond, and-true, and-false}
 use mathlib.Core.List.{List, [], _∷_}
 use Prim.Native.Nat.{ℕ, _+_, _-_, _*_, _≤_, _<_}
 use native.Mathlib.Nat.{add-zero}
@@ -96,19 +96,11 @@ module _ (area : List ℕ) (p bank : ℕ) (cs : List ℕ) where
   module _ (t : Bool) (u : t ≡ equal cs (untilZero (cut area (p + 8) (p + 8 + 16)))) where
     pub reference-other : t ≡ false → false ≡ sameReference (ofBank bank cs) (referenceAt area p)
     unfolding sameReference
-    reference-other d = rw (text-is, ← u, d) (go (eqb bank (referenceAt area p .sender)))
-      where
-        go : (x : Bool) → false ≡ (x && false)
-        go true = refl
-        go false = refl
+    reference-other d = rw (text-is, ← u, d, and-false)
 
     pub reference-bank : t ≡ true → (v : ℕ) → NumberAt area p 8 v → eqb bank v ≡ sameReference (ofBank bank cs) (referenceAt area p)
     unfolding sameReference
-    reference-bank d v n = rw (sender-is v n, text-is, ← u, d) (go (eqb bank v))
-      where
-        go : (x : Bool) → x ≡ (x && true)
-        go true = refl
-        go false = refl
+    reference-bank d v n = rw (sender-is v n, text-is, ← u, d, and-true)
 
 -- ---- among those of an area: the k records from p on answer for all
 

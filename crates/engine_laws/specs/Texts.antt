@@ -1,13 +1,13 @@
 -- A reference's text in 16 bytes, tested by how many bytes of a text there are at first.
 use mathlib.Core.Path.{_≡_, refl, sym, ap, _∙_}
-use mathlib.Core.Bool.{Bool, true, false, _&&_, not, cond}
+use mathlib.Core.Bool.{Bool, true, false, _&&_, not, cond, and-true, and-false}
 use mathlib.Core.List.{List, [], _∷_}
 use Prim.Native.Nat.{ℕ, zero, suc, _+_, _-_, _≤_, _<_}
 use native.Mathlib.Omega.{arith}
 use lib.Dec.{leb, eqb}
 use lib.ListN.{length, getD, take, drop}
 use borrow.Author.Tests.{le-leb}
-use Rattle.rules.specs.Text.{isText, between, every, run}
+use Rattle.rules.specs.Text.{isText, every, run}
 use Rattle.rules.specs.Engine.{slashed}
 use Rattle.rules.specs.Area.{untilZero}
 use Rattle.laws.specs.Parts.{cut, cut-length, cut-get, cut-take, cut-drop, cut-cut}
@@ -67,24 +67,12 @@ module _ (s : List ℕ) (a n : ℕ) (l : a + 16 ≤ length s) (w : Passed isText
   unfolding endedFits textFits run
   by-text e =
       let m : length (cut s a (a + n)) ≡ n = cut-length s a (a + n) (omega (arith, w .within)) ∙ omega arith in
-      rw (e, front, m, behind, w .front, le-leb n 16 (w .within)) (go (leb 1 n) _)
-    where
-      go : (t x : Bool) → (t && x) ≡ (t && true && true && x)
-      go true x = refl
-      go false x = refl
+      rw (e, front, m, behind, w .front, le-leb n 16 (w .within), and-true, and-true)
 
   -- it is no text's, and no zeros stand behind the n bytes
   by-none : every isZero (cut s (a + n) (a + n + (16 - n))) ≡ false → every isText (untilZero cs) ≡ false → endedFits s a n ≡ textFits cs
   unfolding endedFits textFits run
-  by-none f g = rw (f, g) (go (leb 1 n) (not (slashed (cut s a (a + n)))) (between 1 16 (length (untilZero cs))) _)
-    where
-      go : (t u v x : Bool) → (t && (u && false)) ≡ (v && false && x)
-      go true true true x = refl
-      go true true false x = refl
-      go true false true x = refl
-      go true false false x = refl
-      go false u true x = refl
-      go false u false x = refl
+  by-none f g = rw (f, g, and-false, and-false, and-false)
 
   pub ended-text : (r : Bool) → r ≡ endedFits s a n → r ≡ textFits cs
   ended-text r e = e ∙ go (every isZero (cut s (a + n) (a + n + (16 - n)))) refl (every isText (untilZero cs)) refl

@@ -1,6 +1,6 @@
 -- A line held against a row, one law for each way that the code goes.
-use mathlib.Core.Path.{_≡_, refl, sym, ap, _∙_}
-use mathlib.Core.Bool.{Bool, true, false, _&&_, not}
+use mathlib.Core.Path.{_≡_, sym, ap, _∙_}
+use mathlib.Core.Bool.{Bool, true, false, _&&_, and-true, and-false}
 use mathlib.Core.List.{List}
 use Prim.Native.Nat.{ℕ, _+_, _-_, _≤_, _<_, min}
 use native.Mathlib.Nat.{add-zero}
@@ -19,18 +19,6 @@ use Rattle.forms.specs.declared.table.Row.{Row}
 
 -- ---- T
 
-no-first : (b c : Bool) → false ≡ (b && false && c)
-no-first true c = refl
-no-first false c = refl
-
-no-second : (b : Bool) → false ≡ (b && true && false)
-no-second true = refl
-no-second false = refl
-
-both : (b : Bool) → b ≡ (b && true && true)
-both true = refl
-both false = refl
-
 module _ (s : List ℕ) (a e : ℕ) (k : e ≤ length s) where
   pub text-none : a ≤ e → e ≤ a → false ≡ textLine (cut s a e)
   unfolding textLine run
@@ -42,16 +30,16 @@ module _ (s : List ℕ) (a e : ℕ) (k : e ≤ length s) where
 
     pub text-colon : getD s a 0 ≡ 58 → false ≡ textLine (cut s a e)
     unfolding textLine
-    text-colon c = rw (first, eq-eqb _ _ c) (no-first (run isText 1 35 (cut s a e)) (not (eqb (getD s a 0) 45)))
+    text-colon c = rw (first, eq-eqb _ _ c, and-false)
 
     module _ (c : getD s a 0 ≡ 58 → ⊥) where
       pub text-dash : getD s a 0 ≡ 45 → false ≡ textLine (cut s a e)
       unfolding textLine
-      text-dash d = rw (first, ne-eqb _ _ c, eq-eqb _ _ d) (no-second (run isText 1 35 (cut s a e)))
+      text-dash d = rw (first, ne-eqb _ _ c, eq-eqb _ _ d, and-false)
 
       pub text-run : (getD s a 0 ≡ 45 → ⊥) → (r : Bool) → r ≡ run isText 1 35 (cut s a e) → r ≡ textLine (cut s a e)
       unfolding textLine
-      text-run d r u = rw (first, ne-eqb _ _ c, ne-eqb _ _ d) (u ∙ both (run isText 1 35 (cut s a e)))
+      text-run d r u = rw (first, ne-eqb _ _ c, ne-eqb _ _ d, and-true, and-true) u
 
 -- ---- what stands behind a head
 

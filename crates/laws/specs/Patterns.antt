@@ -1,8 +1,8 @@
 -- A pattern in runs of equal signs: bytes fit it where each run's bytes are of the class of its sign.
 use mathlib.Core.Path.{_≡_, refl, sym, ap, _∙_}
-use mathlib.Core.Bool.{Bool, true, false, _&&_, cond}
+use mathlib.Core.Bool.{Bool, true, false, _&&_, cond, and-true}
 use mathlib.Core.List.{List, [], _∷_, _++_}
-use Prim.Native.Nat.{ℕ, zero, suc, _+_, _-_, _≤_, _<_}
+use Prim.Native.Nat.{ℕ, zero, suc, _+_, _≤_, _<_}
 use native.Mathlib.Omega.{arith}
 use lib.ListN.{length, getD, replicate}
 use borrow.Author.Tests.{ne-eqb}
@@ -47,10 +47,6 @@ fits-run q p w ps s (suc n) i e h k =
     fits-sign q (replicate n q ++ ps) s i e (omega arith) k
     ∙ rw (w .means (getD s i 0), fits-run q p w ps s n (i + 1) e (omega arith) k, f, cut-step s i (i + 1 + n) (omega arith) (omega arith), every)
     (cond-and (p (getD s i 0)) (every p (cut s (i + 1) (i + 1 + n))) (fits ps (cut s (i + 1 + n) e)))
-
-and-true : (a : Bool) → (a && true) ≡ a
-and-true true = refl
-and-true false = refl
 
 append-none : (ps : List ℕ) → ps ++ [] ≡ ps
 append-none [] = refl

@@ -1,6 +1,6 @@
 -- The checks of a register's text: a law for each way out, the tests as calls answered them.
 use mathlib.Core.Path.{_≡_, refl, sym, _∙_}
-use mathlib.Core.Bool.{Bool, true, false, _&&_, not}
+use mathlib.Core.Bool.{Bool, true, false, _&&_, not, and-true, and-false}
 use mathlib.Core.List.{List}
 use Prim.Native.Nat.{ℕ, _+_, _-_, _*_, _/_, _≤_, _<_}
 use native.Mathlib.Omega.{arith}
@@ -16,7 +16,7 @@ use Rattle.text.specs.Answers.{numOf}
 use Rattle.text.specs.declared.numbers.Num.{Num}
 use Rattle.text.specs.declared.numbers.Num.the-variants.{Value, Bad}
 use Rattle.register.specs.AccountLine.{bound}
-use Rattle.register.specs.Places.{place, formAt, endsAt, boundAt, ibanIn, lineIn, count, linesIn, lengthIn, firstIn, againIn, passesIn}
+use Rattle.register.specs.Places.{endsAt, boundAt, ibanIn, lineIn, count, linesIn, lengthIn, firstIn, againIn, passesIn}
 use Rattle.register.specs.Formed.{boundsAt, form-bounds}
 use Rattle.register.specs.Passed.{some-given}
 
@@ -57,12 +57,7 @@ call-held a t u d = sym u ∙ not-false t d
 module _ (s : List ℕ) (i : ℕ) (l : 24 + 38 * i + 38 ≤ length s) (t : Bool) (u : t ≡ passes (cut s (24 + 38 * i) (24 + 38 * i + 22))) where
   pub line-unpassed : not t ≡ true → false ≡ lineIn s i
   unfolding lineIn ibanIn
-  line-unpassed d = rw (← u, not-true t d) (go (formAt s (place i)) (endsAt s (place i + 36)) _)
-    where
-      go : (a b c : Bool) → false ≡ (a && b && false && c)
-      go true true c = refl
-      go true false c = refl
-      go false b c = refl
+  line-unpassed d = rw (← u, not-true t d, and-false)
 
   module _ (d : not t ≡ false) where
     -- the other tests
@@ -72,12 +67,7 @@ module _ (s : List ℕ) (i : ℕ) (l : 24 + 38 * i + 38 ≤ length s) (t : Bool)
         let e : 24 + 38 * i + 22 + 1 ≡ 24 + 38 * i + 23 = omega arith in
         let f : 24 + 38 * i + 22 + 8 ≡ 24 + 38 * i + 30 = omega arith in
         let h : passes (cut s (24 + 38 * i) (24 + 38 * i + 22)) ≡ true = sym u ∙ not-false t d in
-        rw (e, f, form-bounds s (24 + 38 * i) (omega arith) h, h) (go (boundsAt s (24 + 38 * i + 22)) (endsAt s (24 + 38 * i + 36)) _)
-      where
-        go : (a b c : Bool) → (a && b && true && c) ≡ (a && b && c)
-        go true true c = refl
-        go true false c = refl
-        go false b c = refl
+        rw (e, f, form-bounds s (24 + 38 * i) (omega arith) h, h, and-true)
 
     module _ (t₂ : Bool) (u₂ : t₂ ≡ boundsAt s (24 + 38 * i + 22)) where
       pub line-unbounded : not t₂ ≡ true → false ≡ lineIn s i
@@ -95,19 +85,11 @@ module _ (s : List ℕ) (i : ℕ) (l : 24 + 38 * i + 38 ≤ length s) (t : Bool)
 module _ (s : List ℕ) (n : ℕ) where
   pub length-over : 40 < n → false ≡ lengthIn s n
   unfolding lengthIn
-  length-over h = rw (lt-leb n 40 h) (go (eqb (length s) (24 + 38 * n)))
-    where
-      go : (a : Bool) → false ≡ (a && false)
-      go true = refl
-      go false = refl
+  length-over h = rw (lt-leb n 40 h, and-false)
 
   pub length-few : n ≤ 40 → eqb (length s) (24 + 38 * n) ≡ lengthIn s n
   unfolding lengthIn
-  length-few h = rw (le-leb n 40 h) (go (eqb (length s) (24 + 38 * n)))
-    where
-      go : (a : Bool) → a ≡ (a && true)
-      go true = refl
-      go false = refl
+  length-few h = rw (le-leb n 40 h, and-true)
 
   module _ (t : Bool) (u : t ≡ lengthIn s n) (d : not t ≡ false) where
     exact : length s ≡ 24 + 38 * n

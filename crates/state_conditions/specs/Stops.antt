@@ -1,6 +1,6 @@
 -- The conditions 11 to 15, as the code tests them: one law for each way out.
 use mathlib.Core.Path.{_≡_, refl, ap, _∙_}
-use mathlib.Core.Bool.{Bool, true, false, _&&_, _||_, not, cond}
+use mathlib.Core.Bool.{Bool, true, false, _&&_, _||_, not, cond, and-false}
 use mathlib.Core.List.{List}
 use mathlib.Core.Option.{some}
 use Prim.Native.Nat.{ℕ, _+_, _*_, _^_, _≤_, _<_}
@@ -91,17 +91,13 @@ module _ (t : Totals) (b : Booking) {v : ℕ} (e : v ≡ amountIf (b .transfer) 
 
 module _ (n : ℕ) (t : Totals) (b : Booking) (q : Bool) (u : q ≡ overBy t b) where
   module _ (o : t .«is_open» ≡ true) where
-    open-any : (x : Bool) → (x && false) ≡ false
-    open-any true = refl
-    open-any false = refl
-
     pub rest-open-over : q ≡ true → 15 ≡ restNumber n t b
     unfolding restNumber overBy
-    rest-open-over d = rw (o, open-any, ← u, d) refl
+    rest-open-over d = rw (o, and-false, ← u, d) refl
 
     pub rest-open : q ≡ false → 0 ≡ restNumber n t b
     unfolding restNumber overBy
-    rest-open d = rw (o, open-any, ← u, d) refl
+    rest-open d = rw (o, and-false, ← u, d) refl
 
   module _ (o : t .«is_open» ≡ false) where
     pub rest-full : 32 ≤ n → 14 ≡ restNumber n t b

@@ -1,7 +1,7 @@
 -- A law for each way that a judgement goes, the tests as calls answered them.
 use mathlib.Core.Path.{_≡_, refl, sym, ap, _∙_}
 use mathlib.Core.Logic.{_⊎_, inl, inr}
-use mathlib.Core.Bool.{Bool, true, false, _&&_, _||_, not, cond}
+use mathlib.Core.Bool.{Bool, true, false, _&&_, _||_, not, cond, and-true}
 use mathlib.Core.List.{List, [], _∷_}
 use mathlib.Core.Option.{some}
 use Prim.Native.Nat.{ℕ, suc, _+_, _-_, _≤_, _<_}
@@ -53,11 +53,7 @@ module _ (s : List ℕ) (a b : ℕ) (h : a ≤ b) (k : b ≤ length s) where
 
   pub shape-alone : b - a ≡ 22 → (t : Bool) → t ≡ ibanShape (cut s a (a + 22)) → t ≡ shaped (cut s a b)
   unfolding shaped equal
-  shape-alone e t u = rw (cut-take s a b 22 (omega arith), cut-drop s a b 22, cut-done s (a + 22) b (omega arith) (omega arith), u) (go (ibanShape (cut s a (a + 22))))
-    where
-      go : (t : Bool) → t ≡ (t && true)
-      go true = refl
-      go false = refl
+  shape-alone e t u = rw (cut-take s a b 22 (omega arith), cut-drop s a b 22, cut-done s (a + 22) b (omega arith) (omega arith), u, and-true)
 
   pub shape-other : (b - a ≡ 22 → ⊥) → (b - a ≡ 31 → ⊥) → false ≡ shaped (cut s a b)
   shape-other e f = not-held (shaped (cut s a b)) (λ w. go (shaped-length (cut s a b) w))
