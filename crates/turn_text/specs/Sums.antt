@@ -4,7 +4,6 @@ use mathlib.Core.Bool.{Bool, true, false, cond}
 use mathlib.Core.List.{List, [], _∷_}
 use Prim.Native.Nat.{ℕ, _+_, _-_, _*_, _^_, _≤_, _<_}
 use native.Mathlib.Omega.{arith}
-use lib.Dec.{leb}
 use borrow.Author.Tests.{le-leb}
 use Rattle.rules.specs.Engine.{Position, hasDetails}
 use Rattle.rules.specs.Calls.{refunded, collected}
@@ -19,12 +18,16 @@ use Rattle.engine.specs.declared.header.Header.{Header}
 use Rattle.engine.specs.Held.{positions-are}
 use Rattle.engine.specs.Positions.{positionsFrom, positions-next, positions-none, PositionAt}
 
--- what a position adds
-unfoldable pub refundOf : Position → ℕ
-refundOf p = refunded (p ∷ [])
+-- what a position with details has of one total above the other
+unfoldable pub above : Position → ℕ → ℕ → ℕ
+above p a b = cond (hasDetails p) (a - b) 0
 
-unfoldable pub collectionOf : Position → ℕ
-collectionOf p = collected (p ∷ [])
+-- what a position adds
+abbrev pub refundOf : Position → ℕ
+refundOf p = above p (p .transferred) (p .detailed)
+
+abbrev pub collectionOf : Position → ℕ
+collectionOf p = above p (p .detailed) (p .transferred)
 
 -- r is s with what the position adds
 pub record Adds (p : Position) (s r : Sums) : Type 0 where
@@ -40,42 +43,39 @@ pub record SumsOf (ps : List Position) (r : Sums) : Type 0 where
 
 -- ---- one position
 
+module _ (p : Position) (a b : ℕ) where
+  above-none : p .detailed ≡ 0 → above p a b ≡ 0
+  unfolding above hasDetails
+  above-none e = rw e
+
+  above-some : (p .detailed ≡ 0 → ⊥) → above p a b ≡ a - b
+  unfolding above hasDetails
+  above-some h = rw (le-leb 1 (p .detailed) (omega (arith, h)))
+
+  -- it is no more than the one total
+  above-small : above p a b ≤ a
+  unfolding above
+  above-small = go (hasDetails p)
+    where
+      go : (t : Bool) → cond t (a - b) 0 ≤ a
+      go true = omega arith
+      go false = omega arith
+
+  -- it is added to what others add
+  above-first : (n : ℕ) → cond (hasDetails p) ((a - b) + n) n ≡ above p a b + n
+  unfolding above
+  above-first n = go (hasDetails p)
+    where
+      go : (t : Bool) → cond t ((a - b) + n) n ≡ cond t (a - b) 0 + n
+      go true = omega arith
+      go false = omega arith
+
 module _ (p : Position) (s : Sums) where
   pub adds-nothing : p .detailed ≡ 0 → Adds p s s
-  unfolding refundOf collectionOf refunded collected hasDetails
-  adds-nothing e = record { refunded = rw e (omega arith); collected = rw e (omega arith) }
+  adds-nothing e = record { refunded = omega (arith, above-none p (p .transferred) (p .detailed) e); collected = omega (arith, above-none p (p .detailed) (p .transferred) e) }
 
-  module _ (h : p .detailed ≡ 0 → ⊥) where
-    some : leb 1 (p .detailed) ≡ true
-    some = le-leb 1 (p .detailed) (omega (arith, h))
-
-    refund-is : refundOf p ≡ p .transferred - p .detailed
-    unfolding refundOf refunded hasDetails
-    refund-is = rw some (omega arith)
-
-    collection-is : collectionOf p ≡ p .detailed - p .transferred
-    unfolding collectionOf collected hasDetails
-    collection-is = rw some (omega arith)
-
-    pub adds-some : {a b : ℕ} → a ≡ p .transferred - p .detailed → b ≡ p .detailed - p .transferred → Adds p s (record { refunded = s .refunded + a; collected = s .collected + b })
-    adds-some u v = record { refunded = omega (arith, refund-is); collected = omega (arith, collection-is) }
-
--- a position adds no more than its totals
-pub refund-small : (p : Position) → refundOf p ≤ p .transferred
-unfolding refundOf refunded hasDetails
-refund-small p = go (leb 1 (p .detailed))
-  where
-    go : (t : Bool) → cond t ((p .transferred - p .detailed) + 0) 0 ≤ p .transferred
-    go true = omega arith
-    go false = omega arith
-
-pub collection-small : (p : Position) → collectionOf p ≤ p .detailed
-unfolding collectionOf collected hasDetails
-collection-small p = go (leb 1 (p .detailed))
-  where
-    go : (t : Bool) → cond t ((p .detailed - p .transferred) + 0) 0 ≤ p .detailed
-    go true = omega arith
-    go false = omega arith
+  pub adds-some : (p .detailed ≡ 0 → ⊥) → {a b : ℕ} → a ≡ p .transferred - p .detailed → b ≡ p .detailed - p .transferred → Adds p s (record { refunded = s .refunded + a; collected = s .collected + b })
+  adds-some h u v = record { refunded = omega (arith, above-some p (p .transferred) (p .detailed) h); collected = omega (arith, above-some p (p .detailed) (p .transferred) h) }
 
 -- ---- position by position
 
@@ -89,20 +89,12 @@ pub record SumsLeft (area : List ℕ) (i k n : ℕ) (s : Sums) : Type 0 where
 
 module _ (p : Position) (ps : List Position) where
   refunded-first : refunded (p ∷ ps) ≡ refundOf p + refunded ps
-  unfolding refundOf refunded
-  refunded-first = go (hasDetails p)
-    where
-      go : (t : Bool) → cond t ((p .transferred - p .detailed) + refunded ps) (refunded ps) ≡ cond t ((p .transferred - p .detailed) + 0) 0 + refunded ps
-      go true = omega arith
-      go false = omega arith
+  unfolding refunded
+  refunded-first = above-first p (p .transferred) (p .detailed) (refunded ps)
 
   collected-first : collected (p ∷ ps) ≡ collectionOf p + collected ps
-  unfolding collectionOf collected
-  collected-first = go (hasDetails p)
-    where
-      go : (t : Bool) → cond t ((p .detailed - p .transferred) + collected ps) (collected ps) ≡ cond t ((p .detailed - p .transferred) + 0) 0 + collected ps
-      go true = omega arith
-      go false = omega arith
+  unfolding collected
+  collected-first = above-first p (p .detailed) (p .transferred) (collected ps)
 
 pub sums-all : (area : List ℕ) (n : ℕ) → SumsLeft area 0 n n (record { refunded = 0; collected = 0 })
 sums-all area n = record { place = omega arith; refunded = omega arith; collected = omega arith; small = omega arith; little = omega arith }
@@ -117,8 +109,8 @@ module _ (area : List ℕ) (i k n : ℕ) (s : Sums) (l : SumsLeft area i k n s) 
         place = omega (arith, l .place);
         refunded = omega (arith, l .refunded, ap refunded e, refunded-first x xs, d .refunded);
         collected = omega (arith, l .collected, ap collected e, collected-first x xs, d .collected);
-        small = omega (arith, l .small, d .refunded, refund-small x, a .transferred);
-        little = omega (arith, l .little, d .collected, collection-small x, a .detailed);
+        small = omega (arith, l .small, d .refunded, above-small x (x .transferred) (x .detailed), a .transferred);
+        little = omega (arith, l .little, d .collected, above-small x (x .detailed) (x .transferred), a .detailed);
       }
 
   pub sums-end : k ≤ 0 → n ≤ 32 → SumsOf (positionsFrom area 0 n) s
