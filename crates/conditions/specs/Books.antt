@@ -83,41 +83,34 @@ module _ (s : List ℕ) (m : Message) (h : Has s m) where
     unfolding run
     reference-short = rw (cut-length s (p .start) (p .end) (w .room)) at (leb-true (length (spanOf s p)) 16 (and-right (leb 1 (length (spanOf s p))) _ (and-left _ _ reference-run)))
 
+    -- the booking has the message's reference, and of the rest what its kind says
+    books : (t : Bool) (date amount count : ℕ) → date ≡ dateOf m → transferredBy m ≡ amountIf t amount → detailedBy m ≡ amountIf (not t) amount → ((day : ℕ) → misdated day m ≡ misdatedBy t date day) → amount ≤ 16 * 10 ^ 16 → KindOf m amount t
+        → Books s m (bookingOf s t p date amount count)
+    books t date amount count d f g i l k = record {
+      key = rw (bank-is, d);
+      reference = e;
+      order = w .order;
+      room = w .room;
+      short = reference-short;
+      text = reference-text;
+      transferred = f;
+      detailed = g;
+      dated = i;
+      small = l;
+      kind = k;
+    }
+
 -- ---- an MT103, and an MT101
 
 pub transfer-books : (s : List ℕ) (t : Transfer) → Has s (mt103 t) → (p : Span) → SpanIn s p → spanOf s p ≡ referenceOf (mt103 t) → t .amount < 10 ^ 16
     → Books s (mt103 t) (bookingOf s true p (t .date) (t .amount) 0)
 unfolding dateOf transferredBy detailedBy detailsOf sumOf misdated
-transfer-books s t h p w e l = record {
-  key = rw (bank-is s (mt103 t) h);
-  reference = e;
-  order = w .order;
-  room = w .room;
-  short = reference-short s (mt103 t) h p w e;
-  text = reference-text s (mt103 t) h p w e;
-  transferred = refl;
-  detailed = refl;
-  dated = λ day. refl;
-  small = omega arith;
-  kind = record { transfer = t; same = refl; sum = refl };
-}
+transfer-books s t h p w e l = books s (mt103 t) h p w e true (t .date) (t .amount) 0 refl refl refl (λ day. refl) (omega arith) (record { transfer = t; same = refl; sum = refl })
 
 pub order-books : (s : List ℕ) (o : Order) → Has s (mt101 o) → (p : Span) → SpanIn s p → spanOf s p ≡ referenceOf (mt101 o) → {date sum count : ℕ} → date ≡ firstDate (o .details) → sum ≡ sumOf (o .details) → sum ≤ 16 * 10 ^ 16
     → Books s (mt101 o) (bookingOf s false p date sum count)
 unfolding dateOf transferredBy detailedBy detailsOf misdated
-order-books s o h p w e d f l = record {
-  key = rw (bank-is s (mt101 o) h, d);
-  reference = e;
-  order = w .order;
-  room = w .room;
-  short = reference-short s (mt101 o) h p w e;
-  text = reference-text s (mt101 o) h p w e;
-  transferred = refl;
-  detailed = sym f;
-  dated = λ day. rw d refl;
-  small = l;
-  kind = record { order = o; same = refl };
-}
+order-books s o h p w e {date} {sum} {count} d f l = books s (mt101 o) h p w e false date sum count d refl (sym f) (λ day. rw d refl) l (record { order = o; same = refl })
 
 -- made of a bank that was read
 pub booking-made : (s : List ℕ) (t : Bool) (p : Span) (v date amount count : ℕ) → v ≡ number (cut s 4 12)
