@@ -13,7 +13,7 @@ use Rattle.rules.specs.Messages.{Message, dateOf, transferredBy, detailedBy}
 use Rattle.rules.specs.Register.{registerOf}
 use Rattle.rules.specs.Text.{ordered}
 use Rattle.rules.specs.Engine.{Position, Engine, earlier, sameKey}
-use Rattle.rules.specs.Calls.{bankOf, added, afterMessage, afterTurn}
+use Rattle.rules.specs.Calls.{Stop, bankOf, added, afterMessage, afterTurn}
 use Rattle.rules.specs.Area.{Result, cardMessage, cardTurn, holds}
 use Rattle.rules.specs.Ledger.{Fed, message, turn, Event, fedWith, enteredBy, ledgerFrom, isTurn, sinceTurn, listed, messageOf, accepted, sumOf}
 use Rattle.rules.specs.Demand3.{result}
@@ -24,7 +24,7 @@ use Rattle.engine_laws.specs.Limits.{Limits, limits}
 use Rattle.engine_laws.specs.Held.{held}
 use Rattle.engine_laws.specs.Order.{ordered-sorted}
 use Rattle.engine_laws.specs.Positions.{Good, all-good, position-order}
-use Rattle.engine_laws.specs.Calls.{Stays, done-holds, done-text, Takes, message-accepted, message-refused, Turns, turn-accepted, turn-refused}
+use Rattle.engine_laws.specs.Calls.{Stays, Ends, done-holds, done-text, Takes, message-there, message-ends, Turns, turn-there, turn-ends}
 use Rattle.balance_laws.specs.Told.{Tells, tells-none, told}
 use Rattle.balance_laws.specs.Tally.{Measure, tally, SameEntries, only, like, bare, one, kept-bare, same-kept}
 use Rattle.balance_laws.specs.Booking.{many, many-past, keyed, sorted-many, entered-same}
@@ -101,7 +101,7 @@ module _ (temporary area : List ℕ) (ledger : List Position) (sent : List Messa
   step-message : (s out : List ℕ) → cardMessage s area out .number ≡ 0 → Stepped temporary ledger sent turned (event (message s) (cardMessage s area out)) (cardMessage s area out .area)
   unfolding event ledgerFrom accepted sinceTurn fedWith enteredBy messageOf listed isTurn afterMessage
   step-message s out a =
-      let t : Takes s area out = message-accepted s area out a in
+      let t : Takes s area out = message-there s area out (message-ends s area out .accepted a) in
       let e : Engine = t .engine in
       let m : Message = t .message in
       let g : Agrees temporary ledger sent turned e = agrees-at e (t .holding) in
@@ -130,7 +130,7 @@ module _ (temporary area : List ℕ) (ledger : List Position) (sent : List Messa
   step-turn : (day : ℕ) (out : List ℕ) → cardTurn day area out .number ≡ 0 → Stepped temporary ledger sent turned (event (turn day) (cardTurn day area out)) (cardTurn day area out .area)
   unfolding event ledgerFrom accepted sinceTurn fedWith messageOf isTurn afterTurn
   step-turn day out a =
-      let t : Turns day area out = turn-accepted day area out a in
+      let t : Turns day area out = turn-there day area out (turn-ends day area out .accepted a) in
       let e : Engine = t .engine in
       let g : Agrees temporary ledger sent turned e = agrees-at e (t .holding) in
       let l : Limits e = limits e (held area e (t .holding) .good) in
@@ -154,15 +154,14 @@ module _ (temporary area : List ℕ) (ledger : List Position) (sent : List Messa
       }
 
   -- any call
+  step : (f : Fed) (out : List ℕ) (ss : List Stop) (r : Result) → Ends ss r area out → (r .number ≡ 0 → Stepped temporary ledger sent turned (event f r) (r .area)) → Stepped temporary ledger sent turned (event f r) (r .area)
+  step f out ss r c a = go (eqb (r .number) 0) refl
+    where
+      go : (b : Bool) → eqb (r .number) 0 ≡ b → Stepped temporary ledger sent turned (event f r) (r .area)
+      go true e = a (eqb-true _ _ e)
+      go false e = step-refused f out r (eqb-false _ _ e) (c .refused (eqb-false _ _ e))
+
   pub stepped : (f : Fed) (out : List ℕ) → Stepped temporary ledger sent turned (event f (result f area out)) (result f area out .area)
   unfolding result
-  stepped (message s) out = go (eqb (cardMessage s area out .number) 0) refl
-    where
-      go : (b : Bool) → eqb (cardMessage s area out .number) 0 ≡ b → Stepped temporary ledger sent turned (event (message s) (cardMessage s area out)) (cardMessage s area out .area)
-      go true e = step-message s out (eqb-true _ _ e)
-      go false e = step-refused (message s) out (cardMessage s area out) (eqb-false _ _ e) (message-refused s area out (eqb-false _ _ e))
-  stepped (turn day) out = go (eqb (cardTurn day area out .number) 0) refl
-    where
-      go : (b : Bool) → eqb (cardTurn day area out .number) 0 ≡ b → Stepped temporary ledger sent turned (event (turn day) (cardTurn day area out)) (cardTurn day area out .area)
-      go true e = step-turn day out (eqb-true _ _ e)
-      go false e = step-refused (turn day) out (cardTurn day area out) (eqb-false _ _ e) (turn-refused day area out (eqb-false _ _ e))
+  stepped (message s) out = step (message s) out _ (cardMessage s area out) (message-ends s area out) (step-message s out)
+  stepped (turn day) out = step (turn day) out _ (cardTurn day area out) (turn-ends day area out) (step-turn day out)

@@ -2,7 +2,7 @@
 use mathlib.Core.Path.{_≡_, refl}
 use mathlib.Core.Bool.{Bool, true, false}
 use mathlib.Core.List.{List, [], _++_}
-use mathlib.Core.Option.{none, some}
+use mathlib.Core.Option.{Option, none, some}
 use Prim.Native.Nat.{ℕ, _≤_, _<_}
 use native.Mathlib.Omega.{arith}
 use lib.Dec.{eqb}
@@ -14,7 +14,7 @@ use Rattle.rules.specs.Text.{over}
 use Rattle.rules.specs.Dates.{exists}
 use Rattle.rules.specs.Messages.{Message, read}
 use Rattle.rules.specs.Engine.{Engine, within}
-use Rattle.rules.specs.Calls.{Answer, firstOf, openStops, opened, acceptedOpening, openCall, messageStops, messageText, after, afterMessage, acceptedMessage, bothOf, messageCall, turnText, turnStops, refunded, collected, afterTurn, acceptedTurn, turnCall}
+use Rattle.rules.specs.Calls.{Stop, firstOf, Answer, answered, openStops, opened, acceptedOpening, openCall, messageStops, messageText, after, afterMessage, acceptedMessage, bothOf, messageCall, turnText, turnStops, refunded, collected, afterTurn, acceptedTurn, turnCall}
 use Rattle.rules.specs.Area.{encode, holds, Result, stored, onAreas, cardOpen, cardMessage, cardTurn, areaSize}
 use Rattle.rule_laws.specs.Conditions.{answered-accepted, answered-zero}
 use Rattle.rule_laws.specs.Clear.{open-clear, Clear, clear, message-engine, message-read, TurnClear, turn-clear, turn-engine}
@@ -70,6 +70,14 @@ module _ (a : Answer) (area out : List ℕ) where
       go true e = absurd (h (rw e))
       go false e = record { written = rw e; difference = rw e; area = rw e; output = rw e }
 
+-- a call's result: where its number is 0 no condition held, else all stays
+pub record Ends (ss : List Stop) (r : Result) (area out : List ℕ) : Type 0 where
+  pub accepted : r .number ≡ 0 → firstOf ss ≡ 0
+  pub refused : (r .number ≡ 0 → ⊥) → Stays r area out
+
+on-ends : (ss : List Stop) (held : Option Engine) (a : Answer) (area out : List ℕ) → Ends ss (onAreas (answered ss held a) area out) area out
+on-ends ss held a area out = record { accepted = λ h. answered-zero ss held a (on-zero _ area out h); refused = on-stays _ area out }
+
 on-done : (text : List ℕ) (d : ℤ) (next : Engine) (area out : List ℕ) → within next ≡ true → Done (onAreas record { number = 0; text = text; difference = d; next = some next } area out) area out text d next
 unfolding onAreas stored
 on-done text d next area out w = record { good = w; written = refl; difference = refl; area = refl; output = refl }
@@ -85,7 +93,7 @@ module _ (text : List ℕ) (day : ℕ) (area : List ℕ) where
   pub open-accepted : cardOpen text day area .number ≡ 0 → Opens
   unfolding cardOpen openCall acceptedOpening
   open-accepted h =
-      let k : firstOf (openStops (length area) text day) ≡ 0 = answered-zero _ (holds area) _ (on-zero _ area [] h) in record {
+      let k : firstOf (openStops (length area) text day) ≡ 0 = on-ends _ (holds area) (acceptedOpening text day) area [] .accepted h in record {
         none = k;
         long = open-clear (length area) text day k .long;
         done = rw (answered-accepted _ (holds area) (acceptedOpening text day) k) (on-done [] (pos 0) (opened text day) area [] (opened-within (length area) text day k));
@@ -122,13 +130,9 @@ module _ (s area out : List ℕ) where
       let m : There (read s) = there (read s) (message-read (length out) (holds area) s k) in
       message-done (e .value) (m .value) (e .is) (m .is) k
 
-  pub message-accepted : cardMessage s area out .number ≡ 0 → Takes
+  pub message-ends : Ends (messageStops (length out) (holds area) s) (cardMessage s area out) area out
   unfolding cardMessage messageCall
-  message-accepted h = message-there (answered-zero _ (holds area) _ (on-zero _ area out h))
-
-  pub message-refused : (cardMessage s area out .number ≡ 0 → ⊥) → Stays (cardMessage s area out) area out
-  unfolding cardMessage
-  message-refused h = on-stays _ area out h
+  message-ends = on-ends _ (holds area) _ area out
 
 -- ---- turn
 
@@ -158,10 +162,6 @@ module _ (day : ℕ) (area out : List ℕ) where
   pub turn-there : firstOf (turnStops (length out) (holds area) day) ≡ 0 → Turns
   turn-there k = let e : There (holds area) = there (holds area) (turn-engine (length out) (holds area) day k) in turn-done (e .value) (e .is) k
 
-  pub turn-accepted : cardTurn day area out .number ≡ 0 → Turns
+  pub turn-ends : Ends (turnStops (length out) (holds area) day) (cardTurn day area out) area out
   unfolding cardTurn turnCall
-  turn-accepted h = turn-there (answered-zero _ (holds area) _ (on-zero _ area out h))
-
-  pub turn-refused : (cardTurn day area out .number ≡ 0 → ⊥) → Stays (cardTurn day area out) area out
-  unfolding cardTurn
-  turn-refused h = on-stays _ area out h
+  turn-ends = on-ends _ (holds area) _ area out
