@@ -44,50 +44,23 @@ verdictBy k =
 pub record CodeOf (v : Verdict) (r : ℕ) : Type 0 where
   pub same : verdictBy r ≡ v
 
-module _ (k : ℕ) where
-  pub by-shape : k ≡ 0 → Returned WrongShape ≡ verdictBy k
-  unfolding verdictBy
-  by-shape e = rw e
+-- the verdict of a cause's number, and that of a line's
+pub by-cause : (k n : ℕ) (c : Cause) → k ≡ n → Returned c ≡ verdictBy n → Returned c ≡ verdictBy k
+by-cause k n c e h = rw e h
 
-  pub by-control : k ≡ 1 → Returned WrongControl ≡ verdictBy k
-  unfolding verdictBy
-  by-control e = rw e
+pub by-line : (k : ℕ) → (k ≡ 0 → ⊥) → (k ≡ 1 → ⊥) → (k ≡ 2 → ⊥) → (k ≡ 3 → ⊥) → Credited (k - 4) ≡ verdictBy k
+unfolding verdictBy
+by-line k a b c d = rw (ne-eqb k 0 a, ne-eqb k 1 b, ne-eqb k 2 c, ne-eqb k 3 d)
 
-  pub by-register : k ≡ 2 → Returned NotInRegister ≡ verdictBy k
-  unfolding verdictBy
-  by-register e = rw e
-
-  pub by-bounds : k ≡ 3 → Returned OutOfBounds ≡ verdictBy k
-  unfolding verdictBy
-  by-bounds e = rw e
-
-  pub by-line : (k ≡ 0 → ⊥) → (k ≡ 1 → ⊥) → (k ≡ 2 → ⊥) → (k ≡ 3 → ⊥) → Credited (k - 4) ≡ verdictBy k
-  unfolding verdictBy
-  by-line a b c d = rw (ne-eqb k 0 a, ne-eqb k 1 b, ne-eqb k 2 c, ne-eqb k 3 d)
-
+-- the number of a verdict
 module _ (v : Verdict) where
   pub code-line : {i : ℕ} → v ≡ Credited i → CodeOf v (i + 4)
-  unfolding verdictBy
   code-line {i} e =
       let n : i + 4 - 4 ≡ i = omega arith in
-      record { same = rw (ne-eqb (i + 4) 0 (λ z. omega arith), ne-eqb (i + 4) 1 (λ z. omega arith), ne-eqb (i + 4) 2 (λ z. omega arith), ne-eqb (i + 4) 3 (λ z. omega arith), n) (sym e) }
+      record { same = sym (e ∙ rw n at (by-line (i + 4) (λ z. omega arith) (λ z. omega arith) (λ z. omega arith) (λ z. omega arith))) }
 
-  module _ {c : Cause} (e : v ≡ Returned c) where
-    pub code-shape : c ≡ WrongShape → CodeOf v 0
-    unfolding verdictBy
-    code-shape f = record { same = sym (e ∙ ap Returned f) }
-
-    pub code-control : c ≡ WrongControl → CodeOf v 1
-    unfolding verdictBy
-    code-control f = record { same = sym (e ∙ ap Returned f) }
-
-    pub code-register : c ≡ NotInRegister → CodeOf v 2
-    unfolding verdictBy
-    code-register f = record { same = sym (e ∙ ap Returned f) }
-
-    pub code-bounds : c ≡ OutOfBounds → CodeOf v 3
-    unfolding verdictBy
-    code-bounds f = record { same = sym (e ∙ ap Returned f) }
+  pub code-cause : {c d : Cause} {r : ℕ} → v ≡ Returned c → c ≡ d → Returned d ≡ verdictBy r → CodeOf v r
+  code-cause e f h = record { same = sym (e ∙ ap Returned f ∙ h) }
 
 -- detail i as it is kept, with its verdict
 unfoldable pub judgedIn : List ℕ → List ℕ → List ℕ → ℕ → Judged

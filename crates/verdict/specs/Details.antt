@@ -19,7 +19,7 @@ use Rattle.forms.specs.declared.rows.Span.{Span}
 use Rattle.details.specs.Lines.{lineAt}
 use Rattle.details.specs.Message.{detailsIn, detailAt}
 use Rattle.details.specs.Kept.{LineOf, LinesIn, AmountsIn, before-or-last}
-use Rattle.verdict.specs.Answers.{verdictOf, verdictBy, CodeOf, judgedIn, Listed, listed, listed-line, code-line, code-shape, code-control, code-register, code-bounds, by-shape, by-control, by-register, by-bounds, by-line}
+use Rattle.verdict.specs.Answers.{verdictOf, verdictBy, CodeOf, judgedIn, Listed, listed, listed-line, code-line, code-cause, by-cause, by-line}
 use Rattle.verdict.specs.declared.Verdict.{Verdict}
 use Rattle.verdict.specs.declared.Verdict.the-variants.{Credited}
 use Rattle.verdict.specs.declared.detail.Judged.{Judged}
@@ -115,4 +115,4 @@ pub judged-made : (amounts places verdicts : List ℕ) (i : ℕ) {b a p : Span} 
 unfolding judgedIn
 judged-made amounts places verdicts i e f g h = rw (e, f, g, h)
 
-pub ruleset detailing = (listed, listed-line, line-small, code-line, code-shape, code-control, code-register, code-bounds, by-shape, by-control, by-register, by-bounds, by-line, judging-start, account-order, account-in, judging-next, judging-end, judged-made)
+pub ruleset detailing = (listed, listed-line, line-small, code-line, code-cause, by-cause, by-line, judging-start, account-order, account-in, judging-next, judging-end, judged-made)

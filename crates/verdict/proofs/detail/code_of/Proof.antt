@@ -1,5 +1,6 @@
 -- `verdict::detail::code_of` meets its contract: each case of a verdict has its number.
 use Rattle.verdict.specs.Details.{line-small, detailing}
+use Rattle.verdict.specs.Answers.{verdictBy}
 use borrow.Author.Needs.{needs}
 use Rattle.verdict.proofs.detail.code_of.Statement.{statement}
 use Rattle.verdict.proofs.detail.code_of.Tie as tie
@@ -32,15 +33,19 @@ returns : tie.Need-returns
 returns c = search (detailing, needs)
 
 returns-2 : tie.Need-returns-2
+unfolding verdictBy
 returns-2 c = search (detailing, needs)
 
 returns-3 : tie.Need-returns-3
+unfolding verdictBy
 returns-3 c = search (detailing, needs)
 
 returns-4 : tie.Need-returns-4
+unfolding verdictBy
 returns-4 c = search (detailing, needs)
 
 returns-5 : tie.Need-returns-5
+unfolding verdictBy
 returns-5 c = search (detailing, needs)
 
 pub code-of-spec : {M : Type 1} → statement M
