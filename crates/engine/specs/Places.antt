@@ -1,16 +1,17 @@
 -- The place of a key among positions in their order: what is booked there stands in the position's place if it is open, else before the first one behind it.
 use mathlib.Core.Path.{_≡_, refl, _∙_}
 use mathlib.Core.Bool.{Bool, true, false}
-use mathlib.Core.List.{List, [], _∷_, _++_, append-assoc}
+use mathlib.Core.List.{List, [], _∷_}
 use Prim.Native.Nat.{ℕ, suc, _+_, _≤_, _<_}
 use native.Mathlib.Numerals.{add-one}
 use native.Mathlib.Omega.{arith}
-use lib.ListN.{length, getD, take, drop, drop-of-length-le}
-use lib.Seq.{take-suc, drop-cons}
+use lib.ListN.{length, getD, drop, drop-of-length-le}
+use lib.Seq.{drop-cons}
 use Rattle.rules.specs.Text.{any}
 use Rattle.rules.specs.Engine.{Key, Position, keyBefore, sameKey, positionOf, isOpen, booked}
 use Rattle.rule_laws.specs.Keys.{test-before, before-other, before-first, same-keys, gives-way}
 use Rattle.laws.specs.Sections.{inserted, replaced}
+use Rattle.laws.specs.Putting.{PutBehind, put-start, put-on, put-end, put-before, put-over}
 use Rattle.laws.specs.Tests.{never}
 use Rattle.engine_laws.specs.Order.{Sorted, Sorted.next}
 use Rattle.engine_laws.specs.Positions.{Before, booked-same, booked-ahead, booked-behind, open-same, open-other, found-same, found-other, not-open, not-found, first-before}
@@ -28,7 +29,7 @@ isFirst k (p ∷ ps) = sameKey (p .key) k
 pub record KeyPassed (k : Key) (ps : List Position) (i : ℕ) : Type 0 where
   pub within : i ≤ length ps
   pub sorted : Sorted Before (drop i ps)
-  pub left : (t d : ℕ) → booked (position k t d) ps ≡ take i ps ++ booked (position k t d) (drop i ps)
+  pub left : (t d : ℕ) → PutBehind (booked (position k t d)) ps i
   pub found : positionOf k ps ≡ positionOf k (drop i ps)
   pub opens : isOpen k ps ≡ isOpen k (drop i ps)
 
@@ -44,11 +45,11 @@ pub record PlaceOf (k : Key) (ps : List Position) (i : ℕ) : Type 0 where
 -- ---- from one position to the next
 
 pub passed-none : (k : Key) (ps : List Position) → Sorted Before ps → KeyPassed k ps 0
-passed-none k ps s = record { within = omega arith; sorted = s; left = λ t d. refl; found = refl; opens = refl }
+passed-none k ps s = record { within = omega arith; sorted = s; left = λ t d. put-start (booked (position k t d)) ps; found = refl; opens = refl }
 
 module _ {k : Key} {ps : List Position} {i : ℕ} (g : KeyPassed k ps i) where
   pub place-end : length ps ≤ i → PlaceOf k ps i
-  unfolding isFirst booked inserted positionOf isOpen any
+  unfolding isFirst booked positionOf isOpen any
   place-end h =
       let e : drop i ps ≡ [] = drop-of-length-le ps h in record {
         within = g .within;
@@ -56,7 +57,7 @@ module _ {k : Key} {ps : List Position} {i : ℕ} (g : KeyPassed k ps i) where
         opens = g .opens ∙ rw e;
         missing = λ m. g .found ∙ rw e;
         raised = λ t d m. never (rw e at m);
-        opened = λ t d m. g .left t d ∙ rw e;
+        opened = λ t d m. put-end (g .left t d) h refl;
       }
 
   module _ (h : i < length ps) where
@@ -79,17 +80,16 @@ module _ {k : Key} {ps : List Position} {i : ℕ} (g : KeyPassed k ps i) where
         let before = test-before (p .key) k b in
         let other : sameKey (p .key) k ≡ false = before-other before in
         let first : keyBefore k (p .key) ≡ false = before-first before in
-        let e : take (i + 1) ps ≡ take i ps ++ p ∷ [] = rw add-one (take-suc ps i (position k 0 0) h) in
         let f : drop (i + 1) ps ≡ rest = rw add-one in record {
           within = omega arith;
           sorted = rw f (tail (rw split at (g .sorted)));
-          left = λ t d. g .left t d ∙ rw (split, booked-behind (position k t d) p rest other first, e, f, append-assoc);
+          left = λ t d. put-on (g .left t d) (position k 0 0) h (booked-behind (position k t d) p rest other first);
           found = g .found ∙ rw (split, found-other (position k 0 0) p rest other, f);
           opens = g .opens ∙ rw (split, open-other (position k 0 0) p rest other, f);
         }
 
     pub place-here : keyBefore (getD ps i (position k 0 0) .key) k ≡ false → PlaceOf k ps i
-    unfolding p rest isFirst replaced inserted
+    unfolding p rest isFirst
     place-here b =
         let ahead : sameKey (p .key) k ≡ false → keyBefore k (p .key) ≡ true = λ m. gives-way (p .key) k b m in
         let behind : sameKey (p .key) k ≡ false → Sorted Before (p ∷ rest) → isOpen k (p ∷ rest) ≡ false = λ m s. not-open (position k 0 0) (first-before (position k 0 0) (ahead m) s) in record {
@@ -100,10 +100,10 @@ module _ {k : Key} {ps : List Position} {i : ℕ} (g : KeyPassed k ps i) where
           raised = λ t d m.
               let a : sameKey (p .key) k ≡ true = rw split at m in
               let f : positionOf k ps ≡ p = g .found ∙ rw (split, found-same (position k t d) p rest a) in
-              g .left t d ∙ rw (split, booked-same (position k t d) p rest a, f, same-keys (p .key) k a);
+              put-over (g .left t d) (position k 0 0) h (booked-same (position k t d) p rest a ∙ rw (f, same-keys (p .key) k a));
           opened = λ t d m.
               let a : sameKey (p .key) k ≡ false = rw split at m in
-              g .left t d ∙ rw (split, booked-ahead (position k t d) p rest a (ahead a));
+              put-before (g .left t d) (position k 0 0) h (booked-ahead (position k t d) p rest a (ahead a));
         }
       where
         go : (t : Bool) → sameKey (p .key) k ≡ t → (sameKey (p .key) k ≡ false → Sorted Before (p ∷ rest) → isOpen k (p ∷ rest) ≡ false) → isOpen k (p ∷ rest) ≡ t

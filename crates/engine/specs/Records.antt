@@ -30,19 +30,22 @@ pub many : (a : List ℕ) (x : Header) → isSome (holds a) ≡ true → HeaderO
 many a x h n = record { same = n .positions; few = n .few; long = n .long; sorted = ordered-sorted position-order (decode a .positions) (decoded-limits a h .order) }
 
 -- the i-th of n records
-pub read-at : {A : Type 0} (f : List ℕ → A) (n i : ℕ) (bs : List ℕ) (none : A) → i < n → getD (map f (records n bs)) i none ≡ f (take recordSize (drop (recordSize * i) bs))
+read-at : {A : Type 0} (f : List ℕ → A) (n i : ℕ) (bs : List ℕ) (none : A) → i < n → getD (map f (records n bs)) i none ≡ f (take recordSize (drop (recordSize * i) bs))
 unfolding records
 read-at f zero i bs none h = absurd (omega arith)
 read-at f (suc n) zero bs none h = refl
 read-at f (suc n) (suc i) bs none h =
-    let e : recordSize * suc i ≡ 24 + recordSize * i = omega arith in
-    read-at f n i (drop recordSize bs) none (omega arith) ∙ rw (e, drop-drop (recordSize * i) 24 bs)
+    let e : recordSize * suc i ≡ recordSize + recordSize * i = omega arith in
+    read-at f n i (drop recordSize bs) none (omega arith) ∙ rw (e, drop-drop (recordSize * i) recordSize bs)
+
+-- the i-th of those from a place of an area on
+pub read-nth : {A : Type 0} (f : List ℕ → A) (a : List ℕ) (n at i : ℕ) (none : A) → i < length (map f (records n (drop at a))) → getD (map f (records n (drop at a))) i none ≡ valueAt f a (at + recordSize * i)
+unfolding valueAt
+read-nth f a n at i none h = let m : length (map f (records n (drop at a))) ≡ n = records-length f n (drop at a) in read-at f n i (drop at a) none (rw m at h) ∙ rw (drop-drop (recordSize * i) at a)
 
 nth-read : (a : List ℕ) (i : ℕ) (none : Position) → i < length (decode a .positions) → getD (decode a .positions) i none ≡ nthPosition a i
-unfolding decode valueAt
-nth-read a i none h =
-    let n : length (map positionIn (records (numberAt a manyPositionsPlace 1) (drop positionsPlace a))) ≡ numberAt a manyPositionsPlace 1 = records-length positionIn (numberAt a manyPositionsPlace 1) (drop positionsPlace a) in
-    read-at positionIn (numberAt a manyPositionsPlace 1) i (drop positionsPlace a) none (rw n at h) ∙ rw (drop-drop (recordSize * i) positionsPlace a)
+unfolding decode
+nth-read a i none h = read-nth positionIn a (numberAt a manyPositionsPlace 1) positionsPlace i none h
 
 module _ (a : List ℕ) (n i : ℕ) (m : Many a n) where
   pub positions-from : i < n → drop i (decode a .positions) ≡ nthPosition a i ∷ drop (suc i) (decode a .positions)

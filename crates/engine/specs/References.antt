@@ -10,11 +10,12 @@ use lib.Dec.{eqb, lit≤}
 use lib.ListN.{length, getD, take, drop}
 use Rattle.rules.specs.Text.{isText, every, equal, any}
 use Rattle.rules.specs.Engine.{Reference, sameReference}
-use Rattle.rules.specs.Area.{untilZero, referenceIn, positionsPlace, recordSize}
+use Rattle.rules.specs.Area.{untilZero, referenceIn, positionsPlace, recordSize, numberAt, referencesPlace}
 use Rattle.laws.specs.Parts.{cut, cut-step, cut-done, cut-length, cut-drop, cut-take}
 use Rattle.laws.specs.Tests.{cond-left, cond-right}
+use Rattle.engine_laws.specs.Checked.{text-in}
 use Rattle.engine_laws.specs.Layout.{text-byte}
-use Rattle.engine_laws.specs.Records.{cut-is, number-within}
+use Rattle.engine_laws.specs.Records.{number-within}
 use Rattle.engine_laws.specs.Tests.{valueAt}
 use Rattle.text.specs.Numbers.{NumberAt}
 use Rattle.engine.specs.Positions.{valuesAt, values-next, values-none}
@@ -82,25 +83,23 @@ module _ (area s : List ℕ) (q a b r : ℕ) (h : a ≤ b) (k : b ≤ length s) 
 
 -- ---- one reference
 
-module _ (area : List ℕ) (p bank : ℕ) (cs : List ℕ) where
-  text-is : referenceAt area p .text ≡ untilZero (cut area (p + 8) (p + 8 + 16))
+module _ (area : List ℕ) (p : ℕ) where
+  pub sender-at : referenceAt area p .sender ≡ numberAt area p 8
   unfolding valueAt referenceIn
-  text-is =
-      let e : p + 8 + 16 ≡ p + recordSize = omega arith in
-      ap untilZero (ap (λ (r : List ℕ). take 16 (drop 8 r)) (sym (cut-is area p 24)) ∙ ap (take 16) (cut-drop area p (p + recordSize) 8) ∙ cut-take area (p + 8) (p + recordSize) 16 (omega arith))
+  sender-at = rw add-zero at (number-within area p recordSize 0 8 (lit≤ tt))
 
-  sender-is : (v : ℕ) → NumberAt area p 8 v → referenceAt area p .sender ≡ v
+  pub text-at : referenceAt area p .text ≡ untilZero (cut area (p + 8) (p + 8 + 16))
   unfolding valueAt referenceIn
-  sender-is v n = rw add-zero at (number-within area p 24 0 8 (lit≤ tt)) ∙ sym (n .value)
+  text-at = ap untilZero (sym (text-in area p))
 
-  module _ (t : Bool) (u : t ≡ equal cs (untilZero (cut area (p + 8) (p + 8 + 16)))) where
+  module _ (bank : ℕ) (cs : List ℕ) (t : Bool) (u : t ≡ equal cs (untilZero (cut area (p + 8) (p + 8 + 16)))) where
     pub reference-other : t ≡ false → false ≡ sameReference (ofBank bank cs) (referenceAt area p)
     unfolding sameReference
-    reference-other d = rw (text-is, ← u, d, and-false)
+    reference-other d = rw (text-at, ← u, d, and-false)
 
     pub reference-bank : t ≡ true → (v : ℕ) → NumberAt area p 8 v → eqb bank v ≡ sameReference (ofBank bank cs) (referenceAt area p)
     unfolding sameReference
-    reference-bank d v n = rw (sender-is v n, text-is, ← u, d, and-true)
+    reference-bank d v n = rw (sender-at, ← n .value, text-at, ← u, d, and-true)
 
 -- ---- among those of an area: the k records from p on answer for all
 
@@ -109,7 +108,7 @@ pub record Among (area : List ℕ) (p k : ℕ) (r : Reference) (x : Bool) : Type
   pub same : any (sameReference r) (referencesAt area p k) ≡ x
 
 module _ (area : List ℕ) (r : Reference) where
-  pub among-start : (n : ℕ) → n ≤ 64 → Among area 16 n r (any (sameReference r) (referencesAt area 16 n))
+  pub among-start : (n : ℕ) → n ≤ 64 → Among area referencesPlace n r (any (sameReference r) (referencesAt area referencesPlace n))
   among-start n h = record { room = omega arith; same = refl }
 
   module _ (p k : ℕ) (x : Bool) (m : Among area p k r x) where

@@ -1,16 +1,17 @@
 -- A walk past the references that precede it. The loop's invariant: it is put among those left.
 use Prim.Native.Nat.{_-_}
+use Rattle.rules.specs.Engine.{filed}
 use Rattle.rules.specs.Area.{decode}
 use Rattle.laws.specs.Parts.{cut}
+use Rattle.laws.specs.Putting.{PutBehind}
 use Rattle.engine.specs.References.{ofBank}
-use Rattle.engine_change.specs.Filing.{Filing}
 use borrow.Author.Needs.{needs}
 use Rattle.engine_change.specs.Sets.{filing}
 use Rattle.engine_change.proofs.filing.reference_place.Statement.{statement}
 use Rattle.engine_change.proofs.filing.reference_place.Tie as tie
 
 abbrev Inv-loop : tie.InvT-loop
-Inv-loop area n bank s a b i₀ i = Filing (ofBank bank (cut s a b)) (decode area .references) i
+Inv-loop area n bank s a b i₀ i = PutBehind (filed (ofBank bank (cut s a b))) (decode area .references) i
 
 abbrev μ-loop : tie.MeasureT-loop
 μ-loop area n bank s a b i₀ i = n - i
