@@ -5,7 +5,7 @@ use mathlib.Core.List.{List}
 use Prim.Native.Nat.{ℕ}
 use Rattle.rules.specs.Text.{isSome, any}
 use Rattle.rules.specs.Engine.{Reference}
-use Rattle.rules.specs.Area.{numberAt, decode, holds, manyPositionsPlace, manyReferencesPlace}
+use Rattle.rules.specs.Area.{numberAt, decode, holds, manyPositionsPlace, manyReferencesPlace, referencesPlace}
 use Rattle.engine_laws.specs.Decoded.{decoded-room, decoded-positions, decoded-references}
 use Rattle.engine.specs.declared.header.Header.{Header}
 use Rattle.engine.specs.Header.{HeaderOf}
@@ -25,7 +25,7 @@ module _ (a : List ℕ) (h : isSome (holds a) ≡ true) (x : Header) (n : Header
   unfolding decode
   positions-are = rw (many-positions, values-are)
 
-  pub used-held : (p : Reference → Bool) (r : Bool) → r ≡ any p (referencesAt a 16 (x .references)) → r ≡ any p (decode a .references)
+  pub used-held : (p : Reference → Bool) (r : Bool) → r ≡ any p (referencesAt a referencesPlace (x .references)) → r ≡ any p (decode a .references)
   unfolding decode
   used-held p r e = rw (many-references, values-are) e
 

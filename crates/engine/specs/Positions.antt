@@ -66,13 +66,13 @@ module _ (area : List ℕ) (p : ℕ) where
   pub key-read : {bank date : ℕ} → NumberAt area p 8 bank → NumberAt area (p + dateOffset) 3 date → keyValue (record { bank = bank; date = date }) ≡ keyAt area p
   unfolding valueAt keyIn
   key-read b d =
-      rw (number-within area p 24 dateOffset 3 (lit≤ tt), b .value, d .value, rw add-zero at (number-within area p 24 0 8 (lit≤ tt)))
+      rw (number-within area p recordSize dateOffset 3 (lit≤ tt), b .value, d .value, rw add-zero at (number-within area p recordSize 0 8 (lit≤ tt)))
 
   pub position-read : {k : K.Key} {transferred detailed : ℕ} → keyValue k ≡ keyAt area p → NumberAt area (p + transferredOffset) 6 transferred → NumberAt area (p + detailedOffset) 6 detailed
       → PositionAt area p (record { key = k; transferred = transferred; detailed = detailed })
   unfolding valueAt positionIn
   position-read k t d = record {
-    value = rw (number-within area p 24 transferredOffset 6 (lit≤ tt), number-within area p 24 detailedOffset 6 (lit≤ tt), k, t .value, d .value);
+    value = rw (number-within area p recordSize transferredOffset 6 (lit≤ tt), number-within area p recordSize detailedOffset 6 (lit≤ tt), k, t .value, d .value);
     transferred = t .small;
     detailed = d .small;
   }

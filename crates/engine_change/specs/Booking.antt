@@ -146,7 +146,7 @@ module _ (a : List ℕ) (n i : ℕ) (q : Position) (m : Many a n) (p : PlaceOf (
     grown = rw after-place (inserted-length i q (decode a .positions) (p .within) ∙ omega (arith, m .same))
 
     pub insert-fits : CanBook (decode a) q → RoomFor positionsPlace recordSize n i (length a)
-    insert-fits g = opens positionsPlace 24 n i (length a) (omega (arith, p .within, m .same)) (omega (arith, g .few, grown, m .long))
+    insert-fits g = opens positionsPlace recordSize n i (length a) (omega (arith, p .within, m .same)) (omega (arith, g .few, grown, m .long))
 
     pub insert-done : {r : ℕ} {b c : List ℕ} → isSome (holds a) ≡ true → CanBook (decode a) q
         → b ≡ moved (positionsPlace + recordSize * i) (positionsPlace + recordSize * i + recordSize) (recordSize * (n - i)) a → Wrote (positionRecord q) at b r c → Positions (booked q (decode a .positions)) a (n + 1) c
@@ -160,7 +160,7 @@ module _ (a : List ℕ) (n i : ℕ) (q : Position) (m : Many a n) (p : PlaceOf (
 
 -- ---- the message
 
-pub reference-wide : (r : Reference) → length (r .text) ≤ 16 → length (referenceRecord r) ≡ 24
+pub reference-wide : (r : Reference) → length (r .text) ≤ 16 → length (referenceRecord r) ≡ recordSize
 unfolding referenceRecord
 reference-wide r h = rw (length-append, places-length, padded-length 16 (r .text) h)
 
@@ -170,7 +170,7 @@ module _ (a : List ℕ) (x : Header) (q : Position) (bank : ℕ) (text : List �
     pub file-fits : RoomFor referencesPlace recordSize (x .references) i (length b)
     file-fits =
         let l : length b ≡ length a = ap length (p .bytes) ∙ laid-length (positionPart (booked q (decode a .positions))) positionsPlace a in
-        opens 16 24 (x .references) i (length b) (omega (arith, f .within, n .references)) (omega (arith, g .today, n .references, n .long, l))
+        opens referencesPlace recordSize (x .references) i (length b) (omega (arith, f .within, n .references)) (omega (arith, g .today, n .references, n .long, l))
 
     pub book-done : {z : ℕ} {c d : List ℕ} → to ≤ length text → to - from ≤ 16 → Files (x .references) i (ofBank bank (cut text from to)) b c
         → Wrote (numbers (x .day) count k (x .references + 1)) 0 c z d → d ≡ encode (bookedWith (decode a) q (ofBank bank (cut text from to)) count) ++ drop areaSize a
@@ -186,9 +186,9 @@ module _ (a : List ℕ) (x : Header) (q : Position) (bank : ℕ) (text : List �
         let Q : List ℕ = textPart (textsOf e) ++ drop areaSize a in
         let lP : length P' ≡ positionsRoom = positions-length (booked q (e .positions)) (g .few) in
         let y : Stands (header e ++ referencePart rs) P' Q positionsPlace b = rw (← p .bytes) at (stands-other P' (lP ∙ sym (S .positions)) (positions-stand S)) in
-        let o : Stands (header e) (section referencesRoom referenceRecord rs) (P' ++ Q) 16 b = stands-back (header e) (referencePart rs) P' Q (S .head) y in
+        let o : Stands (header e) (section referencesRoom referenceRecord rs) (P' ++ Q) referencesPlace b = stands-back (header e) (referencePart rs) P' Q (S .head) y in
         let up : u .between ≡ moved (referencesPlace + recordSize * i) (referencesPlace + recordSize * i + recordSize) (recordSize * (length rs - i)) b = rw (n .references) at (u .up) in
-        let v : c ≡ laid (section referencesRoom referenceRecord (inserted i r rs)) 16 b =
+        let v : c ≡ laid (section referencesRoom referenceRecord (inserted i r rs)) referencesPlace b =
         section-inserted referenceRecord referencesRoom rs (references-each H) (omega (arith, g .today)) o i r (reference-wide r s) (f .within) (omega (arith, g .today)) up (u .wrote) in
         let l : length (filed r rs) ≡ length rs + 1 = filed-length r rs in
         let wide : Each recordSize (map referenceRecord (filed r rs)) = rw (f .place, map-inserted) (each-inserted i (referenceRecord r) (references-each H) (reference-wide r s)) in

@@ -3,12 +3,12 @@
 use mathlib.Core.Path.{_≡_, refl, sym, _∙_}
 use mathlib.Core.Bool.{true}
 use mathlib.Core.List.{List, [], _++_, map, append-assoc}
-use Prim.Native.Nat.{ℕ, _+_, _-_, _≤_}
+use Prim.Native.Nat.{ℕ, _≤_}
 use native.Mathlib.Omega.{arith}
 use lib.ListN.{length, drop, length-append}
 use Rattle.rules.specs.Text.{isSome}
 use Rattle.rules.specs.Engine.{Position, Reference, Engine}
-use Rattle.rules.specs.Area.{referenceRecord, keyBytes, positionRecord, referenceIn, header, encode, decode, holds, areaSize, positionsPlace, positionsRoom, referencesRoom, textsOf, recordSize}
+use Rattle.rules.specs.Area.{referenceRecord, keyBytes, positionRecord, referenceIn, header, encode, decode, holds, areaSize, positionsPlace, positionsRoom, referencesRoom, textsOf, recordSize, referencesPlace}
 use Rattle.laws.specs.Digits.{places-length}
 use Rattle.laws.specs.Laid.{laid}
 use Rattle.laws.specs.Writing.{Wrote}
@@ -31,7 +31,7 @@ holding {area} h =
 
 -- ---- records of 24 bytes
 
-pub position-wide : (p : Position) → length (positionRecord p) ≡ 24
+pub position-wide : (p : Position) → length (positionRecord p) ≡ recordSize
 unfolding positionRecord keyBytes
 position-wide p = simp (length-append, places-length)
 
@@ -66,7 +66,7 @@ unfolding positionPart
 positions-length ps l = section-length positionRecord positionsRoom ps (each-map positionRecord position-wide ps) (omega arith)
 
 pub assembled : {area b c d : List ℕ} {e : Engine} {r : ℕ} (next : Engine) → Held area e → textsOf next ≡ textsOf e → Fits next → b ≡ laid (positionPart (next .positions)) positionsPlace area
-    → c ≡ laid (referencePart (next .references)) 16 b → Wrote (numbers (next .day) (next .count) (length (next .positions)) (length (next .references))) 0 c r d → d ≡ encode next ++ drop areaSize area
+    → c ≡ laid (referencePart (next .references)) referencesPlace b → Wrote (numbers (next .day) (next .count) (length (next .positions)) (length (next .references))) 0 c r d → d ≡ encode next ++ drop areaSize area
 assembled {area} {b} {c} {d} {e} next h g f u v w =
     let s : Of e (drop areaSize area) area = held-sections area e h in
     let N : List ℕ = numbers (e .day) (e .count) (length (e .positions)) (length (e .references)) in
@@ -79,7 +79,7 @@ assembled {area} {b} {c} {d} {e} next h g f u v w =
     let lR : length R' ≡ referencesRoom = references-length (next .references) (f .wide) (f .today) in
     let lP : length P' ≡ positionsRoom = positions-length (next .positions) (f .few) in
     let t : Stands (header e ++ R) P' Q positionsPlace b = rw (← u) at (stands-other P' (lP ∙ sym (s .positions)) (positions-stand s)) in
-    let t₂ : Stands (header e) R' (P' ++ Q) 16 c = rw (← v) at (stands-other R' (lR ∙ sym (s .references)) (stands-back (header e) R P' Q (s .head) t)) in
+    let t₂ : Stands (header e) R' (P' ++ Q) referencesPlace c = rw (← v) at (stands-other R' (lR ∙ sym (s .references)) (stands-back (header e) R P' Q (s .head) t)) in
     let t₃ : Stands [] N (L ++ (R' ++ (P' ++ Q))) 0 c = record { before = refl; whole = t₂ .whole ∙ rw (header-halves e) (append-assoc N L (R' ++ (P' ++ Q))) } in
     let t₄ : Stands [] N' (L ++ (R' ++ (P' ++ Q))) 0 d = rw (← w .output) at (stands-other N' (numbers-length _ _ _ _ ∙ sym (numbers-length _ _ _ _)) t₃) in
     let x : d ≡ header next ++ (R' ++ (P' ++ (textPart (textsOf next) ++ drop areaSize area))) = t₄ .whole ∙ rw (header-halves next, g, append-assoc) in

@@ -10,7 +10,7 @@ use Rattle.rules.specs.Text.{isSome}
 use Rattle.rules.specs.Engine.{Position, Engine, hasDetails, kept}
 use Rattle.rules.specs.Written.{correctedCount}
 use Rattle.rules.specs.Calls.{afterTurn}
-use Rattle.rules.specs.Area.{zeros, padded, joined, numberAt, positionRecord, positionIn, encode, decode, holds, areaSize, positionsPlace, positionsRoom, referencesRoom, detailedOffset, textsOf, recordSize}
+use Rattle.rules.specs.Area.{zeros, padded, joined, numberAt, positionRecord, positionIn, encode, decode, holds, areaSize, positionsPlace, positionsRoom, referencesRoom, detailedOffset, textsOf, recordSize, referencesPlace}
 use Rattle.laws.specs.Laid.{laid}
 use Rattle.laws.specs.Writing.{Wrote}
 use Rattle.laws.specs.Sections.{Each, Each.no-record, passing, Agree, Agree.on-none, Agree.on-more, each-map}
@@ -48,11 +48,11 @@ stays r = undetailed (positionIn r)
 module _ (a : List ℕ) (at v : ℕ) (e : v ≡ numberAt a (at + detailedOffset) 6) where
   pub stays-not : 0 < v → false ≡ stays (take recordSize (drop at a))
   unfolding stays undetailed hasDetails positionIn
-  stays-not h = rw (number-within a at 24 detailedOffset 6 (omega arith), ← e, le-leb 1 v h)
+  stays-not h = rw (number-within a at recordSize detailedOffset 6 (omega arith), ← e, le-leb 1 v h)
 
   pub stays-yes : v ≤ 0 → true ≡ stays (take recordSize (drop at a))
   unfolding stays undetailed hasDetails positionIn
-  stays-yes h = rw (number-within a at 24 detailedOffset 6 (omega arith), ← e, lt-leb 1 v (omega arith))
+  stays-yes h = rw (number-within a at recordSize detailedOffset 6 (omega arith), ← e, lt-leb 1 v (omega arith))
 
 passing-kept : (ps : List Position) → passing undetailed ps ≡ kept ps
 unfolding passing undetailed kept
@@ -70,7 +70,7 @@ stays-agrees (more k s) = on-more (ap undetailed (k .back)) (stays-agrees s)
 
 -- ---- the turn
 
-pub turn-done : {a b c d : List ℕ} {x : Header} {j m r : ℕ} (day count : ℕ) → isSome (holds a) ≡ true → HeaderOf a x → Sifted stays recordSize (x .positions) positionsPlace a j b → Wrote (zeros referencesRoom) 16 b m c
+pub turn-done : {a b c d : List ℕ} {x : Header} {j m r : ℕ} (day count : ℕ) → isSome (holds a) ≡ true → HeaderOf a x → Sifted stays recordSize (x .positions) positionsPlace a j b → Wrote (zeros referencesRoom) referencesPlace b m c
     → Wrote (numbers day count j 0) 0 c r d → d ≡ encode (turned (decode a) day count) ++ drop areaSize a
 unfolding turned textsOf padded joined referencePart positionPart
 turn-done {a} {b} {c} {d} {x} {j} {m} {r} day count h n s z w =

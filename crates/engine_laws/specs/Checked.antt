@@ -34,20 +34,20 @@ each f (r ∷ rs) = cond (f r) (each f rs) false
 pub walk-each : (a : List ℕ) (t : ℕ → ℕ → Bool) (f : List ℕ → Bool) → ((k p : ℕ) → t k p ≡ f (cut a p (p + recordSize))) → (n p : ℕ) → walk t n p ≡ each f (records n (drop p a))
 unfolding walk each records
 walk-each a t f h zero p = refl
-walk-each a t f h (suc n) p = rw (h n p, cut-is a p 24, drop-drop recordSize p a, walk-each a t f h n (p + recordSize))
+walk-each a t f h (suc n) p = rw (h n p, cut-is a p recordSize, drop-drop recordSize p a, walk-each a t f h n (p + recordSize))
 
 -- ---- records of bytes
 
 pub record Rec (r : List ℕ) : Type 0 where
   pub bytes : Within 256 0 r
-  pub wide : length r ≡ 24
+  pub wide : length r ≡ recordSize
 
 pub records-bytes : (a : List ℕ) → Bytes a → (n p : ℕ) → p + recordSize * n ≤ length a → All Rec (records n (drop p a))
 unfolding records
 records-bytes a b zero p h = none
 records-bytes a b (suc n) p h =
     let others : All Rec (records n (drop recordSize (drop p a))) = rw (drop-drop recordSize p a) (records-bytes a b n (p + recordSize) (omega arith)) in
-    more record { bytes = within-take recordSize (within-drop p (bytes-within a b)); wide = length-take-le 24 (drop p a) (rw length-drop (omega arith)) } others
+    more record { bytes = within-take recordSize (within-drop p (bytes-within a b)); wide = length-take-le recordSize (drop p a) (rw length-drop (omega arith)) } others
 
 pub records-length : {A : Type 0} (reads : List ℕ → A) (n : ℕ) (cs : List ℕ) → length (map reads (records n cs)) ≡ n
 unfolding records
@@ -104,15 +104,15 @@ position-checks day = record {
 
 pub positions-walk : (day : ℕ) (a : List ℕ) (n p : ℕ) → walk (always (positionTest day a)) n p ≡ each (positionFits day) (records n (drop p a))
 unfolding positionTest valueAt
-positions-walk day a n p = walk-each a (always (positionTest day a)) (positionFits day) (λ k q. rw (cut-is a q 24)) n p
+positions-walk day a n p = walk-each a (always (positionTest day a)) (positionFits day) (λ k q. rw (cut-is a q recordSize)) n p
 
 -- a number of a record, as it stands in the area
-number-in : (a : List ℕ) (p i w : ℕ) → i + w ≤ 24 → number (cut a (p + i) (p + (i + w))) ≡ numberAt (take recordSize (drop p a)) i w
-number-in a p i w h = ap number (sym (in-record a p i (i + w) h) ∙ cut-is (cut a p (p + recordSize)) i w ∙ rw (cut-is a p 24))
+number-in : (a : List ℕ) (p i w : ℕ) → i + w ≤ recordSize → number (cut a (p + i) (p + (i + w))) ≡ numberAt (take recordSize (drop p a)) i w
+number-in a p i w h = ap number (sym (in-record a p i (i + w) h) ∙ cut-is (cut a p (p + recordSize)) i w ∙ rw (cut-is a p recordSize))
 
 -- and so is the text of a reference
 pub text-in : (a : List ℕ) (p : ℕ) → cut a (p + 8) (p + 8 + 16) ≡ take 16 (drop 8 (take recordSize (drop p a)))
-text-in a p = let e : p + 8 + 16 ≡ p + recordSize = omega arith in rw e (sym (in-record a p 8 24 (lit≤ tt)) ∙ cut-is (cut a p (p + recordSize)) 8 16 ∙ rw (cut-is a p 24))
+text-in a p = let e : p + 8 + 16 ≡ p + recordSize = omega arith in rw e (sym (in-record a p 8 recordSize (lit≤ tt)) ∙ cut-is (cut a p (p + recordSize)) 8 16 ∙ rw (cut-is a p recordSize))
 
 pub order-walk : (a : List ℕ) (n p : ℕ) → All Rec (records n (drop p a)) → walk (always (orderTest a)) (n - 1) p ≡ ordered earlier (map positionIn (records n (drop p a)))
 unfolding orderTest valueAt positionIn
@@ -134,7 +134,7 @@ reference-checks = record {
 pub references-walk : (a : List ℕ) (n p : ℕ) → walk (always (referenceTest a)) n p ≡ each referenceFits (records n (drop p a))
 unfolding referenceFits referenceTest
 references-walk a n p =
-    walk-each a (always (referenceTest a)) referenceFits (λ k q. let e : q + 8 + 16 ≡ q + recordSize = omega arith in rw (in-record a q 0 8 (lit≤ tt), in-record a q 8 24 (lit≤ tt), add-zero, e)) n p
+    walk-each a (always (referenceTest a)) referenceFits (λ k q. let e : q + 8 + 16 ≡ q + recordSize = omega arith in rw (in-record a q 0 8 (lit≤ tt), in-record a q 8 recordSize (lit≤ tt), add-zero, e)) n p
 
 -- a record written as it stands
 abbrev pub Whole : List ℕ → Type 0

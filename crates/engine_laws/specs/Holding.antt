@@ -71,7 +71,7 @@ module _ (m : List ℕ) (two : length m ≡ 2) (d c n k o : ℕ) (rest : List �
 joined-records : (n : ℕ) (cs : List ℕ) → joined (records n cs) ≡ take (recordSize * n) cs
 unfolding joined records
 joined-records zero cs = refl
-joined-records (suc n) cs = let e : recordSize * suc n ≡ 24 + recordSize * n = omega arith in rw (joined-records n (drop recordSize cs), e, take-add 24 (recordSize * n) cs)
+joined-records (suc n) cs = let e : recordSize * suc n ≡ recordSize + recordSize * n = omega arith in rw (joined-records n (drop recordSize cs), e, take-add recordSize (recordSize * n) cs)
 
 -- ---- an area that holds an engine passes
 
@@ -154,11 +154,11 @@ module _ (a : List ℕ) (b : Bytes a) (e : Engine) (h : Held a e) where
   references-pass =
       let n : number (cut a manyReferencesPlace currencyPlace) ≡ numberAt a manyReferencesPlace 1 = ap number (cut-is a 8 1) in
       let few : recordSize * length (e .references) ≤ referencesRoom = omega (arith, l .today) in
-      let c : SectionPasses referenceFits referenceRecord (numberAt a manyReferencesPlace 1) 16 referencesRoom a (e .references) =
+      let c : SectionPasses referenceFits referenceRecord (numberAt a manyReferencesPlace 1) referencesPlace referencesRoom a (e .references) =
       section-passes referenceFits referenceRecord referenceIn Form reference-checks referencesRoom (e .references) (numberAt a manyReferencesPlace 1) b (references-stand s) (references-kept (e .references) (l .forms)) many-references few (omega (arith, h .long)) (all-forms (e .references) (l .forms)) in
-      let r : All Rec (records (numberAt a manyReferencesPlace 1) (drop referencesPlace a)) = records-bytes a b (numberAt a manyReferencesPlace 1) 16 (omega (arith, many-references, h .long)) in
+      let r : All Rec (records (numberAt a manyReferencesPlace 1) (drop referencesPlace a)) = records-bytes a b (numberAt a manyReferencesPlace 1) referencesPlace (omega (arith, many-references, h .long)) in
       let w : All Filed (records (numberAt a manyReferencesPlace 1) (drop referencesPlace a)) = filed-all r (whole-all r (rw references-at (sym (c .stand)))) in
-      rw (n, references-walk, c .pass, filed-walk a (numberAt a manyReferencesPlace 1) 16 w, references-at, l .filed) (c .zero)
+      rw (n, references-walk, c .pass, filed-walk a (numberAt a manyReferencesPlace 1) referencesPlace w, references-at, l .filed) (c .zero)
 
   positions-pass : positionsTest (number (cut a dayPlace countPlace)) a (number (cut a manyPositionsPlace manyReferencesPlace)) ≡ true
   unfolding positionsTest positionPart
@@ -214,8 +214,8 @@ record TestsPassed (a : List ℕ) : Type 0 where
   today : numberAt a manyReferencesPlace 1 ≤ 64
   currency : every isZero (take 1 (drop currencyPlace a)) ≡ true
   lengths : every isZero (cut a (lengthsPlace + 2 * textCount) referencesPlace) ≡ true
-  references : walk (always (referenceTest a)) (numberAt a manyReferencesPlace 1) 16 ≡ true
-  filed : walk (always (filedTest a)) (numberAt a manyReferencesPlace 1 - 1) 16 ≡ true
+  references : walk (always (referenceTest a)) (numberAt a manyReferencesPlace 1) referencesPlace ≡ true
+  filed : walk (always (filedTest a)) (numberAt a manyReferencesPlace 1 - 1) referencesPlace ≡ true
   behind-references : every isZero (cut a (referencesPlace + recordSize * numberAt a manyReferencesPlace 1) positionsPlace) ≡ true
   positions : walk (always (positionTest (numberAt a dayPlace 3) a)) (numberAt a manyPositionsPlace 1) positionsPlace ≡ true
   order : walk (always (orderTest a)) (numberAt a manyPositionsPlace 1 - 1) positionsPlace ≡ true
@@ -254,20 +254,20 @@ passed a t =
 
 module _ (a : List ℕ) (b : Bytes a) (t : TestsPassed a) where
   rows : each referenceFits (records (numberAt a manyReferencesPlace 1) (drop referencesPlace a)) ≡ true
-  rows = sym (references-walk a (numberAt a manyReferencesPlace 1) 16) ∙ t .references
+  rows = sym (references-walk a (numberAt a manyReferencesPlace 1) referencesPlace) ∙ t .references
 
   entries : each (positionFits (numberAt a dayPlace 3)) (records (numberAt a manyPositionsPlace 1) (drop positionsPlace a)) ≡ true
   entries = sym (positions-walk (numberAt a dayPlace 3) a (numberAt a manyPositionsPlace 1) positionsPlace) ∙ t .positions
 
   references-good : All Form (map referenceIn (records (numberAt a manyReferencesPlace 1) (drop referencesPlace a)))
-  references-good = section-good referenceFits referenceRecord referenceIn Form reference-checks a b 16 referencesRoom (numberAt a manyReferencesPlace 1) (omega (arith, t .today)) (omega (arith, t .long)) rows
+  references-good = section-good referenceFits referenceRecord referenceIn Form reference-checks a b referencesPlace referencesRoom (numberAt a manyReferencesPlace 1) (omega (arith, t .today)) (omega (arith, t .long)) rows
 
   positions-good : All (Good (numberAt a dayPlace 3)) (map positionIn (records (numberAt a manyPositionsPlace 1) (drop positionsPlace a)))
   positions-good = section-good (positionFits (numberAt a dayPlace 3)) positionRecord positionIn (Good (numberAt a dayPlace 3)) (position-checks (numberAt a dayPlace 3)) a b positionsPlace positionsRoom (numberAt a manyPositionsPlace 1) (omega (arith, t .few)) (omega (arith, t .long)) entries
 
   references-filed : All Filed (records (numberAt a manyReferencesPlace 1) (drop referencesPlace a))
   references-filed =
-      let r : All Rec (records (numberAt a manyReferencesPlace 1) (drop referencesPlace a)) = records-bytes a b (numberAt a manyReferencesPlace 1) 16 (omega (arith, t .today, t .long)) in
+      let r : All Rec (records (numberAt a manyReferencesPlace 1) (drop referencesPlace a)) = records-bytes a b (numberAt a manyReferencesPlace 1) referencesPlace (omega (arith, t .today, t .long)) in
       filed-all r (whole-all r (each-same referenceFits referenceRecord referenceIn Form reference-checks r rows))
 
   -- the texts that are read are those of the area, and they have room
@@ -289,7 +289,7 @@ module _ (a : List ℕ) (b : Bytes a) (t : TestsPassed a) where
     order = sym (order-walk a (numberAt a manyPositionsPlace 1) positionsPlace (records-bytes a b (numberAt a manyPositionsPlace 1) positionsPlace (omega (arith, t .few, t .long)))) ∙ t .order;
     today = rw records-length (t .today);
     forms = forms-all references-good;
-    filed = sym (filed-walk a (numberAt a manyReferencesPlace 1) 16 references-filed) ∙ t .filed;
+    filed = sym (filed-walk a (numberAt a manyReferencesPlace 1) referencesPlace references-filed) ∙ t .filed;
     numbered = rw records-length (t .count);
   }
 
@@ -312,7 +312,7 @@ module _ (a : List ℕ) (b : Bytes a) (t : TestsPassed a) where
 
   reference-same : referencePart (decode a .references) ≡ take referencesRoom (drop referencesPlace a)
   unfolding referencePart decode
-  reference-same = section-same referenceFits referenceRecord referenceIn Form reference-checks a b 16 referencesRoom (numberAt a manyReferencesPlace 1) (omega (arith, t .today)) (omega (arith, t .long)) rows (t .behind-references)
+  reference-same = section-same referenceFits referenceRecord referenceIn Form reference-checks a b referencesPlace referencesRoom (numberAt a manyReferencesPlace 1) (omega (arith, t .today)) (omega (arith, t .long)) rows (t .behind-references)
 
   position-same : positionPart (decode a .positions) ≡ take positionsRoom (drop positionsPlace a)
   unfolding positionPart decode
@@ -323,9 +323,9 @@ module _ (a : List ℕ) (b : Bytes a) (t : TestsPassed a) where
   text-same = rw texts-are (texts-same a textCount (t .long) texts-room (t .behind-texts))
 
 -- the four sections are the first 6,144 bytes
-area-parts : (a : List ℕ) → take 16 a ++ take referencesRoom (drop referencesPlace a) ++ take positionsRoom (drop positionsPlace a) ++ take textsRoom (drop textsPlace a) ≡ take areaSize a
+area-parts : (a : List ℕ) → take referencesPlace a ++ take referencesRoom (drop referencesPlace a) ++ take positionsRoom (drop positionsPlace a) ++ take textsRoom (drop textsPlace a) ≡ take areaSize a
 area-parts a =
-    ap (λ (x : List ℕ). x ++ take textsRoom (drop textsPlace a)) (ap (λ (x : List ℕ). x ++ take positionsRoom (drop positionsPlace a)) (sym (take-part a 16 referencesRoom)) ∙ sym (take-part a positionsPlace positionsRoom))
+    ap (λ (x : List ℕ). x ++ take textsRoom (drop textsPlace a)) (ap (λ (x : List ℕ). x ++ take positionsRoom (drop positionsPlace a)) (sym (take-part a referencesPlace referencesRoom)) ∙ sym (take-part a positionsPlace positionsRoom))
     ∙ sym (take-part a textsPlace textsRoom)
 
 encoded : (e : Engine) (h r p t : List ℕ) → header e ≡ h → referencePart (e .references) ≡ r → positionPart (e .positions) ≡ p → textPart (textsOf e) ≡ t → encode e ≡ h ++ r ++ p ++ t

@@ -32,7 +32,7 @@ number-at a p q i w v h k e = ap number (part-at a p (bytes w v) q i w h (places
 
 -- x is written in 24 bytes and read back
 pub record WrittenBack {A : Type 0} (write : A → List ℕ) (reads : List ℕ → A) (x : A) : Type 0 where
-  pub wide : length (write x) ≡ 24
+  pub wide : length (write x) ≡ recordSize
   pub back : reads (write x) ≡ x
 
 pub data All {A : Type 0} (P : A → Type 0) : List A → Type 0 where
@@ -50,7 +50,7 @@ module _ {A : Type 0} (write : A → List ℕ) (reads : List ℕ → A) where
   unfolding joined records
   records-back z none = refl
   records-back z (more {x} {xs} k s) =
-      rw (append-assoc, take-at (write x) (joined (map write xs) ++ z) 24 (k .wide), drop-at (write x) (joined (map write xs) ++ z) 24 (k .wide), k .back, records-back z s)
+      rw (append-assoc, take-at (write x) (joined (map write xs) ++ z) recordSize (k .wide), drop-at (write x) (joined (map write xs) ++ z) recordSize (k .wide), k .back, records-back z s)
 
 -- ---- a position's record, and a reference's
 

@@ -29,7 +29,7 @@ unfolding from
 cut-is s i w = sym (from-take s i w)
 
 -- a part of a part of 24 bytes
-pub in-record : (a : List ℕ) (p i j : ℕ) → j ≤ 24 → cut (cut a p (p + recordSize)) i j ≡ cut a (p + i) (p + j)
+pub in-record : (a : List ℕ) (p i j : ℕ) → j ≤ recordSize → cut (cut a p (p + recordSize)) i j ≡ cut a (p + i) (p + j)
 in-record a p i j h = cut-cut a p (p + recordSize) i j (omega arith)
 
 -- a number of a part of k bytes
@@ -75,7 +75,7 @@ take-part s i w = take-add i w s
 
 -- ---- positions
 
-module _ (r : List ℕ) (w : Within 256 0 r) (l : length r ≡ 24) where
+module _ (r : List ℕ) (w : Within 256 0 r) (l : length r ≡ recordSize) where
   -- bank and date, a byte, and both totals
   position-stands : positionRecord (positionIn r) ≡ take blockOffset r ++ bytes 1 0 ++ take 12 (drop transferredOffset r)
   unfolding positionRecord positionIn keyBytes keyIn
@@ -102,7 +102,7 @@ module _ (r : List ℕ) (w : Within 256 0 r) (l : length r ≡ 24) where
     position-same h =
         let n : length (take 1 (drop blockOffset r)) ≡ 1 = length-take-le 1 (drop blockOffset r) (rw (length-drop, l) (lit≤ tt)) in
         let z : take 1 (drop blockOffset r) ≡ zeros 1 = zero-bytes _ 1 n (search (and-left, and-right)) in
-        position-stands ∙ rw (bytes-zero 1, ← z, ← take-part r blockOffset 1, ← take-part r transferredOffset 12) (take-all 24 r (rw l (lit≤ tt)))
+        position-stands ∙ rw (bytes-zero 1, ← z, ← take-part r blockOffset 1, ← take-part r transferredOffset 12) (take-all recordSize r (rw l (lit≤ tt)))
 
     pub position-test : Good day (positionIn r) → positionRecord (positionIn r) ≡ r → positionFits day r ≡ true
     unfolding positionFits valuesTest dateTest positionIn keyIn
@@ -145,7 +145,7 @@ module _ (cs : List ℕ) (l : length cs ≡ 16) where
       let d : drop k cs ≡ zeros (16 - k) = ap (drop k) (sym e) ∙ drop-at (untilZero cs) (zeros (16 - k)) k refl in
       rw (r, s, behind cs k l, d, zeros-zero)
 
-module _ (r : List ℕ) (w : Within 256 0 r) (l : length r ≡ 24) where
+module _ (r : List ℕ) (w : Within 256 0 r) (l : length r ≡ recordSize) where
   -- the number and the text
   reference-stands : referenceRecord (referenceIn r) ≡ take 8 r ++ padded 16 (untilZero (take 16 (drop 8 r)))
   unfolding referenceRecord referenceIn
@@ -171,7 +171,7 @@ module _ (r : List ℕ) (w : Within 256 0 r) (l : length r ≡ 24) where
   reference-same h =
       let k : _ ≡ true = sym reference-form ∙ h in
       let t : padded 16 (untilZero (take 16 (drop 8 r))) ≡ take 16 (drop 8 r) = text-same _ text-length (and-right (isBic (take 8 r)) _ k) in
-      reference-stands ∙ rw (t, ← take-part r 8 16) (take-all 24 r (rw l (lit≤ tt)))
+      reference-stands ∙ rw (t, ← take-part r 8 16) (take-all recordSize r (rw l (lit≤ tt)))
 
   -- its text and zeros behind it
   pub reference-filled : referenceRecord (referenceIn r) ≡ r → padded 16 (untilZero (take 16 (drop 8 r))) ≡ take 16 (drop 8 r)

@@ -53,7 +53,7 @@ unfoldable pub filedTest : List ℕ → ℕ → Bool
 filedTest a p = precedesBy (number (cut a p (p + 8))) (cut a (p + 8) (p + 8 + 16)) (number (cut a (p + recordSize) (p + recordSize + 8))) (cut a (p + recordSize + 8) (p + recordSize + 8 + 16))
 
 unfoldable pub referencesTest : List ℕ → ℕ → Bool
-referencesTest a n = walk (always (referenceTest a)) n 16 && (walk (always (filedTest a)) (n - 1) 16 && every isZero (cut a (referencesPlace + recordSize * n) positionsPlace))
+referencesTest a n = walk (always (referenceTest a)) n referencesPlace && (walk (always (filedTest a)) (n - 1) referencesPlace && every isZero (cut a (referencesPlace + recordSize * n) positionsPlace))
 
 -- ---- positions
 

@@ -50,11 +50,11 @@ module _ (a b t : Bool) (u : t ≡ a) where
 -- ---- the parts of a record, as they stand in the area
 
 pub bank-part : (a : List ℕ) (p : ℕ) (t : Bool) → t ≡ isBic (cut a p (p + 8)) → t ≡ isBic (take 8 (take recordSize (drop p a)))
-bank-part a p t h = rw (cut-is a p 8, ← take-take 8 24 (drop p a) (lit≤ tt)) at h
+bank-part a p t h = rw (cut-is a p 8, ← take-take 8 recordSize (drop p a) (lit≤ tt)) at h
 
 pub block-part : (a : List ℕ) (p : ℕ) (t : Bool) → t ≡ every isZero (cut a (p + blockOffset) (p + transferredOffset)) → t ≡ every isZero (take 1 (drop blockOffset (take recordSize (drop p a))))
 block-part a p t h =
-    h ∙ ap (every isZero) (sym (in-record a p blockOffset transferredOffset (lit≤ tt)) ∙ cut-is (cut a p (p + recordSize)) blockOffset 1 ∙ ap (λ (r : List ℕ). take 1 (drop blockOffset r)) (cut-is a p 24))
+    h ∙ ap (every isZero) (sym (in-record a p blockOffset transferredOffset (lit≤ tt)) ∙ cut-is (cut a p (p + recordSize)) blockOffset 1 ∙ ap (λ (r : List ℕ). take 1 (drop blockOffset r)) (cut-is a p recordSize))
 
 -- ---- senders and texts compared
 

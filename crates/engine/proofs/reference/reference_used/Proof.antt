@@ -2,6 +2,7 @@
 use Rattle.rules.specs.Text.{any}
 use Rattle.rules.specs.Engine.{sameReference}
 use Rattle.laws.specs.Parts.{cut}
+use Rattle.rules.specs.Area.{referencesPlace}
 use Rattle.engine.specs.References.{Among, ofBank, referencesAt}
 use borrow.Author.Needs.{needs}
 use Rattle.engine.specs.References.{used}
@@ -9,7 +10,7 @@ use Rattle.engine.proofs.reference.reference_used.Statement.{statement}
 use Rattle.engine.proofs.reference.reference_used.Tie as tie
 
 abbrev Inv-loop : tie.InvT-loop
-Inv-loop area n bank s a b p₀ k₀ p k = Among area p k (ofBank bank (cut s a b)) (any (sameReference (ofBank bank (cut s a b))) (referencesAt area 16 n))
+Inv-loop area n bank s a b p₀ k₀ p k = Among area p k (ofBank bank (cut s a b)) (any (sameReference (ofBank bank (cut s a b))) (referencesAt area referencesPlace n))
 
 abbrev μ-loop : tie.MeasureT-loop
 μ-loop area n bank s a b p₀ k₀ p k = k
