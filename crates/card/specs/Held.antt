@@ -10,6 +10,7 @@ use lib.ListN.{length, take}
 use Rattle.rules.specs.Text.{isSome, equal, given}
 use Rattle.rules.specs.Engine.{within}
 use Rattle.laws.specs.Writing.{Wrote, ahead, furthest}
+use Rattle.laws.specs.Tests.{never}
 use Rattle.rules.specs.Area.{holds, decode, encode, areaSize}
 
 pub held-decode : (area : List ℕ) → isSome (holds area) ≡ true → holds area ≡ some (decode area)
@@ -18,7 +19,7 @@ held-decode area h = go (leb areaSize (length area) && within (decode area) && e
   where
     go : (t : Bool) → isSome (given t (decode area)) ≡ true → given t (decode area) ≡ some (decode area)
     go true k = refl
-    go false k = absurd (let w : _≡_ {A = ℕ} 0 1 = cc in omega arith)
+    go false k = never k
 
 pub wrote-exact : {text out out' : List ℕ} {r : ℕ} → Wrote text 0 out r out' → length text ≤ length out → r ≡ length text
 unfolding ahead

@@ -11,6 +11,7 @@ use borrow.Author.Tests.{le-leb, lt-leb, eq-eqb, ne-eqb}
 use Rattle.rules.specs.Text.{ascii, equal, then}
 use Rattle.rules.specs.Replay.{opens, sends, lengthOf, sixDigits, withBytes, commandOf, command}
 use Rattle.laws.specs.Parts.{cut, from, cut-step, cut-length, cut-take, cut-drop, from-take, from-drop, from-length}
+use Rattle.laws.specs.Tests.{never}
 use Rattle.lines.specs.Answers.{LineAt, line-told, no-line-told}
 use Rattle.lines.specs.declared.line.Next.{Next}
 use Rattle.lines.specs.declared.line.Next.the-variants.{Line, Bad as NoNext}
@@ -59,10 +60,7 @@ module _ (s : List ℕ) (at e c : ℕ) where
     where
       go : (b : Bool) → leb 2 (e - at) ≡ b → at + 2 ≤ e
       go true z = omega (arith, borrow.Author.Tests.leb-true 2 (e - at) z)
-      go false z =
-          absurd
-          (let y : false ≡ true = begins-short h (omega arith) (borrow.Author.Tests.leb-false 2 (e - at) z) ∙ sym u ∙ d in
-          let w : _≡_ {A = ℕ} 0 1 = cc in omega arith)
+      go false z = never (begins-short h (omega arith) (borrow.Author.Tests.leb-false 2 (e - at) z) ∙ sym u ∙ d)
 
 -- ---- a part of the input behind a command line
 

@@ -20,7 +20,7 @@ use Rattle.rules.specs.Replay.{lengthOf, sixDigits}
 use Rattle.laws.specs.Parts.{cut, cut-step, cut-done, cut-length}
 use Rattle.laws.specs.Reading.{Placed, power, fits-length}
 use Rattle.laws.specs.Numbers.{digits-small}
-use Rattle.laws.specs.Tests.{held-told}
+use Rattle.laws.specs.Tests.{held-told, none-some}
 
 -- the number v and the digits behind it, where it is at most 8192
 unfoldable pub limited : ℕ → List ℕ → Option ℕ
@@ -77,7 +77,7 @@ digits-fit (c ∷ cs) (suc k) v n l e = go (isDigit c) e (digits-fit cs k (v * 1
     go : (t : Bool) → cond t (digitsFrom (v * 10 + (c - 48)) cs) none ≡ some n → (digitsFrom (v * 10 + (c - 48)) cs ≡ some n → fits (replicate k 110) cs ≡ true)
         → cond t (fits (replicate k 110) cs) false ≡ true
     go true z f = f z
-    go false z f = absurd (let w : _≡_ {A = ℕ} 0 1 = cc in omega arith)
+    go false z f = none-some z
 
 module _ (s : List ℕ) (a b : ℕ) where
   pub six-other : b ≤ length s → (b - a ≡ 6 → ⊥) → none ≡ sixDigits (cut s a b)
@@ -102,17 +102,17 @@ module _ (s : List ℕ) (a b : ℕ) where
 
 -- a number within a limit
 given-within : (o : Option ℕ) (limit n : ℕ) → then o (λ m. given (leb m limit) m) ≡ some n → n ≤ limit
-given-within none limit n e = absurd (let z : _≡_ {A = ℕ} 0 1 = cc in omega arith)
+given-within none limit n e = none-some e
 given-within (some m) limit n e = go (leb m limit) refl e
   where
     go : (t : Bool) → leb m limit ≡ t → given t m ≡ some n → n ≤ limit
     go true h k = let u : m ≡ n = cc in rw (← u) (leb-true m limit h)
-    go false h k = absurd (let z : _≡_ {A = ℕ} 0 1 = cc in omega arith)
+    go false h k = none-some k
 
 -- a length is at most 8,192
 pub length-limit : (l : List ℕ) (n : ℕ) → lengthOf l ≡ some n → n ≤ 8192
 unfolding lengthOf
-length-limit [] n e = absurd (let z : _≡_ {A = ℕ} 0 1 = cc in omega arith)
+length-limit [] n e = none-some e
 length-limit (c ∷ cs) n e = given-within (digits (c ∷ cs)) 8192 n e
 
 -- as they were read, they fit their machine numbers
@@ -123,7 +123,7 @@ module _ (s : List ℕ) (a b : ℕ) (q : Num) (n : ℕ) (w : q ≡ Value n) wher
     where
       go : (t : Bool) → fits (ascii "nnnnnn") (cut s a b) ≡ t → cond t (digits (cut s a b)) none ≡ some n → n < 1000000
       go true z e = rw (← fits-length (ascii "nnnnnn") (cut s a b) z) at (digits-small (cut s a b) n e)
-      go false z e = absurd (let y : _≡_ {A = ℕ} 0 1 = cc in omega arith)
+      go false z e = none-some e
 
   pub length-small : numOf q ≡ lengthOf (cut s a b) → n ≤ 8192
   length-small u = length-limit (cut s a b) n (sym u ∙ ap numOf w)
@@ -162,7 +162,7 @@ room-small cs q v u w = go (leb 1 (length cs) && leb (length cs) 7) (sym u ∙ a
   where
     go : (t : Bool) → cond t (then (digits cs) (λ n. given (leb n 1048576) n)) none ≡ some v → v ≤ 1048576
     go true k = given-within (digits cs) 1048576 v k
-    go false k = absurd (let z : _≡_ {A = ℕ} 0 1 = cc in omega arith)
+    go false k = none-some k
 
 -- a number that is no larger takes a further digit
 pub length-room : (v : ℕ) → v ≤ 8192 → v < power 10 17

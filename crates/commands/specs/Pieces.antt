@@ -13,7 +13,7 @@ use borrow.Author.Tests.{le-leb, leb-true, leb-false, ne-eqb}
 use Rattle.rules.specs.Text.{ascii, isDigit, digitsFrom, digits, fits, equal, then, given}
 use Rattle.rules.specs.Lines.{Taken, line}
 use Rattle.rules.specs.Replay.{opens, sends, turns, Commanded, lengthOf, sixDigits, withBytes, commandOf, command}
-use Rattle.laws.specs.Tests.{never, and-left}
+use Rattle.laws.specs.Tests.{never, and-left, none-some}
 use Rattle.laws.specs.Reading.{fits-length}
 use Rattle.rule_laws.specs.Lines.{FirstLine, first-line, first-length, line-taken}
 use Rattle.rule_laws.specs.Options.{none-some}

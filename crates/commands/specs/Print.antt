@@ -1,5 +1,5 @@
 -- Numbers printed with their sign, as the machine's 64 bits hold them.
-use mathlib.Core.Path.{_≡_, refl, ap, _∙_}
+use mathlib.Core.Path.{_≡_, refl, sym, ap, _∙_}
 use mathlib.Core.Bool.{true, false}
 use mathlib.Core.List.{List, [], _∷_, _++_}
 use Prim.Native.Nat.{ℕ, zero, suc, _+_, _<_, _^_}
@@ -16,6 +16,7 @@ use mir.Facts.{toZ-ofZ}
 use Rattle.rules.specs.Text.{ascii, decimal}
 use Rattle.rules.specs.Replay.{signed}
 use Rattle.laws.specs.Writing.{Wrote, wrote-then}
+use Rattle.laws.specs.Tests.{never}
 
 -- a number below 0, and its size
 pub record Below (z : ℤ) (r : ℕ) : Type 0 where
@@ -69,7 +70,7 @@ module _ (z : ℤ) (f : SFits w64 z) (h : ltZ z (pos 0) ≡ true) where
 
 up-from : (z : ℤ) → ltZ z (pos 0) ≡ false → z ≡ pos (natAbs z)
 up-from (pos n) h = refl
-up-from (negsuc n) h = absurd (let w : _≡_ {A = ℕ} 0 1 = cc in omega arith)
+up-from (negsuc n) h = never (sym h)
 
 abs-fits : (z : ℤ) → mag z < 2 ^ 63 → natAbs z < 2 ^ 64
 abs-fits (pos n) h = omega arith

@@ -3,7 +3,7 @@
 use mathlib.Core.Path.{_≡_, refl, sym, ap, _∙_}
 use mathlib.Core.Logic.{_⊎_, inl, inr}
 use mathlib.Core.Bool.{Bool, true, false, _&&_, cond}
-use mathlib.Core.List.{List, [], _∷_, _++_, append-assoc}
+use mathlib.Core.List.{List, [], _∷_, _++_, append-assoc, nil≢cons}
 use mathlib.Core.Option.{Option, none, some}
 use Prim.Native.Nat.{ℕ, zero, suc, _+_, _-_, _≤_, _<_}
 use native.Mathlib.Nat.{eq-or-lt-of-le}
@@ -19,7 +19,7 @@ use Rattle.laws.specs.Parts.{cut, from, from-take, cut-step, cut-done, cut-drop
 use Rattle.laws.specs.Places.{Passed}
 use Rattle.laws.specs.Standing.{moved}
 use Rattle.laws.specs.Laid.{laid, laid-fits, laid-length}
-use Rattle.laws.specs.Tests.{and-left, and-right, cond-left, cond-right}
+use Rattle.laws.specs.Tests.{and-left, and-right, cond-left, cond-right, never}
 use Rattle.laws.specs.Equal.{equal-true}
 use Rattle.commands.specs.Lines.{no-comma}
 use Rattle.rule_laws.specs.Lines.{Begins, Begins.ends, Begins.goes, Begins.breaks, begins, line-goes}
@@ -108,20 +108,20 @@ data CommandLine : List ℕ → ℕ → Type 0 where
   open-line : (a b c d e f : ℕ) (w : List ℕ) → CommandLine (79 ∷ 44 ∷ a ∷ b ∷ c ∷ d ∷ e ∷ f ∷ 44 ∷ w) 9
 
 message-of : (w : List ℕ) → take 2 w ≡ ascii "M," → CommandLine w 2
-message-of [] h = absurd (let z : _≡_ {A = ℕ} 0 1 = cc in omega arith)
-message-of (a ∷ []) h = absurd (let z : _≡_ {A = ℕ} 0 1 = cc in omega arith)
+message-of [] h = absurd (nil≢cons h)
+message-of (a ∷ []) h = absurd (nil≢cons (ap (drop 1) h))
 message-of (a ∷ b ∷ w) h = let x : a ≡ 77 = cc in let y : b ≡ 44 = cc in rw (x, y) (message-line w)
 
 open-of : (w : List ℕ) → take 2 w ≡ ascii "O," → take 1 (drop 8 w) ≡ ascii "," → CommandLine w 9
-open-of [] h k = absurd (let z : _≡_ {A = ℕ} 0 1 = cc in omega arith)
-open-of (a ∷ []) h k = absurd (let z : _≡_ {A = ℕ} 0 1 = cc in omega arith)
-open-of (a ∷ b ∷ []) h k = absurd (let z : _≡_ {A = ℕ} 0 1 = cc in omega arith)
-open-of (a ∷ b ∷ c ∷ []) h k = absurd (let z : _≡_ {A = ℕ} 0 1 = cc in omega arith)
-open-of (a ∷ b ∷ c ∷ d ∷ []) h k = absurd (let z : _≡_ {A = ℕ} 0 1 = cc in omega arith)
-open-of (a ∷ b ∷ c ∷ d ∷ e ∷ []) h k = absurd (let z : _≡_ {A = ℕ} 0 1 = cc in omega arith)
-open-of (a ∷ b ∷ c ∷ d ∷ e ∷ f ∷ []) h k = absurd (let z : _≡_ {A = ℕ} 0 1 = cc in omega arith)
-open-of (a ∷ b ∷ c ∷ d ∷ e ∷ f ∷ g ∷ []) h k = absurd (let z : _≡_ {A = ℕ} 0 1 = cc in omega arith)
-open-of (a ∷ b ∷ c ∷ d ∷ e ∷ f ∷ g ∷ i ∷ []) h k = absurd (let z : _≡_ {A = ℕ} 0 1 = cc in omega arith)
+open-of [] h k = absurd (nil≢cons k)
+open-of (a ∷ []) h k = absurd (nil≢cons k)
+open-of (a ∷ b ∷ []) h k = absurd (nil≢cons k)
+open-of (a ∷ b ∷ c ∷ []) h k = absurd (nil≢cons k)
+open-of (a ∷ b ∷ c ∷ d ∷ []) h k = absurd (nil≢cons k)
+open-of (a ∷ b ∷ c ∷ d ∷ e ∷ []) h k = absurd (nil≢cons k)
+open-of (a ∷ b ∷ c ∷ d ∷ e ∷ f ∷ []) h k = absurd (nil≢cons k)
+open-of (a ∷ b ∷ c ∷ d ∷ e ∷ f ∷ g ∷ []) h k = absurd (nil≢cons k)
+open-of (a ∷ b ∷ c ∷ d ∷ e ∷ f ∷ g ∷ i ∷ []) h k = absurd (nil≢cons k)
 open-of (a ∷ b ∷ c ∷ d ∷ e ∷ f ∷ g ∷ i ∷ j ∷ w) h k = let x : a ≡ 79 = cc in let y : b ≡ 44 = cc in let z : j ≡ 44 = cc in rw (x, y, z) (open-line c d e f g i w)
 
 line-of : (w : List ℕ) → 0 < lengthPlace w → CommandLine w (lengthPlace w)
@@ -205,7 +205,7 @@ few-zeros zero (c ∷ []) h e = go (eqb c 48)
 few-zeros zero (c ∷ d ∷ y) h e = go (eqb c 48) e
   where
     go : (t : Bool) → cond t true false ≡ false → cond t (equal (d ∷ []) (ascii "0")) false ≡ false
-    go true k = absurd (let z : _≡_ {A = ℕ} 0 1 = cc in omega arith)
+    go true k = never (sym k)
     go false k = refl
 few-zeros (suc zero) y h e = e
 few-zeros (suc (suc k)) y h e = absurd (omega arith)

@@ -13,6 +13,7 @@ use Rattle.rules.specs.Replay as R
 use Rattle.rules.specs.Replay.{Commanded, command, called, printed, replayFrom}
 use Rattle.laws.specs.Parts.{cut, from, from-all}
 use Rattle.laws.specs.Writing.{Wrote, wrote-length, Left, left-turn, left-none}
+use Rattle.laws.specs.Tests.{never}
 use Rattle.commands.specs.Answers.{commandedOf, Placed, Commanding}
 use Rattle.commands.specs.declared.command.Command.{Command}
 use Rattle.commands.specs.declared.command.Command.the-variants.{Opens, Sends, Turns, End}
@@ -63,7 +64,7 @@ unfolding isEnd answerTo nextOf commandedOf called
 found-by s x (Opens day a b) room held w e = record { found = record { command = R.opens day (cut s a b); others = from s b }; stands = sym (w .same); others = refl; answers = refl }
 found-by s x (Sends a b) room held w e = record { found = record { command = R.sends (cut s a b); others = from s b }; stands = sym (w .same); others = refl; answers = refl }
 found-by s x (Turns day n) room held w e = record { found = record { command = R.turns day; others = from s n }; stands = sym (w .same); others = refl; answers = refl }
-found-by s x End room held w e = absurd (let z : _≡_ {A = ℕ} 0 1 = cc in omega arith)
+found-by s x End room held w e = never (sym e)
 
 -- ---- one step
 
@@ -104,9 +105,9 @@ module _ {s : List ℕ} {at o : ℕ} {area area' out out' shown shown' : List �
 module _ (s : List ℕ) (at : ℕ) (c : Command) (w : Commanding s (command (from s at)) c) (t : Bool) (u : t ≡ isEnd c) where
   nothing : (c : Command) → Commanding s (command (from s at)) c → isEnd c ≡ true → command (from s at) ≡ none
   unfolding isEnd commandedOf
-  nothing (Opens day a b) v e = absurd (let z : _≡_ {A = ℕ} 0 1 = cc in omega arith)
-  nothing (Sends a b) v e = absurd (let z : _≡_ {A = ℕ} 0 1 = cc in omega arith)
-  nothing (Turns day n) v e = absurd (let z : _≡_ {A = ℕ} 0 1 = cc in omega arith)
+  nothing (Opens day a b) v e = never e
+  nothing (Sends a b) v e = never e
+  nothing (Turns day n) v e = never e
   nothing End v e = sym (v .same)
 
   pub step-none : {area out shown : List ℕ} {o : ℕ} → t ≡ true → CommandStepped s at area area out out shown o shown Nothing

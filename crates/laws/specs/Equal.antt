@@ -9,19 +9,19 @@ use lib.Dec.{eqb}
 use borrow.Author.Tests.{eqb-true}
 use Rattle.rules.specs.Text.{equal}
 use Rattle.laws.specs.Parts.{cut, cut-length}
-use Rattle.laws.specs.Tests.{not-held}
+use Rattle.laws.specs.Tests.{not-held, never}
 
 -- texts that are told equal are the same
 pub equal-true : (cs ds : List ℕ) → equal cs ds ≡ true → cs ≡ ds
 unfolding equal
 equal-true [] [] h = refl
-equal-true [] (d ∷ ds) h = absurd (let z : _≡_ {A = ℕ} 0 1 = cc in omega arith)
-equal-true (c ∷ cs) [] h = absurd (let z : _≡_ {A = ℕ} 0 1 = cc in omega arith)
+equal-true [] (d ∷ ds) h = never h
+equal-true (c ∷ cs) [] h = never h
 equal-true (c ∷ cs) (d ∷ ds) h = go (eqb c d) refl (equal-true cs ds) h
   where
     go : (b : Bool) → eqb c d ≡ b → (equal cs ds ≡ true → cs ≡ ds) → cond b (equal cs ds) false ≡ true → c ∷ cs ≡ d ∷ ds
     go true e f k = let a : c ≡ d = eqb-true c d e in rw (a, f k)
-    go false e f k = absurd (let z : _≡_ {A = ℕ} 0 1 = cc in omega arith)
+    go false e f k = never k
 
 -- two parts: of different lengths, and of one length n
 module _ (s t : List ℕ) (a e b f : ℕ) where

@@ -14,7 +14,7 @@ use borrow.Author.Tests.{le-leb, eqb-true}
 use Rattle.rules.specs.Text.{ascii, isDigit, isLetter, isAlnum, fits, fitsSign, places, width, fixed, bytes, decimal, digits, digitsFrom, number, numberFrom}
 use Rattle.rules.specs.Accounts.{isBic}
 use Rattle.laws.specs.Parts.{cut}
-use Rattle.laws.specs.Tests.{between-high, cond-right, cond-left}
+use Rattle.laws.specs.Tests.{between-high, cond-right, cond-left, never, none-some}
 use Rattle.laws.specs.Digits.{width-power}
 use Rattle.laws.specs.Reading.{digit-low, digit-high, fits-length}
 
@@ -112,7 +112,7 @@ digits-within (c ∷ cs) v n h = go (isDigit c) refl (digits-within cs (v * 10 +
   where
     go : (t : Bool) → isDigit c ≡ t → (digitsFrom (v * 10 + (c - 48)) cs ≡ some n → Within 10 48 cs) → Within 10 48 (c ∷ cs)
     go true e f = and-place (digit-low c e) (omega (arith, digit-high c e)) (f (rw e at h))
-    go false e f = absurd (let g : _≡_ {A = Option ℕ} none (some n) = rw e at h in let z : _≡_ {A = ℕ} 0 1 = cc in omega arith)
+    go false e f = let g : _≡_ {A = Option ℕ} none (some n) = rw e at h in none-some g
 
 pub digits-fixed : (k v : ℕ) → v < 10 ^ k → digits (fixed k v) ≡ some v
 digits-fixed k v h =
@@ -163,7 +163,7 @@ sign-within p c l h = go (eqb p 110) (eqb p 97) (eqb p 99) h
 pub fits-within : {ps : List ℕ} (cs : List ℕ) → Within 256 0 ps → fits ps cs ≡ true → Within 256 0 cs
 unfolding fits
 fits-within [] s h = no-place
-fits-within (c ∷ cs) no-place h = absurd (let z : _≡_ {A = ℕ} 0 1 = cc in omega arith)
+fits-within (c ∷ cs) no-place h = never h
 fits-within (c ∷ cs) (and-place {c = p} {cs = ps} k l s) h =
     let f : fitsSign p c ≡ true = cond-left (fitsSign p c) (fits ps cs) h in
     and-place {c = c} (omega arith) (omega (arith, sign-within p c (omega arith) f)) (fits-within cs s (cond-right (fitsSign p c) (fits ps cs) h))

@@ -12,7 +12,7 @@ use lib.Dec.{eqb, lit<}
 use borrow.Author.Tests.{le-leb, lt-leb}
 use Rattle.rules.specs.Text.{isDigit, every, run, equal, fits, fitsSign, digitsFrom, numberFrom}
 use Rattle.laws.specs.Parts.{cut, cut-step, cut-done, cut-length, cut-size, cut-all}
-use Rattle.laws.specs.Tests.{between-low, between-high, cond-right, not-held, held-told}
+use Rattle.laws.specs.Tests.{between-low, between-high, cond-right, not-held, held-told, never}
 
 -- ---- any function of what is left: one byte on, and at the end
 
@@ -90,8 +90,8 @@ module _ (g : List ℕ → List ℕ → Bool) (p : ℕ → ℕ → Bool) (w : Pa
 pub fits-length : (ps cs : List ℕ) → fits ps cs ≡ true → length ps ≡ length cs
 unfolding fits
 fits-length [] [] h = refl
-fits-length [] (c ∷ cs) h = absurd (let z : _≡_ {A = ℕ} 0 1 = cc in omega arith)
-fits-length (p ∷ ps) [] h = absurd (let z : _≡_ {A = ℕ} 0 1 = cc in omega arith)
+fits-length [] (c ∷ cs) h = never h
+fits-length (p ∷ ps) [] h = never h
 fits-length (p ∷ ps) (c ∷ cs) h = ap suc (fits-length ps cs (cond-right (fitsSign p c) (fits ps cs) h))
 
 module _ (p s : List ℕ) (at : ℕ) where

@@ -1,12 +1,18 @@
 -- From facts to Bool tests and back, as branches hand them out and contracts ask for them.
 use mathlib.Core.Path.{_≡_, refl, sym, _∙_}
-use mathlib.Core.Bool.{Bool, true, false, _&&_, _||_, cond}
-use mathlib.Core.Option.{Option, none, some}
+use mathlib.Core.Bool.{Bool, true, false, _&&_, _||_, cond, false≢true}
+use mathlib.Core.Option.{Option, none, some, Option·none-ne-some}
 use Prim.Native.Nat.{ℕ, _≤_, _<_}
-use native.Mathlib.Omega.{arith}
 use lib.Dec.{leb, eqb}
 use borrow.Author.Tests.{le-leb, lt-leb, leb-true, eq-eqb, ne-eqb}
 use Rattle.rules.specs.Text.{between}
+
+-- what follows from a test that both holds and fails, and from an answer that is both there and not
+pub never : {A : Type 0} → false ≡ true → A
+never h = absurd (false≢true h)
+
+pub none-some : {A B : Type 0} {a : A} → none ≡ some a → B
+none-some {a = a} h = absurd (Option·none-ne-some a h)
 
 -- ---- both of two tests
 
@@ -16,11 +22,7 @@ and-left false b h = h
 
 pub and-right : (a b : Bool) → (a && b) ≡ true → b ≡ true
 and-right true b h = h
-and-right false b h = absurd (let z : _≡_ {A = ℕ} 0 1 = cc in omega arith)
-
--- what follows from a test that both holds and fails
-pub never : {A : Type 0} → false ≡ true → A
-never h = absurd (let z : _≡_ {A = ℕ} 0 1 = cc in omega arith)
+and-right false b h = never h
 
 -- as `every` and its like join tests
 pub cond-left : (a b : Bool) → cond a b false ≡ true → a ≡ true
@@ -29,7 +31,7 @@ cond-left false b h = h
 
 pub cond-right : (a b : Bool) → cond a b false ≡ true → b ≡ true
 cond-right true b h = h
-cond-right false b h = absurd (let z : _≡_ {A = ℕ} 0 1 = cc in omega arith)
+cond-right false b h = never h
 
 -- an answer that is there where a test holds
 module _ {A : Type 0} (t : Bool) (x : A) (o : Option A) (e : cond t (some x) none ≡ o) where

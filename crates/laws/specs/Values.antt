@@ -11,7 +11,7 @@ use lib.ListN.{length, getD}
 use borrow.Author.Tests.{ne-eqb}
 use Rattle.rules.specs.Text.{isDigit, every, digits, digitsFrom}
 use Rattle.laws.specs.Parts.{cut, cut-length, cut-join}
-use Rattle.laws.specs.Tests.{never}
+use Rattle.laws.specs.Tests.{never, none-some}
 use Rattle.laws.specs.Reading.{Placed, digit-low, digit-small, digits-more, digits-end}
 use Rattle.laws.specs.Places.{Passed, passed-all}
 use Rattle.laws.specs.Every.{every-first, every-within}
@@ -83,7 +83,7 @@ taken-up f w (c ∷ xs) ys v x h = go (isDigit c) refl h (taken-up f w xs ys (v 
     go : (t : Bool) → isDigit c ≡ t → cond t (digitsFrom (v * 10 + (c - 48)) xs) none ≡ some x → (digitsFrom (v * 10 + (c - 48)) xs ≡ some x → f (v * 10 + (c - 48)) (xs ++ ys) ≡ f x ys)
         → f v (c ∷ (xs ++ ys)) ≡ f x ys
     go true e g i = w .takes v c (xs ++ ys) e ∙ i g
-    go false e g i = absurd (let z : _≡_ {A = ℕ} 0 1 = cc in omega arith)
+    go false e g i = none-some g
 
 pub behind-digits : (f : ℕ → List ℕ → Option ℕ) → TakesDigits f → (s : List ℕ) (a k b v : ℕ) → Valued s a k v → a + k ≤ b → f 0 (cut s a b) ≡ f v (cut s (a + k) b)
 behind-digits f w s a k b v d h = rw (← cut-join s a k b h) (taken-up f w (cut s a (a + k)) (cut s (a + k) b) 0 v (sym (d .value)))
@@ -100,7 +100,7 @@ digits-behind (c ∷ cs) u w y h = go (isDigit c) h (digits-behind cs (u * 10 + 
     go true g i =
         let e : (w + u) * 10 + (c - 48) ≡ w * 10 + (u * 10 + (c - 48)) = omega arith in
         rw (e, pow-succ' 10 (length cs), ← mul-assoc w 10 (10 ^ length cs)) (i g)
-    go false g i = absurd (let z : _≡_ {A = ℕ} 0 1 = cc in omega arith)
+    go false g i = none-some g
 
 -- two groups, the second of nine digits
 pub valued-groups : (s : List ℕ) (a n x y : ℕ) → Valued s a (n - 9) x → Valued s (a + (n - 9)) 9 y → 9 < n → a + n ≤ length s → Valued s a n (x * 1000000000 + y)

@@ -12,7 +12,7 @@ use borrow.Author.Tests.{leb-true, le-leb, lt-leb, eq-eqb, ne-eqb}
 use Rattle.rules.specs.Text.{isDigit}
 use Rattle.rules.specs.Amounts.{decimals, levs, amount}
 use Rattle.laws.specs.Parts.{cut, cut-step, cut-done, cut-get, cut-length}
-use Rattle.laws.specs.Tests.{held-told}
+use Rattle.laws.specs.Tests.{held-told, none-some}
 use Rattle.laws.specs.Reading.{digit-small}
 use Rattle.laws.specs.Places.{Passed}
 use Rattle.laws.specs.Values.{Valued, TakesDigits, behind-digits}
@@ -125,7 +125,7 @@ decimals-bound (c ∷ []) v n h = one (isDigit c) refl h
   where
     one : (t : Bool) → isDigit c ≡ t → cond t (some (v * 100 + (c - 48) * 10)) none ≡ some n → n < suc v * 100
     one true d g = let l : c - 48 < 10 = digit-small c d in let e : v * 100 + (c - 48) * 10 ≡ n = cc in omega arith
-    one false d g = absurd (let z : _≡_ {A = ℕ} 0 1 = cc in omega arith)
+    one false d g = none-some g
 decimals-bound (c ∷ d ∷ []) v n h = two (isDigit c) (isDigit d) refl refl h
   where
     two : (t u : Bool) → isDigit c ≡ t → isDigit d ≡ u → cond (t && u) (some (v * 100 + (c - 48) * 10 + (d - 48))) none ≡ some n → n < suc v * 100
@@ -134,9 +134,9 @@ decimals-bound (c ∷ d ∷ []) v n h = two (isDigit c) (isDigit d) refl refl h
         let m : d - 48 < 10 = digit-small d q in
         let e : v * 100 + (c - 48) * 10 + (d - 48) ≡ n = cc in
         omega arith
-    two true false p q g = absurd (let z : _≡_ {A = ℕ} 0 1 = cc in omega arith)
-    two false u p q g = absurd (let z : _≡_ {A = ℕ} 0 1 = cc in omega arith)
-decimals-bound (c ∷ d ∷ e ∷ es) v n h = absurd (let z : _≡_ {A = ℕ} 0 1 = cc in omega arith)
+    two true false p q g = none-some g
+    two false u p q g = none-some g
+decimals-bound (c ∷ d ∷ e ∷ es) v n h = none-some h
 
 -- a bound on what is read with one place more is the bound of one power more
 place-more : (v d n k : ℕ) → d < 10 → n < suc (v * 10 + d) * 10 ^ k → n < suc v * 10 ^ suc k
@@ -146,14 +146,14 @@ place-more v d n k l b =
 
 levs-bound : (cs : List ℕ) (v n : ℕ) → levs v cs ≡ some n → n < suc v * 10 ^ suc (length cs)
 unfolding levs
-levs-bound [] v n h = absurd (let z : _≡_ {A = ℕ} 0 1 = cc in omega arith)
+levs-bound [] v n h = none-some h
 levs-bound (c ∷ cs) v n h = go (isDigit c) (eqb c 44) refl h (levs-bound cs (v * 10 + (c - 48)) n)
   where
     go : (t u : Bool) → isDigit c ≡ t → cond t (levs (v * 10 + (c - 48)) cs) (cond u (decimals v cs) none) ≡ some n
         → (levs (v * 10 + (c - 48)) cs ≡ some n → n < suc (v * 10 + (c - 48)) * 10 ^ suc (length cs)) → n < suc v * 10 ^ suc (suc (length cs))
     go true u d g f = place-more v (c - 48) n (suc (length cs)) (digit-small c d) (f g)
     go false true d g f = let p : 10 ^ 2 ≤ 10 ^ suc (suc (length cs)) = pow-le-pow-right (omega arith) {i = 2} {j = suc (suc (length cs))} (omega arith) in lt-of-lt-of-le (decimals-bound cs v n g) (mul-le-mul-left (suc v) p)
-    go false false d g f = absurd (let z : _≡_ {A = ℕ} 0 1 = cc in omega arith)
+    go false false d g f = none-some g
 
 pub amount-small : (cs : List ℕ) (n : ℕ) → amount cs ≡ some n → n < 10 ^ 16
 unfolding amount
@@ -164,8 +164,8 @@ amount-small cs n h = go (leb (length cs) 15) (isDigit (getD cs 0 0)) refl h
         let k : length cs ≤ 15 = leb-true _ _ l in
         let b : n < 1 * 10 ^ suc (length cs) = levs-bound cs 0 n g in
         lt-of-lt-of-le (rw one-mul at b) (pow-le-pow-right (omega arith) {i = suc (length cs)} {j = 16} (omega arith))
-    go true false l g = absurd (let z : _≡_ {A = ℕ} 0 1 = cc in omega arith)
-    go false u l g = absurd (let z : _≡_ {A = ℕ} 0 1 = cc in omega arith)
+    go true false l g = none-some g
+    go false u l g = none-some g
 
 pub ruleset sums = (
   decimals-none,

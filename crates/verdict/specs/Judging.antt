@@ -14,7 +14,7 @@ use Rattle.rules.specs.Accounts.{ibanShape, control}
 use Rattle.rules.specs.Register.{Account, Register}
 use Rattle.rules.specs.Verdict.{found, accountAt, shaped, inBounds, judged, verdict, wrongShape, wrongControl, notInRegister, outOfBounds, credited, returned}
 use Rattle.laws.specs.Parts.{cut, cut-take, cut-drop, cut-done, cut-length}
-use Rattle.laws.specs.Tests.{and-left, and-right, not-held}
+use Rattle.laws.specs.Tests.{and-left, and-right, not-held, none-some}
 use Rattle.laws.specs.Reading.{fits-length}
 use Rattle.laws.specs.Equal.{equal-true}
 use Rattle.register.specs.Answers.{foundOf}
@@ -138,7 +138,7 @@ code-missing s a b k e x = rw (cut-drop s a b 22, cut-done s (a + 22) b (omega a
 
 pub found-below : (iban : List ℕ) (n : ℕ) (xs : List Account) (i : ℕ) → found iban n xs ≡ some i → i < n + length xs
 unfolding found
-found-below iban n [] i h = absurd (let z : _≡_ {A = ℕ} 0 1 = cc in omega arith)
+found-below iban n [] i h = none-some h
 found-below iban n (x ∷ xs) i h = go (equal (x .iban) iban) h (found-below iban (n + 1) xs i)
   where
     go : (t : Bool) → cond t (some n) (found iban (n + 1) xs) ≡ some i → (found iban (n + 1) xs ≡ some i → i < n + 1 + length xs) → i < n + suc (length xs)
