@@ -9,8 +9,8 @@ use native.Mathlib.Omega.{arith}
 use Rattle.rules.specs.Text.{ordered}
 use Rattle.rules.specs.Engine.{Position, earlier, alike, raised, booked}
 use Rattle.rules.specs.Ledger.{entered}
+use Rattle.laws.specs.Tests.{never}
 use Rattle.rule_laws.specs.Keys.{before-trans, same-keys, behind-other, KeyPlace, KeyPlace.same, KeyPlace.ahead, KeyPlace.behind, place}
-use Rattle.engine_laws.specs.Facts.{never}
 use Rattle.engine_laws.specs.Layout.{All, All.none, All.more}
 use Rattle.engine_laws.specs.Order.{Sorted, Sorted.empty, Sorted.next, ordered-sorted}
 use Rattle.engine_laws.specs.Positions.{Before, position-order, booked-same, booked-ahead, booked-behind}
@@ -126,8 +126,8 @@ total-entered t v q agrees stays adds ps =
     go : (p : Position) (x y : Bool) → x ≡ y → cond x (v (raised p q)) 0 ≡ cond x (v p) 0 + cond y (v q) 0
     go p true true e = adds p
     go p false false e = refl
-    go p true false e = never e
-    go p false true e = never (sym e)
+    go p true false e = never (sym e)
+    go p false true e = never e
 
 pub like-agrees : (k p q : Position) → alike p q ≡ true → like k p ≡ like k q
 unfolding like

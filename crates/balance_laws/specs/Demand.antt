@@ -14,7 +14,7 @@ use Rattle.rules.specs.Calls.{opened}
 use Rattle.rules.specs.Area.{Result, cardOpen}
 use Rattle.rules.specs.Ledger.{Kind, Event, fedWith, isTurn, messageOf, ledgerFrom, ledgerOf, transferredOf, detailedOf, held, sumOf, sinceTurn, accepted, untouched}
 use Rattle.rules.specs.Demand3.{Call, result, Ran, ran, Demand3}
-use Rattle.engine_laws.specs.Facts.{never}
+use Rattle.laws.specs.Tests.{never}
 use Rattle.engine_laws.specs.Calls.{Opens, open-accepted, done-holds}
 use Rattle.balance_laws.specs.Kinds.{comesIn, goesOut, sum-in, sum-out}
 use Rattle.balance_laws.specs.Tally.{Measure, tally, only, ofBank, bare, transfers, details, transferred-tally, detailed-tally, tally-each, tally-none, nought, same-refl, same-times}
@@ -118,7 +118,7 @@ demand3 text day area calls h =
     let o : Opens text day area = open-accepted text day area h in
     let r : Ran = ran (cardOpen text day area .area) calls in
     let w : Running temporary (cardOpen text day area .area) [] [] false =
-    record { engine = opened text day; holding = done-holds (o .done); agrees = record { account = refl; same = same-refl []; history = history-start day; settled = λ f. never (sym f) } } in
+    record { engine = opened text day; holding = done-holds (o .done); agrees = record { account = refl; same = same-refl []; history = history-start day; settled = never } } in
     let z : Ended temporary [] [] false r = ended temporary _ [] [] false calls w in
     record {
       engine = z .end .engine;

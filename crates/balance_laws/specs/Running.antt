@@ -17,8 +17,8 @@ use Rattle.rules.specs.Calls.{Stop, bankOf, added, afterMessage, afterTurn}
 use Rattle.rules.specs.Area.{Result, cardMessage, cardTurn, holds}
 use Rattle.rules.specs.Ledger.{Fed, message, turn, Event, fedWith, enteredBy, ledgerFrom, isTurn, sinceTurn, listed, messageOf, accepted, sumOf}
 use Rattle.rules.specs.Demand3.{result}
+use Rattle.laws.specs.Tests.{never}
 use Rattle.rule_laws.specs.Options.{some-is}
-use Rattle.engine_laws.specs.Facts.{never}
 use Rattle.engine_laws.specs.Layout.{All, All.none, All.more}
 use Rattle.engine_laws.specs.Limits.{Limits, limits}
 use Rattle.engine_laws.specs.Held.{held}
@@ -115,7 +115,7 @@ module _ (temporary area : List ℕ) (ledger : List Position) (sent : List Messa
             account = g .account;
             same = entered-same (added m) (e .positions) ledger (l .order) (g .same);
             history = history-message (g .history) m (admitted (length out) e s m (read-as s m (t .reads)) (t .clear)) (once (l .order) (g .same) (bankOf m) (dateOf m));
-            settled = λ f. never (sym f);
+            settled = never;
           };
         };
         settles = λ bank n.

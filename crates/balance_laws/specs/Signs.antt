@@ -13,8 +13,8 @@ use Rattle.rules.specs.Amounts.{written}
 use Rattle.rules.specs.Accounts.{isBic, ibanShape}
 use Rattle.laws.specs.Reading.{fits-length}
 use Rattle.laws.specs.Digits.{places-length, width-most}
-use Rattle.laws.specs.Tests.{cond-right, between-low}
-use Rattle.engine_laws.specs.Facts.{cond-left, cond-both, never}
+use Rattle.laws.specs.Tests.{cond-right, between-low, never}
+use Rattle.engine_laws.specs.Facts.{cond-left, cond-both}
 use Rattle.laws.specs.Every.{every-wider}
 use Rattle.rule_laws.specs.Lines.{inLine}
 use Rattle.balance_laws.specs.Told.{Short, short-join}
@@ -70,7 +70,7 @@ sign-alnum p c s h = go (eqb p 110) (eqb p 97) (eqb p 99) s h
 fits-alnum : (ps cs : List ℕ) → every isSign ps ≡ true → fits ps cs ≡ true → every isAlnum cs ≡ true
 unfolding every fits
 fits-alnum [] [] s h = refl
-fits-alnum [] (c ∷ cs) s h = never (sym h)
+fits-alnum [] (c ∷ cs) s h = never h
 fits-alnum (p ∷ ps) [] s h = refl
 fits-alnum (p ∷ ps) (c ∷ cs) s h =
     cond-both (isAlnum c) (every isAlnum cs) (sign-alnum p c (cond-left _ _ s) (cond-left _ _ h))

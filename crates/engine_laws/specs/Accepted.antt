@@ -18,10 +18,10 @@ use Rattle.rules.specs.Messages.{Message, Detail, past, readTransfer, readOrder
 use Rattle.rules.specs.Engine.{isBank, lastBank}
 use Rattle.laws.specs.Numbers.{bic-number, bic-small}
 use Rattle.laws.specs.Parts.{cut, from, from-take}
-use Rattle.laws.specs.Tests.{and-right, cond-right}
+use Rattle.laws.specs.Tests.{and-right, cond-right, never}
 use Rattle.rule_laws.specs.Dates.{date-exists}
 use Rattle.rule_laws.specs.Messages.{row-first, DetailsRead, DetailsRead.last, DetailsRead.more, ReadAs, ReadAs.transfer, ReadAs.order, transfer-as, order-as, read-as}
-use Rattle.engine_laws.specs.Facts.{never, cond-left, cond-both}
+use Rattle.engine_laws.specs.Facts.{cond-left, cond-both}
 
 -- ---- MT103 and MT101
 
@@ -68,7 +68,7 @@ fits-front (p ∷ a) b (c ∷ cs) h = cond-both _ _ (cond-left (fitsSign p c) (f
 fits-behind : (a b cs : List ℕ) → fits (a ++ b) cs ≡ true → fits b (drop (length a) cs) ≡ true
 unfolding fits
 fits-behind [] b cs h = h
-fits-behind (p ∷ a) b [] h = never (sym h)
+fits-behind (p ∷ a) b [] h = never h
 fits-behind (p ∷ a) b (c ∷ cs) h = fits-behind a b cs (cond-right (fitsSign p c) (fits (a ++ b) cs) h)
 
 -- a part of a front

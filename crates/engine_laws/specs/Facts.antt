@@ -3,18 +3,14 @@ use mathlib.Core.Path.{_≡_, refl, sym}
 use mathlib.Core.Bool.{Bool, true, false, _&&_, _||_, cond}
 use mathlib.Core.List.{List, [], _∷_}
 use Prim.Native.Nat.{ℕ}
-use native.Mathlib.Omega.{arith}
 use lib.Dec.{eqb}
 use borrow.Author.Tests.{eq-eqb}
 use Rattle.rules.specs.Text.{equal}
 pub use Rattle.laws.specs.Equal.{equal-true}
 pub use Rattle.laws.specs.Tests.{cond-left}
+use Rattle.laws.specs.Tests.{never}
 
 -- ---- tests
-
--- true is not false
-pub never : {A : Type 0} → true ≡ false → A
-never h = absurd (let z : _≡_ {A = ℕ} 0 1 = cc in omega arith)
 
 pub cond-both : (a b : Bool) → a ≡ true → b ≡ true → cond a b false ≡ true
 cond-both a b h k = rw (h, k)
@@ -27,7 +23,7 @@ or-left true b h = h
 or-left false b h = refl
 
 pub or-right : (a b : Bool) → (a || b) ≡ false → b ≡ false
-or-right true b h = never h
+or-right true b h = never (sym h)
 or-right false b h = h
 
 -- as `any` and its like join tests
@@ -36,7 +32,7 @@ any-left true b h = h
 any-left false b h = refl
 
 pub any-right : (a b : Bool) → cond a true b ≡ false → b ≡ false
-any-right true b h = never h
+any-right true b h = never (sym h)
 any-right false b h = h
 
 pub any-neither : (a b : Bool) → a ≡ false → b ≡ false → cond a true b ≡ false

@@ -1,5 +1,5 @@
 -- Positions in their order: what `booked` and `kept` leave is in order again, and within the limits if the totals are.
-use mathlib.Core.Path.{_≡_, refl, ap}
+use mathlib.Core.Path.{_≡_, refl, sym, ap}
 use mathlib.Core.Bool.{Bool, true, false, _&&_, not, cond}
 use mathlib.Core.List.{List, [], _∷_}
 use Prim.Native.Nat.{ℕ, suc, _+_, _≤_}
@@ -11,10 +11,10 @@ use Rattle.rules.specs.Text.{any}
 use Rattle.rules.specs.Dates.{exists}
 use Rattle.rules.specs.Engine.{Position, limit, earlier, alike, raised, positionOf, isOpen, booked, hasDetails, kept, isBank, goodPosition, goodPositions}
 use Rattle.rules.specs.Written.{corrected, correctedCount}
-use Rattle.laws.specs.Tests.{and-left, and-right, cond-right}
+use Rattle.laws.specs.Tests.{and-left, and-right, cond-right, never}
 use Rattle.rule_laws.specs.Keys as K
 use Rattle.rule_laws.specs.Keys.{before-trans, test-before, before-test, behind-other, KeyPlace, KeyPlace.same, KeyPlace.ahead, KeyPlace.behind, place}
-use Rattle.engine_laws.specs.Facts.{never, cond-left, cond-both, any-neither}
+use Rattle.engine_laws.specs.Facts.{cond-left, cond-both, any-neither}
 use Rattle.engine_laws.specs.Layout.{All, All.none, All.more}
 use Rattle.engine_laws.specs.Order.{Ordering, Sorted, Sorted.empty, Sorted.next, all-before}
 
@@ -117,7 +117,7 @@ booked-few q {ps} s h k = rw (booked-length q s) (go (isOpen (q .key) ps) (leb 3
   where
     go : (t u : Bool) → leb 32 (length ps) ≡ u → (u && not t) ≡ false → cond t (length ps) (suc (length ps)) ≤ 32
     go true u e f = h
-    go false true e f = never f
+    go false true e f = never (sym f)
     go false false e f = leb-false 32 (length ps) e
 
 -- ---- within the limits

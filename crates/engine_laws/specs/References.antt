@@ -9,8 +9,8 @@ use lib.ListN.{length}
 use borrow.Author.Tests.{leb-true, leb-false, le-leb, lt-leb, eqb-true, eqb-false, eq-eqb, ne-eqb, not-false}
 use Rattle.rules.specs.Text.{equal, any, twice, textBefore}
 use Rattle.rules.specs.Engine.{Reference, sameReference, precedes, filed, goodReference, goodReferences}
-use Rattle.laws.specs.Tests.{cond-right}
-use Rattle.engine_laws.specs.Facts.{never, cond-left, cond-both, or-left, or-right, any-left, any-right, any-neither}
+use Rattle.laws.specs.Tests.{cond-right, never}
+use Rattle.engine_laws.specs.Facts.{cond-left, cond-both, or-left, or-right, any-left, any-right, any-neither}
 use Rattle.engine_laws.specs.Layout.{All, All.none, All.more}
 use Rattle.engine_laws.specs.Order.{Ordering, Sorted, Sorted.empty, Sorted.next, all-before}
 
@@ -31,14 +31,14 @@ ahead-trans (on e h) (on f k) = on (e ∙ f) (ahead-trans h k)
 
 ahead-says : (a b : List ℕ) → textBefore a b ≡ true → Ahead a b
 unfolding textBefore
-ahead-says [] [] h = never (sym h)
+ahead-says [] [] h = never h
 ahead-says [] (d ∷ ds) h = short
-ahead-says (c ∷ cs) [] h = never (sym h)
+ahead-says (c ∷ cs) [] h = never h
 ahead-says (c ∷ cs) (d ∷ ds) h = go (eqb c d) (leb d c) refl refl (ahead-says cs ds) h
   where
     go : (t u : Bool) → eqb c d ≡ t → leb d c ≡ u → (textBefore cs ds ≡ true → Ahead cs ds) → cond t (textBefore cs ds) (not u) ≡ true → Ahead (c ∷ cs) (d ∷ ds)
     go true u e f i k = on (eqb-true c d e) (i k)
-    go false true e f i k = never (sym k)
+    go false true e f i k = never k
     go false false e f i k = low (leb-false d c f)
 
 ahead-tests : {a b : List ℕ} → Ahead a b → textBefore a b ≡ true
@@ -57,8 +57,8 @@ ahead-other (on {c} {d} e k) = rw (eq-eqb c d e) (ahead-other k)
 -- of two that differ one stands before the other
 ahead-turned : (a b : List ℕ) → textBefore a b ≡ false → equal b a ≡ false → Ahead b a
 unfolding textBefore equal
-ahead-turned [] [] h k = never k
-ahead-turned [] (d ∷ ds) h k = never h
+ahead-turned [] [] h k = never (sym k)
+ahead-turned [] (d ∷ ds) h k = never (sym h)
 ahead-turned (c ∷ cs) [] h k = short
 ahead-turned (c ∷ cs) (d ∷ ds) h k = go (eqb c d) refl (ahead-turned cs ds) h k
   where
@@ -88,7 +88,7 @@ precedes-says r q h = go (leb (q .sender) (r .sender)) (eqb (r .sender) (q .send
     go : (s t : Bool) → leb (q .sender) (r .sender) ≡ s → eqb (r .sender) (q .sender) ≡ t → (not s || (t && textBefore (r .text) (q .text))) ≡ true → Precedes r q
     go false t a b k = sender (leb-false (q .sender) (r .sender) a)
     go true true a b k = text (eqb-true _ _ b) (ahead-says (r .text) (q .text) k)
-    go true false a b k = never (sym k)
+    go true false a b k = never k
 
 precedes-tests : {r q : Reference} → Precedes r q → precedes r q ≡ true
 unfolding precedes
