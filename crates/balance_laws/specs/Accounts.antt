@@ -10,8 +10,8 @@ use Rattle.rules.specs.Text.{equal, isSome}
 use Rattle.rules.specs.Accounts.{ibanShape, control, passes}
 use Rattle.rules.specs.Register.{Account, Register, sound, register, registerOf}
 use Rattle.rules.specs.Verdict.{credited, returned, Cause, wrongShape, wrongControl, outOfBounds, found, noAccount, accountAt, shaped, inBounds, judged, verdict}
-use Rattle.laws.specs.Tests.{and-left}
-use Rattle.rule_laws.specs.Options.{none-some, There, there, some-is}
+use Rattle.laws.specs.Tests.{and-left, none-some}
+use Rattle.rule_laws.specs.Options.{There, there, some-is}
 use Rattle.rule_laws.specs.Registers.{register-read}
 use Rattle.engine_laws.specs.Facts.{equal-true}
 

@@ -16,7 +16,6 @@ use Rattle.rules.specs.Replay.{opens, sends, turns, Commanded, lengthOf, sixDig
 use Rattle.laws.specs.Tests.{never, and-left, none-some}
 use Rattle.laws.specs.Reading.{fits-length}
 use Rattle.rule_laws.specs.Lines.{FirstLine, first-line, first-length, line-taken}
-use Rattle.rule_laws.specs.Options.{none-some}
 use Rattle.commands.specs.Numbers.{limited, limited-large, length-limit}
 
 -- ---- a line

@@ -16,9 +16,8 @@ use Rattle.rules.specs.Text.{ascii, equal, fits}
 use Rattle.rules.specs.Lines.{Line, Taken, lead, line, lines, before, closes, inLines, closing, opening, framed}
 use Rattle.laws.specs.Parts.{cut, from, cut-done, cut-snoc, cut-all, from-step, from-done, from-length, from-cut}
 use Rattle.laws.specs.Equal.{equal-true}
-use Rattle.laws.specs.Tests.{not-held, never, and-left, and-right}
+use Rattle.laws.specs.Tests.{not-held, never, and-left, and-right, none-some}
 use Rattle.rule_laws.specs.Lines.{FirstLine, first-line, line-taken, Lined, Lined.end, Lined.next, lines-cases, lines-before}
-use Rattle.rule_laws.specs.Options.{none-some}
 use Rattle.lines.specs.Answers.{taken, LineEnd, NoLine, Plain}
 
 -- ---- bytes before a line

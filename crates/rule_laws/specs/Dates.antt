@@ -10,8 +10,8 @@ use lib.ListN.{length}
 use borrow.Author.Tests.{leb-true}
 use Rattle.rules.specs.Text.{digits, then, given}
 use Rattle.rules.specs.Dates.{exists, date}
-use Rattle.laws.specs.Tests.{and-left}
-use Rattle.rule_laws.specs.Options.{none-some, Came, came, Gave, gave}
+use Rattle.laws.specs.Tests.{and-left, none-some}
+use Rattle.rule_laws.specs.Options.{Came, came, Gave, gave}
 
 -- an existing date has at most six digits
 pub date-small : (n : ℕ) → exists n ≡ true → n < 1000000

@@ -11,8 +11,8 @@ use borrow.Author.Tests.{eqb-true, not-true}
 use Rattle.rules.specs.Text.{every}
 use Rattle.rules.specs.Lines.{Line, Taken, lead, line, before, begun, lines, body}
 use Rattle.laws.specs.Parts.{from}
-use Rattle.laws.specs.Tests.{and-left, and-right, cond-left, cond-right}
-use Rattle.rule_laws.specs.Options.{none-some, some-is, Mapped, mapped}
+use Rattle.laws.specs.Tests.{and-left, and-right, cond-left, cond-right, none-some}
+use Rattle.rule_laws.specs.Options.{some-is, Mapped, mapped}
 
 -- a byte of a line: "CR and LF stand nowhere else"
 unfoldable pub inLine : ℕ → Bool

@@ -12,8 +12,8 @@ use Rattle.rules.specs.Amounts.{amount}
 use Rattle.rules.specs.Lines.{Line, Taken, line, closing, type, sender, body}
 use Rattle.rules.specs.Forms.{Row, TakenRows, fitsRow, leadRows, takeRows, transferRows, orderRows, detailRows}
 use Rattle.rules.specs.Messages.{Message, mt103, mt101, Transfer, Order, Detail, TakenDetail, lineOf, date32A, amount32A, baerefDate103, amount32B, dateCentrb, dateBaeref, transferOf, detailOf, takeDetail, details, readTransfer, readOrder, read}
-use Rattle.laws.specs.Tests.{never}
-use Rattle.rule_laws.specs.Options.{none-some, some-is, There, Came, came, Mapped, mapped, Gave, gave}
+use Rattle.laws.specs.Tests.{never, none-some}
+use Rattle.rule_laws.specs.Options.{some-is, There, Came, came, Mapped, mapped, Gave, gave}
 use Rattle.rule_laws.specs.Lines.{inLine, first-line}
 
 -- ---- rows

@@ -2,14 +2,8 @@
 use mathlib.Core.Path.{_≡_, refl}
 use mathlib.Core.Bool.{Bool, true, false}
 use mathlib.Core.Option.{Option, none, some, Option·map}
-use Prim.Native.Nat.{ℕ}
-use native.Mathlib.Omega.{arith}
 use Rattle.rules.specs.Text.{then, given, isSome}
-use Rattle.laws.specs.Tests.{never}
-
--- none is not some
-pub none-some : {A B : Type 0} {a : A} → none ≡ some a → B
-none-some h = absurd (let z : _≡_ {A = ℕ} 0 1 = cc in omega arith)
+use Rattle.laws.specs.Tests.{never, none-some}
 
 pub isSome-is : {A : Type 0} (x : Option A) (a : A) → x ≡ some a → isSome x ≡ true
 isSome-is x a h = rw h

@@ -12,8 +12,8 @@ use Rattle.rules.specs.Accounts.{passes, ibanShape}
 use Rattle.rules.specs.Lines.{Line, lines}
 use Rattle.rules.specs.Register.{Account, Register, accountLine, accountLines, sound, ofLines, register}
 use Rattle.laws.specs.Reading.{fits-length}
-use Rattle.laws.specs.Tests.{and-left, and-right}
-use Rattle.rule_laws.specs.Options.{none-some, some-is, There, there, Came, came, Mapped, mapped, Gave, gave}
+use Rattle.laws.specs.Tests.{and-left, and-right, none-some}
+use Rattle.rule_laws.specs.Options.{some-is, There, there, Came, came, Mapped, mapped, Gave, gave}
 use Rattle.rule_laws.specs.Lines.{Lined, Lined.end, Lined.next, lines-lined}
 
 -- the accounts of some lines
