@@ -29,7 +29,7 @@ use Rattle.forms.specs.declared.rows.Span.{Span}
 use Rattle.forms.specs.declared.rows.Rows.{Rows}
 use Rattle.forms.specs.declared.transfer.Transfer as T
 use Rattle.rule_laws.specs.Lines.{body-from}
-use Rattle.conditions.specs.Stops.{transferStop, transfer-stops}
+use Rattle.field_conditions.specs.Stops.{transferStop, transfer-stops}
 use Rattle.conditions.specs.Walk.{FieldsIn, heldFrom, alike, named-twice}
 use Rattle.conditions.specs.Lowest.{lowestAny}
 use Rattle.conditions.specs.Tally.{TallyTold, DetailsTallied, TallyAt, told-fields}

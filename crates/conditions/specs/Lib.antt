@@ -1,5 +1,3 @@
-pub mod Fields
-pub mod Stops
 pub mod Lowest
 pub mod Walk
 pub mod Tally

@@ -10,11 +10,11 @@ use Rattle.rules.specs.Engine.{slashed}
 use Rattle.rules.specs.Messages as M
 use Rattle.rules.specs.Messages.{field21, currency32B}
 use Rattle.rules.specs.Calls.{badSum, foreignPayer}
-use Rattle.conditions.specs.Stops.{lowest}
+use Rattle.field_conditions.specs.Stops.{lowest, noStop}
 
--- the lowest of 5 to 8 whose test holds, or 9
+-- the lowest of 5 to 8 whose test holds, or `noStop`
 abbrev pub pick : Bool → Bool → Bool → Bool → ℕ
-pick a b c d = cond a 5 (cond b 6 (cond c 7 (cond d 8 9)))
+pick a b c d = cond a 5 (cond b 6 (cond c 7 (cond d 8 noStop)))
 
 -- the lowest that any of the details breaks
 unfoldable pub lowestAny : List ℕ → ℕ → List M.Detail → ℕ
@@ -36,16 +36,16 @@ tail n x false h = h
 -- the tests of two, one by one
 picks : (a b c d a' b' c' d' : Bool) → pick (cond a true a') (cond b true b') (cond c true c') (cond d true d') ≡ min (pick a b c d) (pick a' b' c' d')
 picks a b c d a' b' c' d' =
-    let p : 8 ≤ cond d 8 9 = tail 8 9 d (omega arith) in
-    let p' : 8 ≤ cond d' 8 9 = tail 8 9 d' (omega arith) in
-    let q : 7 ≤ cond c 7 (cond d 8 9) = tail 7 (cond d 8 9) c (omega arith) in
-    let q' : 7 ≤ cond c' 7 (cond d' 8 9) = tail 7 (cond d' 8 9) c' (omega arith) in
-    let r : 6 ≤ cond b 6 (cond c 7 (cond d 8 9)) = tail 6 (cond c 7 (cond d 8 9)) b (omega arith) in
-    let r' : 6 ≤ cond b' 6 (cond c' 7 (cond d' 8 9)) = tail 6 (cond c' 7 (cond d' 8 9)) b' (omega arith) in
-    lower 5 a a' (cond b 6 (cond c 7 (cond d 8 9))) (cond b' 6 (cond c' 7 (cond d' 8 9))) _ (omega arith) (omega arith)
-    (lower 6 b b' (cond c 7 (cond d 8 9)) (cond c' 7 (cond d' 8 9)) _ (omega arith) (omega arith)
-    (lower 7 c c' (cond d 8 9) (cond d' 8 9) _ (omega arith) (omega arith)
-    (lower 8 d d' 9 9 9 (omega arith) (omega arith) refl)))
+    let p : 8 ≤ cond d 8 noStop = tail 8 noStop d (omega arith) in
+    let p' : 8 ≤ cond d' 8 noStop = tail 8 noStop d' (omega arith) in
+    let q : 7 ≤ cond c 7 (cond d 8 noStop) = tail 7 (cond d 8 noStop) c (omega arith) in
+    let q' : 7 ≤ cond c' 7 (cond d' 8 noStop) = tail 7 (cond d' 8 noStop) c' (omega arith) in
+    let r : 6 ≤ cond b 6 (cond c 7 (cond d 8 noStop)) = tail 6 (cond c 7 (cond d 8 noStop)) b (omega arith) in
+    let r' : 6 ≤ cond b' 6 (cond c' 7 (cond d' 8 noStop)) = tail 6 (cond c' 7 (cond d' 8 noStop)) b' (omega arith) in
+    lower 5 a a' (cond b 6 (cond c 7 (cond d 8 noStop))) (cond b' 6 (cond c' 7 (cond d' 8 noStop))) _ (omega arith) (omega arith)
+    (lower 6 b b' (cond c 7 (cond d 8 noStop)) (cond c' 7 (cond d' 8 noStop)) _ (omega arith) (omega arith)
+    (lower 7 c c' (cond d 8 noStop) (cond d' 8 noStop) _ (omega arith) (omega arith)
+    (lower 8 d d' noStop noStop noStop (omega arith) (omega arith) refl)))
 
 any-more : (bank : List ℕ) (day : ℕ) (d : M.Detail) (ds : List M.Detail) → lowestAny bank day (d ∷ ds) ≡ min (lowest bank day d) (lowestAny bank day ds)
 unfolding lowestAny lowest any
@@ -53,7 +53,7 @@ any-more bank day d ds =
     picks (slashed (field21 d)) (badSum (currency32B d) (d .amount)) (foreignPayer bank d) (not (eqb (d .date) day))
     (any (λ (d : M.Detail). slashed (field21 d)) ds) (any (λ (d : M.Detail). badSum (currency32B d) (d .amount)) ds) (any (foreignPayer bank) ds) (any (λ (d : M.Detail). not (eqb (d .date) day)) ds)
 
-pub any-none : (bank : List ℕ) (day : ℕ) → lowestAny bank day [] ≡ 9
+pub any-none : (bank : List ℕ) (day : ℕ) → lowestAny bank day [] ≡ noStop
 unfolding lowestAny any
 any-none bank day = refl
 

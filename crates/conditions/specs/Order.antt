@@ -15,7 +15,7 @@ use Rattle.rules.specs.Messages.{mt101, field20, field21, currency32B, firstDat
 use Rattle.rules.specs.Calls.{formStops, firstOf, holdsOf, badReference, badSum, badAmount, foreignPayer, badAccount, manyDates}
 use Rattle.laws.specs.Tests.{pick-equal, pick-other}
 use Rattle.forms.specs.Spans.{within-at}
-use Rattle.conditions.specs.Stops.{pick-held, pick-missed}
+use Rattle.field_conditions.specs.Stops.{pick-held, pick-missed, noStop}
 use Rattle.conditions.specs.Walk.{alike}
 use Rattle.conditions.specs.Lowest.{pick, lowestAny}
 
@@ -23,9 +23,9 @@ use Rattle.conditions.specs.Lowest.{pick, lowestAny}
 
 -- of a number of details, whether field 20 has slashes, the lowest condition that a detail breaks, and whether one field 21 appears twice
 abbrev pub orderStop : ℕ → Bool → ℕ → Bool → ℕ
-orderStop n b low t = cond (not (leb n 16)) 4 (cond b 5 (cond (eqb low 5) 5 (cond t 5 (cond (eqb low 9) 0 low))))
+orderStop n b low t = cond (not (leb n 16)) 4 (cond b 5 (cond (eqb low 5) 5 (cond t 5 (cond (eqb low noStop) 0 low))))
 
-joined : (b t p q r z : Bool) → cond b 5 (cond (eqb (pick p q r z) 5) 5 (cond t 5 (cond (eqb (pick p q r z) 9) 0 (pick p q r z)))) ≡ cond (b || p || t) 5 (cond q 6 (cond r 7 (cond z 8 0)))
+joined : (b t p q r z : Bool) → cond b 5 (cond (eqb (pick p q r z) 5) 5 (cond t 5 (cond (eqb (pick p q r z) noStop) 0 (pick p q r z)))) ≡ cond (b || p || t) 5 (cond q 6 (cond r 7 (cond z 8 0)))
 joined true t p q r z = refl
 joined false t true q r z = refl
 joined false true false true r z = refl
@@ -60,7 +60,7 @@ module _ (a b x y r : ℕ) where
 pub order-many : (n : ℕ) (b : Bool) (low : ℕ) (t t' : Bool) → (n ≤ 16 → t ≡ t') → orderStop n b low t ≡ orderStop n b low t'
 order-many n b low t t' f = go (leb n 16) refl
   where
-    go : (q : Bool) → leb n 16 ≡ q → cond (not q) 4 (cond b 5 (cond (eqb low 5) 5 (cond t 5 (cond (eqb low 9) 0 low)))) ≡ cond (not q) 4 (cond b 5 (cond (eqb low 5) 5 (cond t' 5 (cond (eqb low 9) 0 low))))
+    go : (q : Bool) → leb n 16 ≡ q → cond (not q) 4 (cond b 5 (cond (eqb low 5) 5 (cond t 5 (cond (eqb low noStop) 0 low)))) ≡ cond (not q) 4 (cond b 5 (cond (eqb low 5) 5 (cond t' 5 (cond (eqb low noStop) 0 low))))
     go true e = rw (f (leb-true n 16 e))
     go false e = refl
 
@@ -68,7 +68,7 @@ order-many n b low t t' f = go (leb n 16) refl
 pub order-few : (n : ℕ) (b : Bool) (low : ℕ) (t : Bool) → orderStop n b low t ≡ 0 → n ≤ 16
 order-few n b low t h = go (leb n 16) refl h
   where
-    go : (q : Bool) → leb n 16 ≡ q → cond (not q) 4 (cond b 5 (cond (eqb low 5) 5 (cond t 5 (cond (eqb low 9) 0 low)))) ≡ 0 → n ≤ 16
+    go : (q : Bool) → leb n 16 ≡ q → cond (not q) 4 (cond b 5 (cond (eqb low 5) 5 (cond t 5 (cond (eqb low noStop) 0 low)))) ≡ 0 → n ≤ 16
     go true e g = leb-true n 16 e
     go false e g = absurd (omega arith)
 

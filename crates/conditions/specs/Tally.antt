@@ -22,7 +22,7 @@ use Rattle.forms.specs.declared.rows.Span.{Span}
 use Rattle.forms.specs.declared.detail.Detail.{Detail}
 use Rattle.details.specs.Lines.{withLine}
 use Rattle.details.specs.Kept.{Keeps, DetailRoom, Kept, kept-none, kept-full, kept-more, more-length}
-use Rattle.conditions.specs.Stops.{lowest, detailStop, detail-lowest}
+use Rattle.field_conditions.specs.Stops.{lowest, detailStop, detail-lowest, noStop}
 use Rattle.conditions.specs.Lowest.{lowestAny, any-none, any-last}
 use Rattle.conditions.specs.Walk.{Named, FieldsIn, named-none, named-full, named-more}
 use Rattle.conditions.specs.declared.tally.Tally.{Tally}
@@ -145,7 +145,7 @@ unfolding firstDate
 low-more bank [] d = rw (any-last bank (d .date) [] d, any-none bank 0, any-none bank (d .date))
 low-more bank (e ∷ ds) d = sym (any-last bank (e .date) (e ∷ ds) d)
 
-pub told-none : (s : List ℕ) {t : Tally} {amounts places fields : List ℕ} → t .count ≡ 0 → t .sum ≡ 0 → t .date ≡ 0 → t .low ≡ 9 → DetailRoom amounts places → length fields ≡ 32 → TallyTold s [] t amounts places fields
+pub told-none : (s : List ℕ) {t : Tally} {amounts places fields : List ℕ} → t .count ≡ 0 → t .sum ≡ 0 → t .date ≡ 0 → t .low ≡ noStop → DetailRoom amounts places → length fields ≡ 32 → TallyTold s [] t amounts places fields
 unfolding sumOf firstDate
 told-none s a b c d e f = record { count = a; sum = b; bound = omega (arith, b); date = c; low = rw (any-none) d; kept = kept-none s e; named = named-none s f }
 
@@ -195,7 +195,7 @@ map-one : {A : Type 0} (xs : List A) (x : A) (o : Option (List A)) → Option·m
 map-one xs x none = refl
 map-one xs x (some ds) = ap (λ (l : List _). some l) (sym (append-assoc xs (x ∷ []) ds))
 
-pub walk-start : (s : List ℕ) (at : ℕ) {t : Tally} {amounts places fields : List ℕ} → t .count ≡ 0 → t .sum ≡ 0 → t .date ≡ 0 → t .low ≡ 9 → DetailRoom amounts places → length fields ≡ 32
+pub walk-start : (s : List ℕ) (at : ℕ) {t : Tally} {amounts places fields : List ℕ} → t .count ≡ 0 → t .sum ≡ 0 → t .date ≡ 0 → t .low ≡ noStop → DetailRoom amounts places → length fields ≡ 32
     → Walking s at at t amounts places fields
 walk-start s at a b c d e f = record { done = []; told = told-none s a b c d e f; left = rw a (map-nothing (details 4096 (from s at))) }
 

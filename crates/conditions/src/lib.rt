@@ -1,9 +1,7 @@
 // The conditions 1 to 8, "stopped by the input", of any bytes, and what booking a message that passes them needs.
 mod booking;
-mod fields;
 mod message;
 mod order;
-mod stops;
 mod tally;
 mod walk;
 

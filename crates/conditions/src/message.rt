@@ -2,8 +2,8 @@
 use crate::booking::Booking;
 use crate::booking::booking_of;
 use crate::order::order_stop;
-use crate::stops::transfer_stop;
 use crate::tally::tally_details;
+use field_conditions::transfer_stop;
 use forms::MESSAGE_20;
 use forms::behind;
 use forms::read_rows;

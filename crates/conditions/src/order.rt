@@ -1,7 +1,8 @@
 // An MT101: 4 to 8.
-use crate::fields::slashed_behind;
 use crate::tally::Tally;
 use crate::walk::appears_twice;
+use field_conditions::NO_STOP;
+use field_conditions::slashed_behind;
 use forms::Span;
 ghost use mathlib.Core.Path.{_≡_};
 ghost use Rattle.rules.specs.Text.{equal, twice};
@@ -29,7 +30,7 @@ pub fn order_stop(s: &[u8], p: Span, fields: &[u16; 32], t: Tally) -> u32
     if appears_twice(s, fields, t.count) {
         return 5;
     }
-    if t.low == 9 {
+    if t.low == NO_STOP {
         return 0;
     }
     t.low

@@ -1,7 +1,8 @@
 // The details of an MT101, read, kept and judged one by one up to the closing line.
-use crate::stops::detail_stop;
 use details::keep;
 use details::set_line;
+use field_conditions::NO_STOP;
+use field_conditions::detail_stop;
 use forms::DETAIL_21;
 use forms::Detail;
 use forms::behind;
@@ -15,7 +16,7 @@ ghost use Rattle.forms.specs.Spans.{noSpan, SpansWithin};
 ghost use Rattle.details.specs.Kept.{DetailRoom};
 ghost use Rattle.conditions.specs.Tally.{Raised, dayOf, After, KeepsFirst, TallyAt};
 
-// How many details there are, the sum of the first 16, the first one's date, and the lowest of 5 to 8 that one of them breaks, or 9.
+// How many details there are, the sum of the first 16, the first one's date, and the lowest of 5 to 8 that one of them breaks, or `NO_STOP`.
 pub struct Tally {
     pub ok: bool,
     pub count: u32,
@@ -115,7 +116,7 @@ pub fn tally_details(
         count: 0,
         sum: 0,
         date: 0,
-        low: 9,
+        low: NO_STOP,
     };
     let mut t = none;
     let mut pos = at;

@@ -1,7 +1,7 @@
 // The fields 21 of the details, by their places: 5, one field 21 twice.
 use details::line_at;
 use forms::Span;
-use references::same_parts;
+use text::same_parts;
 ghost use mathlib.Core.Path.{_≡_};
 ghost use Prim.Native.Nat.{_+_, _-_, _<_, _≤_};
 ghost use Rattle.rules.specs.Text.{equal, any, twice};

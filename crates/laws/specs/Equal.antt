@@ -30,3 +30,5 @@ module _ (s t : List ℕ) (a e b f : ℕ) where
 
   pub parts-alike : e - a ≡ f - b → a ≤ e → b ≤ f → (r : Bool) → r ≡ equal (cut s a (a + (e - a))) (cut t b (b + (e - a))) → r ≡ equal (cut s a e) (cut t b f)
   parts-alike h k l r q = let m : a + (e - a) ≡ e = omega arith in let n : b + (e - a) ≡ f = omega arith in q ∙ (rw (m, n))
+
+pub ruleset parting = (parts-differ, parts-alike)

@@ -10,7 +10,6 @@ use lib.ListN.{length, getD}
 use borrow.Author.Tests.{eq-eqb, ne-eqb, le-leb, lt-leb}
 use Rattle.rules.specs.Engine.{slashesFrom, slashed}
 use Rattle.laws.specs.Parts.{cut, cut-step, cut-done, cut-get}
-use Rattle.laws.specs.Equal.{parts-differ, parts-alike}
 
 -- two bytes, the first of them that one or not
 pub both-are : (c d k : ℕ) → c ≡ k → eqb d k ≡ (eqb c k && eqb d k)
@@ -97,4 +96,4 @@ module _ (s : List ℕ) (a b : ℕ) (o : a ≤ b) (k : b ≤ length s) where
       pub slashed-last : b - a ≤ r → eqb (getD s (b - 1) 0) 47 ≡ slashed (cut s a b)
       slashed-last l = rw (decided, le-leb (b - a) r l)
 
-pub ruleset slashes = (both-are, first-not, parts-differ, parts-alike, doubling-start, doubling-more, doubled-two, doubled-none, slashed-none, slashed-first, slashed-two, slashed-last)
+pub ruleset slashes = (both-are, first-not, doubling-start, doubling-more, doubled-two, doubled-none, slashed-none, slashed-first, slashed-two, slashed-last)

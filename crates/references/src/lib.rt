@@ -1,11 +1,9 @@
-// References: slashes where condition 5 lets none stand, and two texts alike.
-use text::equal_parts;
+// References: slashes where condition 5 lets none stand.
 ghost use mathlib.Core.Path.{_≡_};
 ghost use mathlib.Core.Bool.{_&&_};
 ghost use Prim.Native.Nat.{_+_, _-_, _≤_};
 ghost use lib.Dec.{eqb};
 ghost use lib.ListN.{length};
-ghost use Rattle.rules.specs.Text.{equal};
 ghost use Rattle.rules.specs.Engine.{slashed};
 ghost use Rattle.laws.specs.Parts.{cut};
 ghost use Rattle.references.specs.Slashes.{Doubled};
@@ -51,19 +49,4 @@ pub fn is_slashed(s: &[u8], a: usize, b: usize) -> bool
         return true;
     }
     s[b - 1] == 47
-}
-
-// Are the bytes from a up to e and the bytes of t from b up to f equal?
-pub fn same_parts(s: &[u8], a: usize, e: usize, t: &[u8], b: usize, f: usize) -> bool
-    requires { ⌜ a ≤ e ⌝ }
-    requires { ⌜ e ≤ length (now s) ⌝ }
-    requires { ⌜ b ≤ f ⌝ }
-    requires { ⌜ f ≤ length (now t) ⌝ }
-    requires { ⌜ e - a ≤ 65535 ⌝ }
-    ensures { λ r. ⌜ r ≡ equal (cut (now (s .entry)) a e) (cut (now (t .entry)) b f) ⌝ }
-{
-    if e - a != f - b {
-        return false;
-    }
-    equal_parts(s, a, t, b, (e - a) as u32)
 }

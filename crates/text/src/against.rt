@@ -3,7 +3,7 @@ use crate::classes::is_alnum;
 use crate::classes::is_digit;
 use crate::classes::is_letter;
 ghost use mathlib.Core.Path.{_≡_};
-ghost use Prim.Native.Nat.{_+_, _≤_};
+ghost use Prim.Native.Nat.{_+_, _-_, _≤_};
 ghost use lib.Dec.{eqb};
 ghost use lib.ListN.{length};
 ghost use Rattle.rules.specs.Text.{equal, textBefore, fits, fitsSign};
@@ -34,6 +34,21 @@ pub fn equal_parts(s: &[u8], a: usize, t: &[u8], b: usize, n: u32) -> bool
     ensures { λ r. ⌜ r ≡ equal (cut (now (s .entry)) a (a + n)) (cut (now (t .entry)) b (b + n)) ⌝ }
 {
     alike(s, a, t, b, n) == n
+}
+
+// Are the bytes from a up to e and the bytes of t from b up to f equal?
+pub fn same_parts(s: &[u8], a: usize, e: usize, t: &[u8], b: usize, f: usize) -> bool
+    requires { ⌜ a ≤ e ⌝ }
+    requires { ⌜ e ≤ length (now s) ⌝ }
+    requires { ⌜ b ≤ f ⌝ }
+    requires { ⌜ f ≤ length (now t) ⌝ }
+    requires { ⌜ e - a ≤ 65535 ⌝ }
+    ensures { λ r. ⌜ r ≡ equal (cut (now (s .entry)) a e) (cut (now (t .entry)) b f) ⌝ }
+{
+    if e - a != f - b {
+        return false;
+    }
+    equal_parts(s, a, t, b, (e - a) as u32)
 }
 
 // Do the m bytes from a stand before the n bytes of t from b, in byte order?

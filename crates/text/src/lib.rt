@@ -7,6 +7,7 @@ pub use against::equal_parts;
 pub use against::fits_pattern;
 pub use against::fits_sign;
 pub use against::is_before;
+pub use against::same_parts;
 pub use classes::Class;
 pub use classes::alnums_at;
 pub use classes::digits_at;

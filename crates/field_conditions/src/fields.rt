@@ -3,7 +3,7 @@ use account::iban_passes;
 use forms::Span;
 use forms::behind;
 use references::is_slashed;
-use references::same_parts;
+use text::same_parts;
 use text::equal_parts;
 ghost use mathlib.Core.Path.{_≡_};
 ghost use lib.ListN.{take, drop};
@@ -12,7 +12,7 @@ ghost use Rattle.rules.specs.Lines.{sender};
 ghost use Rattle.rules.specs.Engine.{slashed};
 ghost use Rattle.rules.specs.Calls.{badSum};
 ghost use Rattle.forms.specs.Spans.{spanOf, SpanIn};
-ghost use Rattle.conditions.specs.Fields.{foreign};
+ghost use Rattle.field_conditions.specs.Fields.{foreign};
 
 // 5: does the reference behind the first k bytes of a part begin or end with a slash, or have two one behind the other?
 pub fn slashed_behind(s: &[u8], p: Span, k: u16) -> bool

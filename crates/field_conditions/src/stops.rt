@@ -13,7 +13,10 @@ use forms::TRANSFER_59;
 use forms::Transfer;
 ghost use mathlib.Core.Path.{_≡_};
 ghost use Rattle.forms.specs.Spans.{SpansWithin};
-ghost use Rattle.conditions.specs.Stops.{transferStop, detailStop};
+ghost use Rattle.field_conditions.specs.Stops.{transferStop, detailStop};
+
+// Above the conditions of a detail: none of them holds.
+pub const NO_STOP: u32 = 9;
 
 // Of a transfer: 5, 6 or 7; 0 where none holds.
 pub fn transfer_stop(s: &[u8], temporary: &[u8], t: Transfer) -> u32
@@ -32,7 +35,7 @@ pub fn transfer_stop(s: &[u8], temporary: &[u8], t: Transfer) -> u32
     7
 }
 
-// Of one detail, day being the date of the first: 5, 6, 7 or 8; 9 where none holds.
+// Of one detail, day being the date of the first: 5, 6, 7 or 8; `NO_STOP` where none holds.
 pub fn detail_stop(s: &[u8], d: Detail, day: u64) -> u32
     requires { ⌜ SpansWithin (now s) (d .spans) ⌝ }
     ensures { λ r. ⌜ r ≡ detailStop (now (s .entry)) day d ⌝ }
@@ -49,5 +52,5 @@ pub fn detail_stop(s: &[u8], d: Detail, day: u64) -> u32
     if d.date != day {
         return 8;
     }
-    9
+    NO_STOP
 }

@@ -1,8 +1,8 @@
--- `conditions::fields::is_foreign` meets its contract: too few bytes for an account, one that does not pass, or as its bank's four bytes are.
-use Rattle.conditions.specs.Fields.{fielding}
+-- `field_conditions::fields::is_foreign` meets its contract: too few bytes for an account, one that does not pass, or as its bank's four bytes are.
+use Rattle.field_conditions.specs.Fields.{fielding}
 use borrow.Author.Needs.{needs}
-use Rattle.conditions.proofs.fields.is_foreign.Statement.{statement}
-use Rattle.conditions.proofs.fields.is_foreign.Tie as tie
+use Rattle.field_conditions.proofs.fields.is_foreign.Statement.{statement}
+use Rattle.field_conditions.proofs.fields.is_foreign.Tie as tie
 
 cast-a : tie.Need-cast-a
 cast-a c = search (fielding, needs)

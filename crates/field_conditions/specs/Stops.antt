@@ -21,7 +21,7 @@ use Rattle.forms.specs.Transfers.{transferHeld}
 use Rattle.forms.specs.declared.rows.Span.{Span}
 use Rattle.forms.specs.declared.detail.Detail.{Detail}
 use Rattle.forms.specs.declared.transfer.Transfer.{Transfer}
-use Rattle.conditions.specs.Fields.{foreign}
+use Rattle.field_conditions.specs.Fields.{foreign}
 
 -- ---- a number picked by a test, as a call answered it
 
@@ -68,20 +68,24 @@ transfer-stops s temporary t =
 
 -- ---- a detail
 
--- 5 to 8 of one detail of a bank, day being the date of the first; 9 where none holds
+-- above the conditions of a detail: none of them holds
+abbrev pub noStop : ℕ
+noStop = 9
+
+-- 5 to 8 of one detail of a bank, day being the date of the first; `noStop` where none holds
 unfoldable pub lowest : List ℕ → ℕ → M.Detail → ℕ
 lowest bank day d =
     cond (slashed (field21 d)) 5
     (cond (badSum (currency32B d) (d .amount)) 6
     (cond (foreignPayer bank d) 7
-    (cond (not (eqb (d .date) day)) 8 9)))
+    (cond (not (eqb (d .date) day)) 8 noStop)))
 
 abbrev pub detailStop : List ℕ → ℕ → Detail → ℕ
 detailStop s day d =
     cond (slashed (past ":21:" (lineIn s (d .spans) detail21))) 5
     (cond (badSum (take 3 (past ":32B:" (lineIn s (d .spans) detail32B))) (d .amount)) 6
     (cond (foreign (sender s) (lineIn s (d .spans) detail50H)) 7
-    (cond (not (eqb (d .date) day)) 8 9)))
+    (cond (not (eqb (d .date) day)) 8 noStop)))
 
 pub detail-lowest : (s : List ℕ) (day : ℕ) (d : Detail) → detailStop s day d ≡ lowest (sender s) day (detailHeld s d)
 unfolding lowest foreign foreignPayer

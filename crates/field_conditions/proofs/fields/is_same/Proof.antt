@@ -1,8 +1,8 @@
--- `conditions::fields::is_same` meets its contract: the part behind some bytes has the bytes that the definition drops to, and the text is a part of itself.
-use Rattle.conditions.specs.Fields.{fielding}
+-- `field_conditions::fields::is_same` meets its contract: the part behind some bytes has the bytes that the definition drops to, and the text is a part of itself.
+use Rattle.field_conditions.specs.Fields.{fielding}
 use borrow.Author.Needs.{needs}
-use Rattle.conditions.proofs.fields.is_same.Statement.{statement}
-use Rattle.conditions.proofs.fields.is_same.Tie as tie
+use Rattle.field_conditions.proofs.fields.is_same.Statement.{statement}
+use Rattle.field_conditions.proofs.fields.is_same.Tie as tie
 
 behind-requires : tie.Need-behind-requires
 behind-requires c κs = search (fielding, needs)

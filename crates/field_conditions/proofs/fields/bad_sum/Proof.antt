@@ -1,8 +1,8 @@
--- `conditions::fields::bad_sum` meets its contract: amount 0, too few bytes for a currency, or as the three bytes are.
-use Rattle.conditions.specs.Fields.{fielding}
+-- `field_conditions::fields::bad_sum` meets its contract: amount 0, too few bytes for a currency, or as the three bytes are.
+use Rattle.field_conditions.specs.Fields.{fielding}
 use borrow.Author.Needs.{needs}
-use Rattle.conditions.proofs.fields.bad_sum.Statement.{statement}
-use Rattle.conditions.proofs.fields.bad_sum.Tie as tie
+use Rattle.field_conditions.proofs.fields.bad_sum.Statement.{statement}
+use Rattle.field_conditions.proofs.fields.bad_sum.Tie as tie
 
 cast-a : tie.Need-cast-a
 cast-a c = search (fielding, needs)

@@ -1,8 +1,8 @@
--- `conditions::stops::detail_stop` meets its contract: the tests are those of the definition, in its order.
-use Rattle.conditions.specs.Stops.{stopping}
+-- `field_conditions::stops::transfer_stop` meets its contract: the tests are those of the definition, in its order.
+use Rattle.field_conditions.specs.Stops.{stopping}
 use borrow.Author.Needs.{needs}
-use Rattle.conditions.proofs.stops.detail_stop.Statement.{statement}
-use Rattle.conditions.proofs.stops.detail_stop.Tie as tie
+use Rattle.field_conditions.proofs.stops.transfer_stop.Statement.{statement}
+use Rattle.field_conditions.proofs.stops.transfer_stop.Tie as tie
 
 element-copy-out-slashed-behind : tie.Need-element-copy-out-slashed-behind
 element-copy-out-slashed-behind c = search (stopping, needs)
@@ -22,11 +22,11 @@ bad-sum-requires c κs = search (stopping, needs)
 returns-2 : tie.Need-returns-2
 returns-2 c = search (stopping, needs)
 
-element-copy-out-is-foreign : tie.Need-element-copy-out-is-foreign
-element-copy-out-is-foreign c = search (stopping, needs)
+element-copy-out-is-same : tie.Need-element-copy-out-is-same
+element-copy-out-is-same c = search (stopping, needs)
 
-is-foreign-requires : tie.Need-is-foreign-requires
-is-foreign-requires c κs = search (stopping, needs)
+is-same-requires : tie.Need-is-same-requires
+is-same-requires c κs = search (stopping, needs)
 
 returns-3 : tie.Need-returns-3
 returns-3 c = search (stopping, needs)
@@ -34,11 +34,8 @@ returns-3 c = search (stopping, needs)
 returns-4 : tie.Need-returns-4
 returns-4 c = search (stopping, needs)
 
-returns-5 : tie.Need-returns-5
-returns-5 c = search (stopping, needs)
-
-pub detail-stop-spec : {M : Type 1} → statement M
-detail-stop-spec =
+pub transfer-stop-spec : {M : Type 1} → statement M
+transfer-stop-spec =
     tie.close
     (tie.spec
     element-copy-out-slashed-behind
@@ -47,8 +44,7 @@ detail-stop-spec =
     element-copy-out-bad-sum
     bad-sum-requires
     returns-2
-    element-copy-out-is-foreign
-    is-foreign-requires
+    element-copy-out-is-same
+    is-same-requires
     returns-3
-    returns-4
-    returns-5)
+    returns-4)

@@ -1,8 +1,8 @@
--- `conditions::fields::slashed_behind` meets its contract: the part behind some bytes has the bytes that the definition drops to.
-use Rattle.conditions.specs.Fields.{fielding}
+-- `field_conditions::fields::slashed_behind` meets its contract: the part behind some bytes has the bytes that the definition drops to.
+use Rattle.field_conditions.specs.Fields.{fielding}
 use borrow.Author.Needs.{needs}
-use Rattle.conditions.proofs.fields.slashed_behind.Statement.{statement}
-use Rattle.conditions.proofs.fields.slashed_behind.Tie as tie
+use Rattle.field_conditions.proofs.fields.slashed_behind.Statement.{statement}
+use Rattle.field_conditions.proofs.fields.slashed_behind.Tie as tie
 
 behind-requires : tie.Need-behind-requires
 behind-requires c κs = search (fielding, needs)
