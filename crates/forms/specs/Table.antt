@@ -1,5 +1,5 @@
 -- The table of rows as the code holds it, and that it is document 01's.
-use mathlib.Core.Path.{_≡_, refl, _∙_}
+use mathlib.Core.Path.{_≡_, refl}
 use mathlib.Core.Bool.{Bool, true, false}
 use mathlib.Core.List.{List, [], _∷_, _++_, map}
 use Prim.Native.Nat.{ℕ, zero, suc, _+_, _-_, _*_, _/_, _%_, _^_, _≤_, _<_}
@@ -9,13 +9,14 @@ use native.Mathlib.Numerals.{add-one}
 use lib.Dec.{leb, eqb}
 use lib.ListN.{length, getD, take, drop}
 use lib.Seq.{drop-cons}
-use borrow.Author.Tests.{leb-true, eqb-true, eq-eqb, ne-eqb}
+use borrow.Author.Tests.{leb-true, eqb-true}
 use Rattle.rules.specs.Text.{ascii, numberFrom, number, fitsSign, fits}
 use Rattle.rules.specs.Forms as F
 use Rattle.rules.specs.Forms.{nothing, text, reference, account, name, sum, transferRows, detailRows}
 use Rattle.laws.specs.Parts.{cut}
-use Rattle.laws.specs.Reading.{fits-pairs, pairs-more, pairs-bad, pairs-end}
+use Rattle.laws.specs.Reading.{fits-pairs, pairs-more}
 use Rattle.laws.specs.Tables.{below, below-at}
+use Rattle.laws.specs.Places.{pairs-before, pairs-out}
 use Rattle.forms.specs.declared.table.Rest.{Rest}
 use Rattle.forms.specs.declared.table.Rest.the-variants.{Nothing, Text, Reference, Account, Name, Sum}
 use Rattle.forms.specs.declared.table.Row.{Row}
@@ -162,10 +163,10 @@ module _ (b : ℕ) (s : List ℕ) (a n k : ℕ) (x : Bool) (inv : fits (cut head
     head-more d = pairs-more fits fitsSign fits-pairs heads s b a n k x inv h (omega (arith, heads-length)) m q sign-held d
 
     pub head-bad : q ≡ false → eqb k n ≡ x
-    head-bad d = ne-eqb k n (λ (z : k ≡ n). omega arith) ∙ pairs-bad fits fitsSign fits-pairs heads s b a n k x inv h (omega (arith, heads-length)) m q sign-held d
+    head-bad d = pairs-before fits fitsSign fits-pairs heads s b a n k x inv h (omega (arith, heads-length)) m q sign-held d
 
   pub head-end : k ≤ n → n ≤ k → eqb k n ≡ x
-  head-end h l = eq-eqb k n (omega arith) ∙ pairs-end fits fitsSign fits-pairs heads s b a n k x inv h l
+  head-end = pairs-out fits fitsSign fits-pairs heads s b a n k x inv
 
 pub ruleset signs = (add-zero, sign-told, head-more, head-bad, head-end)
 

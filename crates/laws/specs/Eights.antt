@@ -1,7 +1,7 @@
 -- Bytes that all pass a test, gone through eight at a time and the rest by itself: a law for each way on and out.
-use mathlib.Core.Path.{_≡_, refl, sym, ap, _∙_}
+use mathlib.Core.Path.{_≡_, sym, ap, _∙_}
 use mathlib.Core.Bool.{Bool, true, false, cond}
-use mathlib.Core.List.{List, [], _∷_, _++_}
+use mathlib.Core.List.{List}
 use Prim.Native.Nat.{ℕ, _+_, _-_, _*_, _/_, _≤_, _<_}
 use native.Mathlib.Omega.{arith}
 use lib.Bits.{bitOr}
@@ -11,23 +11,16 @@ use borrow.Author.Tests.{eq-eqb, ne-eqb}
 use Rattle.rules.specs.Text.{every}
 use Rattle.laws.specs.Parts.{cut, cut-take, cut-drop, cut-done}
 use Rattle.laws.specs.Ors.{or-zero}
+use Rattle.laws.specs.Every.{every-append}
+use Rattle.laws.specs.Places.{place-before, place-end}
 
 module _ (p : ℕ → Bool) where
-  every-append : (xs ys : List ℕ) → every p (xs ++ ys) ≡ cond (every p xs) (every p ys) false
-  unfolding every
-  every-append [] ys = refl
-  every-append (x ∷ xs) ys = rw (every-append xs ys) (go (p x) (every p xs) (every p ys))
-    where
-      go : (q r t : Bool) → cond q (cond r t false) false ≡ cond (cond q r false) t false
-      go true r t = refl
-      go false r t = refl
-
   -- two parts, one behind the other
   pub every-two : (s : List ℕ) (a b c : ℕ) → a ≤ b → b ≤ c → every p (cut s a c) ≡ cond (every p (cut s a b)) (every p (cut s b c)) false
   every-two s a b c h k =
       let e : a + (b - a) ≡ b = omega arith in
       ap (every p) (sym (take-append-drop (b - a) (cut s a c)))
-      ∙ every-append (take (b - a) (cut s a c)) (drop (b - a) (cut s a c))
+      ∙ every-append p (take (b - a) (cut s a c)) (drop (b - a) (cut s a c))
       ∙ rw (cut-take s a c (b - a) (omega arith), cut-drop s a c (b - a), e)
 
   -- two fours told by their ors
@@ -48,13 +41,11 @@ module _ (p : ℕ → Bool) where
       eights-more d = rw d at both
 
       pub eights-before : t ≡ false → eqb k n ≡ x
-      eights-before d = ne-eqb k n (λ (q : k ≡ n). omega arith) ∙ (rw d at both)
+      eights-before d = place-before k n x h (rw d at both)
 
     pub eights-end : k ≤ n → n ≤ k → eqb k n ≡ x
     unfolding every
-    eights-end i j =
-        let e : k ≡ n = omega arith in
-        eq-eqb k n e ∙ (rw (cut-done s (a + 8 * k) (a + 8 * n) (omega arith) (omega arith)) at inv)
+    eights-end i j = place-end k n x i j (rw (cut-done s (a + 8 * k) (a + 8 * n) (omega arith) (omega arith)) at inv)
 
   -- the eights of a part, r of which passed, and the rest
   module _ (s : List ℕ) (a b r : ℕ) (l : a ≤ b) (u : eqb r ((b - a) / 8) ≡ every p (cut s a (a + 8 * ((b - a) / 8)))) where

@@ -1,33 +1,38 @@
 -- Bytes that all pass a test: of texts joined, of parts, of a wider class.
 use mathlib.Core.Path.{_≡_, refl}
-use mathlib.Core.Bool.{Bool, true}
+use mathlib.Core.Bool.{Bool, true, false, cond}
 use mathlib.Core.List.{List, [], _∷_, _++_}
-use Prim.Native.Nat.{ℕ, zero, suc, _+_, _-_, _≤_, _<_}
+use Prim.Native.Nat.{ℕ, suc, _+_, _-_, _≤_, _<_}
 use native.Mathlib.Omega.{arith}
 use lib.Dec.{leb}
-use lib.ListN.{length, getD, take, drop}
+use lib.ListN.{length, getD, take, drop, take-append-drop}
 use borrow.Author.Tests.{leb-true}
 use Rattle.rules.specs.Text.{every}
 use Rattle.laws.specs.Parts.{cut, cut-cut, cut-step}
 use Rattle.laws.specs.Tests.{cond-left, cond-right}
 
 module _ (p : ℕ → Bool) where
-  pub every-join : (a b : List ℕ) → every p a ≡ true → every p b ≡ true → every p (a ++ b) ≡ true
+  pub every-append : (a b : List ℕ) → every p (a ++ b) ≡ cond (every p a) (every p b) false
   unfolding every
-  every-join [] b h k = k
-  every-join (c ∷ a) b h k = rw (cond-left (p c) (every p a) h) (every-join a b (cond-right (p c) (every p a) h) k)
+  every-append [] b = refl
+  every-append (c ∷ a) b = rw (every-append a b) (go (p c))
+    where
+      go : (q : Bool) → cond q (cond (every p a) (every p b) false) false ≡ cond (cond q (every p a) false) (every p b) false
+      go true = refl
+      go false = refl
+
+  pub every-join : (a b : List ℕ) → every p a ≡ true → every p b ≡ true → every p (a ++ b) ≡ true
+  every-join a b h k = rw (every-append, h, k)
+
+  -- its first n, and the others
+  split : (n : ℕ) (a : List ℕ) → every p a ≡ true → cond (every p (take n a)) (every p (drop n a)) false ≡ true
+  split n a h = rw (← every-append (take n a) (drop n a), take-append-drop n a) h
 
   pub every-take : (n : ℕ) (a : List ℕ) → every p a ≡ true → every p (take n a) ≡ true
-  unfolding every
-  every-take zero a h = refl
-  every-take (suc n) [] h = refl
-  every-take (suc n) (c ∷ a) h = rw (cond-left (p c) (every p a) h) (every-take n a (cond-right (p c) (every p a) h))
+  every-take n a h = cond-left _ _ (split n a h)
 
   pub every-drop : (n : ℕ) (a : List ℕ) → every p a ≡ true → every p (drop n a) ≡ true
-  unfolding every
-  every-drop zero a h = h
-  every-drop (suc n) [] h = refl
-  every-drop (suc n) (c ∷ a) h = every-drop n a (cond-right (p c) (every p a) h)
+  every-drop n a h = cond-right (every p (take n a)) _ (split n a h)
 
   -- a part of a part, and one byte of it
   pub every-within : (s : List ℕ) (a b i j : ℕ) → every p (cut s a b) ≡ true → a ≤ i → i ≤ j → j ≤ b → every p (cut s i j) ≡ true

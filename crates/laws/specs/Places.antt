@@ -15,10 +15,10 @@ use Rattle.laws.specs.Every.{every-join}
 use Rattle.laws.specs.Reading.{every-more, every-bad, every-end, run-short, run-long, run-each, Pairs, pairs-bad, pairs-end}
 
 -- it stopped before the end, where the test fails; it came to the end, where the test holds
-place-before : (k n : ℕ) (x : Bool) → k < n → false ≡ x → eqb k n ≡ x
+pub place-before : (k n : ℕ) (x : Bool) → k < n → false ≡ x → eqb k n ≡ x
 place-before k n x h e = ne-eqb k n (λ (q : k ≡ n). omega arith) ∙ e
 
-place-end : (k n : ℕ) (x : Bool) → k ≤ n → n ≤ k → true ≡ x → eqb k n ≡ x
+pub place-end : (k n : ℕ) (x : Bool) → k ≤ n → n ≤ k → true ≡ x → eqb k n ≡ x
 place-end k n x h l e = let q : k ≡ n = omega arith in eq-eqb k n q ∙ e
 
 -- ---- each byte passes a test
