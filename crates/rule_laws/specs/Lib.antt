@@ -3,6 +3,7 @@ pub mod Dates
 pub mod Lines
 pub mod Messages
 pub mod Registers
+pub mod Verdicts
 pub mod Keys
 pub mod Conditions
 pub mod Clear

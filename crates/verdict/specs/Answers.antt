@@ -1,19 +1,17 @@
 -- Document 01's verdict for each case of the code's, and for each number that keeps one.
-use mathlib.Core.Path.{_≡_, refl, sym, ap, _∙_}
-use mathlib.Core.Bool.{Bool, true, false, not, cond}
+use mathlib.Core.Path.{_≡_, sym, ap, _∙_}
+use mathlib.Core.Bool.{cond}
 use mathlib.Core.List.{List}
-use mathlib.Core.Option.{Option, none, some}
 use Prim.Native.Nat.{ℕ, _+_, _-_, _*_, _<_}
 use native.Mathlib.Omega.{arith}
 use lib.Dec.{eqb}
 use lib.ListN.{length, getD, take}
 use borrow.Author.Tests.{ne-eqb}
-use Rattle.rules.specs.Accounts.{control}
-use Rattle.rules.specs.Register.{Register, registerOf}
+use Rattle.rules.specs.Register.{registerOf}
 use Rattle.rules.specs.Verdict as paper
-use Rattle.rules.specs.Verdict.{found, accountAt, shaped, inBounds, judged, verdict}
+use Rattle.rules.specs.Verdict.{verdict}
+use Rattle.rule_laws.specs.Verdicts.{AccountFound, credited-to}
 use Rattle.details.specs.Lines.{lineAt}
-use Rattle.verdict.specs.Judging.{found-below}
 use Rattle.verdict.specs.declared.Cause.{Cause}
 use Rattle.verdict.specs.declared.Cause.the-variants.{WrongShape, WrongControl, NotInRegister, OutOfBounds}
 use Rattle.verdict.specs.declared.Verdict.{Verdict}
@@ -68,29 +66,16 @@ judgedIn amounts places verdicts i = record { amount = getD amounts i 0; branch 
 
 -- ---- a credited detail's account line is one of the register's
 
-never : {A : Type 0} {c : paper.Cause} {i : ℕ} → paper.returned c ≡ paper.credited i → A
-never h = absurd (let z : _≡_ {A = ℕ} 0 1 = cc in omega arith)
-
-credited-listed : (r : Register) (cs : List ℕ) (i : ℕ) → verdict r cs ≡ paper.credited i → i < length (r .accounts)
-unfolding verdict judged
-credited-listed r cs i h = go (shaped cs) (control (take 22 cs)) (found (take 22 cs) 0 (r .accounts)) refl h
-  where
-    last : (j : ℕ) (b : Bool) → found (take 22 cs) 0 (r .accounts) ≡ some j → cond b (paper.credited j) (paper.returned paper.outOfBounds) ≡ paper.credited i → i < length (r .accounts)
-    last j true f k = let q : j ≡ i = cc in let m : j < 0 + length (r .accounts) = found-below (take 22 cs) 0 (r .accounts) j f in omega arith
-    last j false f k = never k
-
-    go : (t u : Bool) (o : Option ℕ) → found (take 22 cs) 0 (r .accounts) ≡ o → cond (not t) (paper.returned paper.wrongShape) (cond (not u) (paper.returned paper.wrongControl) (judged r cs o)) ≡ paper.credited i → i < length (r .accounts)
-    go true true (some j) f k = last j (inBounds (accountAt r j) cs) f k
-    go true true none f k = never k
-    go true false o f k = never k
-    go false u o f k = never k
-
 -- the line that a verdict names
 pub record Listed (text : List ℕ) (v : Verdict) : Type 0 where
   pub line : (i : ℕ) → v ≡ Credited i → i < length (registerOf text .accounts)
 
 pub listed : (text cs : List ℕ) (v : Verdict) → verdictOf v ≡ verdict (registerOf text) cs → Listed text v
-listed text cs v h = record { line = λ i e. credited-listed (registerOf text) cs i (sym h ∙ ap verdictOf e) }
+listed text cs v h = record {
+  line = λ i e.
+    let f : AccountFound (take 22 cs) 0 i (registerOf text .accounts) = credited-to (registerOf text) cs i (sym h ∙ ap verdictOf e) .line in
+    omega (arith, f .index, f .listed);
+}
 
 pub listed-line : (text : List ℕ) (v : Verdict) (i : ℕ) → Listed text v → v ≡ Credited i → i < length (registerOf text .accounts)
 listed-line text v i l e = l .line i e

@@ -3,8 +3,7 @@ use mathlib.Core.Path.{_≡_, refl, sym, ap, _∙_}
 use mathlib.Core.Logic.{_⊎_, inl, inr}
 use mathlib.Core.Bool.{Bool, true, false, _&&_, _||_, not, cond, and-true}
 use mathlib.Core.List.{List, [], _∷_}
-use mathlib.Core.Option.{some}
-use Prim.Native.Nat.{ℕ, suc, _+_, _-_, _≤_, _<_}
+use Prim.Native.Nat.{ℕ, _+_, _-_, _≤_, _<_}
 use native.Mathlib.Omega.{arith}
 use lib.Dec.{leb}
 use lib.ListN.{length, take, drop, length-take, length-drop}
@@ -14,9 +13,10 @@ use Rattle.rules.specs.Accounts.{ibanShape, control}
 use Rattle.rules.specs.Register.{Account, Register}
 use Rattle.rules.specs.Verdict.{found, accountAt, shaped, inBounds, judged, verdict, wrongShape, wrongControl, notInRegister, outOfBounds, credited, returned}
 use Rattle.laws.specs.Parts.{cut, cut-take, cut-drop, cut-done, cut-length}
-use Rattle.laws.specs.Tests.{and-left, and-right, not-held, none-some}
+use Rattle.laws.specs.Tests.{and-left, and-right, not-held}
 use Rattle.laws.specs.Reading.{fits-length}
 use Rattle.laws.specs.Equal.{equal-true}
+use Rattle.rule_laws.specs.Verdicts.{AccountFound, account-found}
 use Rattle.register.specs.Answers.{foundOf}
 use Rattle.register.specs.AccountLine.{bound}
 use Rattle.register.specs.Places.{boundAt}
@@ -136,17 +136,8 @@ code-missing s a b k e x = rw (cut-drop s a b 22, cut-done s (a + 22) b (omega a
 
 -- ---- the search
 
-pub found-below : (iban : List ℕ) (n : ℕ) (xs : List Account) (i : ℕ) → found iban n xs ≡ some i → i < n + length xs
-unfolding found
-found-below iban n [] i h = none-some h
-found-below iban n (x ∷ xs) i h = go (equal (x .iban) iban) h (found-below iban (n + 1) xs i)
-  where
-    go : (t : Bool) → cond t (some n) (found iban (n + 1) xs) ≡ some i → (found iban (n + 1) xs ≡ some i → i < n + 1 + length xs) → i < n + suc (length xs)
-    go true e f = let m : n ≡ i = cc in omega arith
-    go false e f = let m : i < n + 1 + length xs = f e in omega arith
-
 pub found-listed : (q : Found) (iban : List ℕ) (xs : List Account) → foundOf q ≡ found iban 0 xs → (i : ℕ) → q ≡ At i → i < length xs
-found-listed q iban xs e i w = let m : i < 0 + length xs = found-below iban 0 xs i (sym e ∙ ap foundOf w) in omega arith
+found-listed q iban xs e i w = let f : AccountFound iban 0 i xs = account-found iban 0 i xs (sym e ∙ ap foundOf w) in omega (arith, f .index, f .listed)
 
 -- ---- the verdict
 
