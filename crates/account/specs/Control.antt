@@ -12,7 +12,7 @@ use borrow.Author.Tests.{le-leb, lt-leb, eq-eqb, ne-eqb}
 use Rattle.rules.specs.Text.{isDigit, isLetter, isAlnum, between, every}
 use Rattle.rules.specs.Accounts.{withSign, numeral, remainder, control, ibanShape, passes}
 use Rattle.laws.specs.Parts.{cut, cut-step, cut-done, cut-get, cut-take, cut-drop, cut-join}
-use Rattle.laws.specs.Tests.{between-low, between-high, held-told}
+use Rattle.laws.specs.Tests.{between-low, between-high, holds-told}
 use Rattle.laws.specs.Reading.{digit-low, digit-high}
 use Rattle.laws.specs.Every.{every-front, every-piece, every-head, every-at}
 use Rattle.account.specs.Shape.{Shaped, shape-told, told-control, told-bank, told-branch, told-account}
@@ -252,4 +252,4 @@ module _ (cs : List ℕ) (t : Bool) (u : t ≡ ibanShape cs) where
 
 pub ruleset carrying = (digit-low, digit-is, letter-low, letter-is, two-is, pair-carried, letters-carried, sign-digit, carried-digit, sign-letter, carried-letter, signs-2, runs-6, runs-8, every-front, every-piece, every-head, every-at)
 
-pub ruleset controls = (shape-told, told-control, told-bank, told-branch, told-account, runs-tail, control-not, control-low, control-high, passes-shaped, passes-not, held-told)
+pub ruleset controls = (shape-told, told-control, told-bank, told-branch, told-account, runs-tail, control-not, control-low, control-high, passes-shaped, passes-not, holds-told)

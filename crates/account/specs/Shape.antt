@@ -10,7 +10,7 @@ use borrow.Author.Tests.{eq-eqb, ne-eqb, eqb-true}
 use Rattle.rules.specs.Text.{ascii, isDigit, isLetter, isAlnum, every, fits, fitsSign}
 use Rattle.rules.specs.Accounts.{isBic, ibanShape}
 use Rattle.laws.specs.Parts.{cut}
-use Rattle.laws.specs.Tests.{and-left, and-right, cond-left, cond-right, and-held, and-off}
+use Rattle.laws.specs.Tests.{and-left, and-right, cond-left, cond-right, and-holds, and-off}
 use Rattle.laws.specs.Reading.{fits-short}
 use Rattle.laws.specs.Places.{Passed}
 use Rattle.laws.specs.Patterns.{cond-and, digit-sign, letter-sign, alnum-sign, fits-sign, fits-run, fits-last, run-on, run-off}
@@ -129,4 +129,4 @@ module _ (s : List ℕ) (at : ℕ) (l : at + 22 ≤ length s) (h : ibanShape (cu
   pub told-account : every isAlnum (cut s (at + 14) (at + 14 + 8)) ≡ true
   told-account = shape-told s at l h .account
 
-pub ruleset shapes = (bic-short, bic-runs, head-first, head-second, head-digits, shape-short, shape-runs, run-on, run-off, and-held, and-off)
+pub ruleset shapes = (bic-short, bic-runs, head-first, head-second, head-digits, shape-short, shape-runs, run-on, run-off, and-holds, and-off)

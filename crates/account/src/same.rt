@@ -1,4 +1,4 @@
-// Two IBANs held against each other from the last byte on, where IBANs of one bank differ first.
+// Two IBANs compared with each other from the last byte on, where IBANs of one bank differ first.
 ghost use mathlib.Core.Path.{_≡_};
 ghost use Prim.Native.Nat.{_+_, _≤_};
 ghost use lib.Dec.{eqb};

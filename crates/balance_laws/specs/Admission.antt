@@ -10,7 +10,7 @@ use borrow.Author.Tests.{eqb-true, eqb-false, leb-true, not-false}
 use Rattle.rules.specs.Text.{ascii, any, equal}
 use Rattle.rules.specs.Messages.{Message, mt103, mt101, Detail, currency32B, read, sumOf}
 use Rattle.rules.specs.Engine.{Engine, limit, lastBank, isBank}
-use Rattle.rules.specs.Calls.{bankOf, misdated, badSum, badAmount, overLimit, after}
+use Rattle.rules.specs.Calls.{bankOf, misdated, badSum, badAmount, overLimit, positionAfter}
 use Rattle.laws.specs.Tests.{and-right}
 use Rattle.engine_laws.specs.Facts.{or-left, or-right, any-left}
 use Rattle.engine_laws.specs.Limits.{Limits, bank-small}
@@ -26,7 +26,7 @@ small-sum : (v w : ℕ) → leb (v + w) limit ≡ true → w < 10 ^ 20
 small-sum v w h = omega (arith, leb-true (v + w) limit h)
 
 pub postable : (room : ℕ) (e : Engine) (s : List ℕ) (m : Message) → Limits e → read s ≡ some m → Clear room e s m → Postable e m
-unfolding bookOf isBank overLimit after
+unfolding bookOf isBank overLimit positionAfter
 postable room e s m l r c =
     let a : Has s m = read-has s m r in
     let b : isBank (bankOf m) ≡ true = rw (a .sent) (sender-bank s (c .frame)) in record {
@@ -37,7 +37,7 @@ postable room e s m l r c =
       };
       details = read-sent (read-as s m r);
       transferred = small-sum _ _ (not-false _ (or-left _ _ (c .under)));
-      detailed = small-sum _ _ (not-false _ (or-right (not (leb (after e m .transferred) limit)) _ (c .under)));
+      detailed = small-sum _ _ (not-false _ (or-right (not (leb (positionAfter e m .transferred) limit)) _ (c .under)));
     }
 
 pub admitted : (room : ℕ) (e : Engine) (s : List ℕ) (m : Message) → ReadAs s m → Clear room e s m → Admitted (e .day) m

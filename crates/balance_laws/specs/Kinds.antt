@@ -9,7 +9,7 @@ use native.Mathlib.Omega.{arith}
 use lib.Dec.{eqb}
 use lib.ListN.{length}
 use borrow.Author.Tests.{eqb-true, eqb-false}
-use Rattle.rules.specs.Text.{equal, bytes, number}
+use Rattle.rules.specs.Text.{equal, bytes, bigEndian}
 use Rattle.rules.specs.Accounts.{isBic, ibanShape}
 use Rattle.rules.specs.Lines.{Line, lines}
 use Rattle.rules.specs.Engine.{bic}
@@ -104,7 +104,7 @@ equal-banks x y h k = go (eqb x y) refl (equal (bic x) (bic y)) refl
     go : (s : Bool) → eqb x y ≡ s → (t : Bool) → equal (bic x) (bic y) ≡ t → t ≡ s
     go true e t d = sym d ∙ rw (eqb-true x y e) (equal-same (bic y))
     go false e true d =
-        absurd (eqb-false x y e (sym (number-bytes 8 x h) ∙ ap number (equal-true (bic x) (bic y) d) ∙ number-bytes 8 y k))
+        absurd (eqb-false x y e (sym (number-bytes 8 x h) ∙ ap bigEndian (equal-true (bic x) (bic y) d) ∙ number-bytes 8 y k))
     go false e false d = refl
 
 -- what is needed of a book to read its lines back

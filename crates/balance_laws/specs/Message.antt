@@ -9,7 +9,7 @@ use Rattle.rules.specs.Register.{Register, registerOf}
 use Rattle.rules.specs.Verdict.{Verdict, credited, returned, isReturned, accountAt}
 use Rattle.rules.specs.Engine.{Engine, bic}
 use Rattle.rules.specs.Written.{Book, posting, verdicts}
-use Rattle.rules.specs.Calls.{bankOf, verdictOf, returnedOf, detailPosting, detailPostings, postings, hasVerdict, after, messageText}
+use Rattle.rules.specs.Calls.{bankOf, verdictOf, returnedOf, detailPosting, detailPostings, postings, hasVerdict, positionAfter, messageText}
 use Rattle.rules.specs.Ledger.{Kind, Fed, isParty}
 use Rattle.engine_laws.specs.Layout.{All, All.none, All.more}
 use Rattle.balance_laws.specs.Told.{Tells, tells-none, tells-join, tells-same, tells-mute, Mute, mute-none}
@@ -87,12 +87,12 @@ pub record Postable (e : Engine) (m : Message) : Type 0 where
 
 module _ (e : Engine) (m : Message) (w : Postable e m) where
   -- the verdicts that follow tell nothing
-  mute-judged : Mute (cond (hasVerdict m (after e m)) (verdicts (e .day) (e .count) (after e m) (returnedOf (registerOf (e .register)) (detailsOf m))) [])
-  unfolding bookOf after
-  mute-judged = go (hasVerdict m (after e m))
+  mute-judged : Mute (cond (hasVerdict m (positionAfter e m)) (verdicts (e .day) (e .count) (positionAfter e m) (returnedOf (registerOf (e .register)) (detailsOf m))) [])
+  unfolding bookOf positionAfter
+  mute-judged = go (hasVerdict m (positionAfter e m))
     where
-      go : (t : Bool) → Mute (cond t (verdicts (e .day) (e .count) (after e m) (returnedOf (registerOf (e .register)) (detailsOf m))) [])
-      go true = mute-verdicts (e .day) (e .count) (after e m) (w .book .known) (returned-sent (registerOf (e .register)) (w .details))
+      go : (t : Bool) → Mute (cond t (verdicts (e .day) (e .count) (positionAfter e m) (returnedOf (registerOf (e .register)) (detailsOf m))) [])
+      go true = mute-verdicts (e .day) (e .count) (positionAfter e m) (w .book .known) (returned-sent (registerOf (e .register)) (w .details))
       go false = mute-none
 
   module _ (bank : ℕ) (f : Fed) (s : bank < 2 ^ 64) where

@@ -13,7 +13,7 @@ use Rattle.rules.specs.Messages.{Message, dateOf, transferredBy, detailedBy}
 use Rattle.rules.specs.Register.{registerOf}
 use Rattle.rules.specs.Text.{ordered}
 use Rattle.rules.specs.Engine.{Position, Engine, earlier, sameKey}
-use Rattle.rules.specs.Calls.{Stop, bankOf, added, afterMessage, afterTurn}
+use Rattle.rules.specs.Calls.{Stop, bankOf, addition, afterMessage, afterTurn}
 use Rattle.rules.specs.Area.{Result, cardMessage, cardTurn, holds}
 use Rattle.rules.specs.Ledger.{Fed, message, turn, Event, fedWith, enteredBy, ledgerFrom, isTurn, sinceTurn, listed, messageOf, accepted, sumOf}
 use Rattle.rules.specs.Demand3.{result}
@@ -21,7 +21,7 @@ use Rattle.laws.specs.Tests.{never}
 use Rattle.rule_laws.specs.Options.{some-is}
 use Rattle.engine_laws.specs.Layout.{All, All.none, All.more}
 use Rattle.engine_laws.specs.Limits.{Limits, limits}
-use Rattle.engine_laws.specs.Held.{held}
+use Rattle.engine_laws.specs.EngineIn.{engine-in}
 use Rattle.engine_laws.specs.Order.{ordered-sorted}
 use Rattle.engine_laws.specs.Positions.{Good, all-good, position-order}
 use Rattle.engine_laws.specs.Calls.{Stays, Ends, done-holds, done-text, Takes, message-there, message-ends, Turns, turn-there, turn-ends}
@@ -105,7 +105,7 @@ module _ (temporary area : List ℕ) (ledger : List Position) (sent : List Messa
       let e : Engine = t .engine in
       let m : Message = t .message in
       let g : Agrees temporary ledger sent turned e = agrees-at e (t .holding) in
-      let l : Limits e = limits e (held area e (t .holding) .good) in
+      let l : Limits e = limits e (engine-in area e (t .holding) .good) in
       let p : Postable e m = postable (length out) e s m l (t .reads) (t .clear) in
       record {
         next = rw (a, t .reads) record {
@@ -113,7 +113,7 @@ module _ (temporary area : List ℕ) (ledger : List Position) (sent : List Messa
           holding = done-holds (t .done);
           agrees = record {
             account = g .account;
-            same = entered-same (added m) (e .positions) ledger (l .order) (g .same);
+            same = entered-same (addition m) (e .positions) ledger (l .order) (g .same);
             history = history-message (g .history) m (admitted (length out) e s m (read-as s m (t .reads)) (t .clear)) (once (l .order) (g .same) (bankOf m) (dateOf m));
             settled = never;
           };
@@ -133,7 +133,7 @@ module _ (temporary area : List ℕ) (ledger : List Position) (sent : List Messa
       let t : Turns day area out = turn-there day area out (turn-ends day area out .accepted a) in
       let e : Engine = t .engine in
       let g : Agrees temporary ledger sent turned e = agrees-at e (t .holding) in
-      let l : Limits e = limits e (held area e (t .holding) .good) in
+      let l : Limits e = limits e (engine-in area e (t .holding) .good) in
       record {
         next = rw (a, append-nil sent) record {
           engine = afterTurn e day;

@@ -5,7 +5,7 @@ use Prim.Native.Nat.{ℕ, _+_}
 use native.Mathlib.Omega.{arith}
 use Rattle.rules.specs.Messages.{Message, transferredBy, detailedBy}
 use Rattle.rules.specs.Engine.{Position, raised, kept}
-use Rattle.rules.specs.Calls.{bankOf, added}
+use Rattle.rules.specs.Calls.{bankOf, addition}
 use Rattle.rules.specs.Ledger.{entered, transferredOf, detailedOf}
 use Rattle.rule_laws.specs.Keys.{same-keys}
 use Rattle.balance_laws.specs.Kinds.{mine}
@@ -34,7 +34,7 @@ bank-entered v bank q adds ledger =
 
 -- an accepted message
 pub message-settles : (bank : ℕ) (m : Message) (ledger : List Position)
-    → Settles bank (mine bank (bankOf m) (transferredBy m)) (mine bank (bankOf m) (detailedBy m)) ledger (entered (added m) ledger)
+    → Settles bank (mine bank (bankOf m) (transferredBy m)) (mine bank (bankOf m) (detailedBy m)) ledger (entered (addition m) ledger)
 unfolding mine only ofBank
 message-settles bank m ledger = record {
   balance =
@@ -42,10 +42,10 @@ message-settles bank m ledger = record {
         arith,
         transferred-tally bank ledger,
         detailed-tally bank ledger,
-        transferred-tally bank (entered (added m) ledger),
-        detailed-tally bank (entered (added m) ledger),
-        bank-entered transfers bank (added m) (λ p. refl) ledger,
-        bank-entered details bank (added m) (λ p. refl) ledger,
+        transferred-tally bank (entered (addition m) ledger),
+        detailed-tally bank (entered (addition m) ledger),
+        bank-entered transfers bank (addition m) (λ p. refl) ledger,
+        bank-entered details bank (addition m) (λ p. refl) ledger,
       );
 }
 

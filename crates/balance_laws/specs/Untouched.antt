@@ -11,7 +11,7 @@ use borrow.Author.Tests.{eqb-true, eqb-false, eq-eqb, ne-eqb, le-leb}
 use Rattle.rules.specs.Text.{any}
 use Rattle.rules.specs.Messages.{Message, mt103, mt101, Transfer, Order, dateOf, firstDate, transferredBy, detailedBy, detailsOf, sumOf}
 use Rattle.rules.specs.Engine.{Position, sameKey, hasDetails, kept}
-use Rattle.rules.specs.Calls.{bankOf, added}
+use Rattle.rules.specs.Calls.{bankOf, addition}
 use Rattle.rules.specs.Ledger.{entered, isDetails, untouched}
 use Rattle.engine_laws.specs.Layout.{All, All.none, All.more}
 use Rattle.balance_laws.specs.Each.{all-last, all-wider}
@@ -172,12 +172,12 @@ module _ (bank x d : ℕ) (t : Dates) (ledger : List Position) (l : many (keyed 
 
 module _ {day : ℕ} {ledger : List Position} {sent : List Message} (h : History day ledger sent) where
   held-message : (m : Message) → Admitted day m → many (keyed (bankOf m) (dateOf m)) ledger ≤ 1 → (bank : ℕ) (t : Dates)
-      → tally (free bank t) (entered (added m) ledger) ≡ untouchedIn bank t (sent ++ m ∷ []) (sent ++ m ∷ [])
+      → tally (free bank t) (entered (addition m) ledger) ≡ untouchedIn bank t (sent ++ m ∷ []) (sent ++ m ∷ [])
   unfolding dateOf transferredBy detailedBy detailsOf sumOf isDetails taken
   held-message (mt103 n) (transfer e) l bank t =
       let m : Message = mt103 n in
       let same : (d : ℕ) → any (isDetails bank d) (sent ++ m ∷ []) ≡ any (isDetails bank d) sent = λ d. any-last (isDetails bank d) sent m ∙ or-false (any (isDetails bank d) sent) in
-      let one : tally (free bank t) (entered (added m) ledger) ≡ tally (free bank t) ledger + cond (eqb (bankOf m) bank && t (n .date) && not (any (isDetails bank (n .date)) sent)) (n .amount) 0 =
+      let one : tally (free bank t) (entered (addition m) ledger) ≡ tally (free bank t) ledger + cond (eqb (bankOf m) bank && t (n .date) && not (any (isDetails bank (n .date)) sent)) (n .amount) 0 =
       free-transfer bank (bankOf m) (n .date) t ledger l (n .amount) sent (rw (← e) at (h .today (bankOf m))) in
       let all : untouchedIn bank t (sent ++ m ∷ []) sent ≡ untouchedIn bank t sent sent = untouched-same bank t t (sent ++ m ∷ []) sent (λ d. rw (same d)) sent in
       one ∙ rw (h .held bank t) (sym (untouched-last bank t (sent ++ m ∷ []) sent m ∙ rw (same (n .date), all)))
@@ -186,7 +186,7 @@ module _ {day : ℕ} {ledger : List Position} {sent : List Message} (h : History
       let x : ℕ = bankOf m in
       let d : ℕ = firstDate (o .details) in
       let u : Dates = taken bank x d t ledger l in
-      let one : tally (free bank t) (entered (added m) ledger) ≡ tally (free bank u) ledger = free-order bank x d t ledger l (sumOf (o .details)) v in
+      let one : tally (free bank t) (entered (addition m) ledger) ≡ tally (free bank u) ledger = free-order bank x d t ledger l (sumOf (o .details)) v in
       let all : untouchedIn bank t (sent ++ m ∷ []) sent ≡ untouchedIn bank u sent sent =
       untouched-same bank t u (sent ++ m ∷ []) sent (λ c. rw (any-last (isDetails bank c) sent m) (out (t c) (any (isDetails bank c) sent) (eqb x bank && eqb d c))) sent in
       one ∙ h .held bank u ∙ sym (untouched-last bank t (sent ++ m ∷ []) sent m ∙ omega (arith, all, nought (eqb x bank && t d && not (any (isDetails bank d) (sent ++ m ∷ [])))))
@@ -198,12 +198,12 @@ module _ {day : ℕ} {ledger : List Position} {sent : List Message} (h : History
       out true false false = refl
       out false a k = refl
 
-  today-message : (m : Message) → Admitted day m → (bank : ℕ) → leb 1 (tally (only (like (keyed bank day)) details) (entered (added m) ledger)) ≡ any (isDetails bank day) (sent ++ m ∷ [])
+  today-message : (m : Message) → Admitted day m → (bank : ℕ) → leb 1 (tally (only (like (keyed bank day)) details) (entered (addition m) ledger)) ≡ any (isDetails bank day) (sent ++ m ∷ [])
   unfolding like sameKey keyed only detailedBy detailsOf sumOf isDetails dateOf
   today-message m a bank =
       let k : Position = keyed bank day in
-      let e : tally (only (like k) details) (entered (added m) ledger) ≡ tally (only (like k) details) ledger + only (like k) details (added m) =
-      total-entered (like k) details (added m) (λ p. like-agrees k p (added m)) (λ p. refl) (λ p. refl) ledger in
+      let e : tally (only (like k) details) (entered (addition m) ledger) ≡ tally (only (like k) details) ledger + only (like k) details (addition m) =
+      total-entered (like k) details (addition m) (λ p. like-agrees k p (addition m)) (λ p. refl) (λ p. refl) ledger in
       rw (e, any-last (isDetails bank day) sent m, ← h .today bank) (go a)
     where
       D : ℕ
@@ -213,11 +213,11 @@ module _ {day : ℕ} {ledger : List Position} {sent : List Message} (h : History
       more v true l = rw (le-leb 1 (D + v) (omega arith), or-true)
       more v false l = rw (add-zero, or-false)
 
-      go : {m : Message} → Admitted day m → leb 1 (D + only (like (keyed bank day)) details (added m)) ≡ (leb 1 D || isDetails bank day m)
+      go : {m : Message} → Admitted day m → leb 1 (D + only (like (keyed bank day)) details (addition m)) ≡ (leb 1 D || isDetails bank day m)
       go (transfer {t = t} q) = rw (nought (eqb (bankOf (mt103 t)) bank && eqb (t .date) day), add-zero, or-false)
       go (order {o = o} q v) = more (sumOf (o .details)) (eqb (bankOf (mt101 o)) bank && eqb (firstDate (o .details)) day) v
 
-  pub history-message : (m : Message) → Admitted day m → many (keyed (bankOf m) (dateOf m)) ledger ≤ 1 → History day (entered (added m) ledger) (sent ++ m ∷ [])
+  pub history-message : (m : Message) → Admitted day m → many (keyed (bankOf m) (dateOf m)) ledger ≤ 1 → History day (entered (addition m) ledger) (sent ++ m ∷ [])
   unfolding dateOf
   history-message m a l = record { held = held-message m a l; today = today-message m a; past = all-last (h .past) (dated a) }
     where

@@ -24,12 +24,12 @@ pub record Answers (r : Result) (k n : ℕ) (d : ℤ) (a out : List ℕ) : Type 
 
 -- ---- any call, by its conditions
 
-module _ (ss : List Stop) (held : Option Engine) (a : Answer) (area out : List ℕ) where
-  pub answers-refused : (k : ℕ) → firstOf ss ≡ k → eqb k 0 ≡ false → Answers (onAreas (answered ss held a) area out) k 0 (pos 0) area out
+module _ (ss : List Stop) (engine : Option Engine) (a : Answer) (area out : List ℕ) where
+  pub answers-refused : (k : ℕ) → firstOf ss ≡ k → eqb k 0 ≡ false → Answers (onAreas (answered ss engine a) area out) k 0 (pos 0) area out
   unfolding onAreas
-  answers-refused k e n = rw (answered-refused ss held a k e n, n) record { number = refl; written = refl; difference = refl; area = refl; output = refl; small = lit< tt }
+  answers-refused k e n = rw (answered-refused ss engine a k e n, n) record { number = refl; written = refl; difference = refl; area = refl; output = refl; small = lit< tt }
 
   pub answers-accepted : {text : List ℕ} {d : ℤ} {next : Engine} → firstOf ss ≡ 0 → a ≡ record { number = 0; text = text; difference = d; next = some next } → {n : ℕ} {z : ℤ} {area' out' : List ℕ}
-      → n ≡ length text → z ≡ d → area' ≡ encode next ++ drop areaSize area → out' ≡ over text out → mag z < 2 ^ 63 → Answers (onAreas (answered ss held a) area out) 0 n z area' out'
+      → n ≡ length text → z ≡ d → area' ≡ encode next ++ drop areaSize area → out' ≡ over text out → mag z < 2 ^ 63 → Answers (onAreas (answered ss engine a) area out) 0 n z area' out'
   unfolding onAreas stored
-  answers-accepted e f w d r o m = rw (answered-accepted ss held a e, f) record { number = refl; written = w; difference = d; area = r; output = o; small = m }
+  answers-accepted e f w d r o m = rw (answered-accepted ss engine a e, f) record { number = refl; written = w; difference = d; area = r; output = o; small = m }

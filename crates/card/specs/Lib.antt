@@ -1,6 +1,6 @@
 pub mod Answers
 pub mod Minus
-pub mod Held
+pub mod Measured
 pub mod Opening
 pub mod Message
 pub mod Turn

@@ -14,17 +14,17 @@ use Rattle.rules.specs.Text.{isSome, over}
 use Rattle.rules.specs.Messages.{Message, read}
 use Rattle.rules.specs.Register.{registerOf}
 use Rattle.rules.specs.Engine.{Engine, Position}
-use Rattle.rules.specs.Calls.{firstOf, holdsOf, bankOf, added, formStops, inputStops, limitStops, roomStops, stateStops, messageStops, messageText, writes, after, afterMessage, messageCall, bothOf, acceptedMessage}
+use Rattle.rules.specs.Calls.{firstOf, holdsOf, bankOf, addition, formStops, inputStops, limitStops, roomStops, stateStops, messageStops, messageText, messagesWritten, positionAfter, afterMessage, messageCall, bothOf, acceptedMessage}
 use Rattle.rules.specs.Area.{cardMessage, encode, decode, holds, areaSize}
 use Rattle.laws.specs.Parts.{cut}
-use Rattle.laws.specs.Tests.{held-told}
+use Rattle.laws.specs.Tests.{holds-told}
 use Rattle.laws.specs.Writing.{wrote-over, furthest}
 use Rattle.rule_laws.specs.Conditions.{numbered, first-later, first-earlier}
 use Rattle.rule_laws.specs.Clear.{LimitClear, limit-clear}
-use Rattle.engine_laws.specs.Held.{held}
+use Rattle.engine_laws.specs.Decoded.{decoded, holds-decode}
 use Rattle.engine.specs.Totals.{TotalsOf}
 use Rattle.engine.specs.Texts.{RegisterOf}
-use Rattle.engine.specs.declared.held.Totals.{Totals}
+use Rattle.engine.specs.declared.lookup.Totals.{Totals}
 use Rattle.engine_change.specs.Booking.{CanBook, booking-clear, bookedWith, booked-after}
 use Rattle.engine.specs.References.{ofBank}
 use Rattle.outgoing_number.specs.declared.Numbered.{Numbered}
@@ -43,7 +43,7 @@ use Rattle.position.specs.Values.{keyValue, positionValue}
 use Rattle.position.specs.declared.Position as P
 use Rattle.card.specs.Answers.{Answers, answers-refused, answers-accepted}
 use Rattle.card.specs.Minus.{difference-small}
-use Rattle.card.specs.Held.{held-decode, wrote-exact, Measured, measured, size-long, size-fits}
+use Rattle.card.specs.Measured.{wrote-exact, Measured, measured, size-long, size-fits}
 
 -- the temporary account of an engine
 abbrev pub temporaryOf : Engine → List ℕ
@@ -91,7 +91,7 @@ module _ (s area out : List ℕ) where
       none-holds l w = state-are ∙ first-later _ _ limits-numbered l ∙ rw (le-leb _ _ w) refl
 
       pub message-accepted : {n : ℕ} {d : ℤ} {area' out' : List ℕ} → firstOf (limitStops e (some m)) ≡ 0 → length (messageText e m) ≤ length out
-          → n ≡ length (messageText e m) → d ≡ subℕ (after e m .transferred) (after e m .detailed)
+          → n ≡ length (messageText e m) → d ≡ subℕ (positionAfter e m .transferred) (positionAfter e m .detailed)
           → area' ≡ encode (afterMessage e m) ++ drop areaSize area → out' ≡ over (messageText e m) out → mag d < 2 ^ 63
           → Answers (cardMessage s area out) 0 n d area' out'
       unfolding cardMessage messageCall bothOf acceptedMessage
@@ -102,7 +102,7 @@ module _ (s area out : List ℕ) where
 -- a message that is booked: bytes, difference, area and output
 pub record Sent (s a out : List ℕ) (n : ℕ) (z : ℤ) (a' out' : List ℕ) : Type 0 where
   pub written : n ≡ length (messageText (decode a) (messageIn s))
-  pub difference : z ≡ subℕ (after (decode a) (messageIn s) .transferred) (after (decode a) (messageIn s) .detailed)
+  pub difference : z ≡ subℕ (positionAfter (decode a) (messageIn s) .transferred) (positionAfter (decode a) (messageIn s) .detailed)
   pub area : a' ≡ encode (afterMessage (decode a) (messageIn s)) ++ drop areaSize a
   pub output : out' ≡ over (messageText (decode a) (messageIn s)) out
   pub small : mag z < 2 ^ 63
@@ -113,9 +113,9 @@ pub record AreaBooked (s a a' : List ℕ) : Type 0 where
 
 -- p is the message's position as it leaves it
 pub record Leaves (a s : List ℕ) (p : P.Position) : Type 0 where
-  pub same : positionValue p ≡ after (decode a) (messageIn s)
-  pub few : p .transferred < 2 ^ 62
-  pub small : p .detailed < 2 ^ 62
+  pub same : positionValue p ≡ positionAfter (decode a) (messageIn s)
+  pub transferred-small : p .transferred < 2 ^ 62
+  pub detailed-small : p .detailed < 2 ^ 62
 
 -- a message that none of 1 to 15 stops, to be written and booked
 pub record Ready (s a : List ℕ) (b : Booking) (p : P.Position) (parts : ℕ) (amounts places verdicts : List ℕ) : Type 0 where
@@ -129,8 +129,8 @@ pub record Ready (s a : List ℕ) (b : Booking) (p : P.Position) (parts : ℕ) (
 pub leaves-told : (a s : List ℕ) (b : Booking) → Books s (messageIn s) b → (x : Totals) → TotalsOf (decode a .positions) (keyValue (b .key)) x → (p : P.Position) → AfterOf b x p → Leaves a s p
 leaves-told a s b k x y p q = record {
   same = after-is a s b k x y p q;
-  few = omega (arith, q .transferred, y .small, amount-part (b .transfer) (b .amount), k .small);
-  small = omega (arith, q .detailed, y .few, amount-part (not (b .transfer)) (b .amount), k .small);
+  transferred-small = omega (arith, q .transferred, y .transferred-small, amount-part (b .transfer) (b .amount), k .small);
+  detailed-small = omega (arith, q .detailed, y .detailed-small, amount-part (not (b .transfer)) (b .amount), k .small);
 }
 
 -- the register's own text
@@ -151,12 +151,12 @@ module _ (s area : List ℕ) (h : isSome (holds area) ≡ true) (b : Booking) {a
 
 module _ (s area : List ℕ) (h : isSome (holds area) ≡ true) where
   engine : holds area ≡ some (decode area)
-  engine = held-decode area h
+  engine = holds-decode area h
 
   module _ (b : Booking) (k : Books s (messageIn s) b) where
     -- the message's own parts
     module _ {p : P.Position} (u : p ≡ addedBy b) where
-      position-is : positionValue p ≡ added (messageIn s)
+      position-is : positionValue p ≡ addition (messageIn s)
       position-is = rw (u, ← k .key, k .transferred, k .detailed) refl
 
       bank-is : p .key .bank ≡ bankOf (messageIn s)
@@ -166,10 +166,10 @@ module _ (s area : List ℕ) (h : isSome (holds area) ≡ true) where
       pub booking-of : 0 ≡ firstOf (limitStops (decode area) (some (messageIn s))) → CanBook (decode area) (positionValue p)
       booking-of z =
           let c : LimitClear (decode area) (messageIn s) = limit-clear (decode area) (messageIn s) (sym z) in
-          rw position-is (booking-clear (decode area) (messageIn s) (held area (decode area) engine .good) (c .counted) (c .opens) (c .under))
+          rw position-is (booking-clear (decode area) (messageIn s) (decoded area h .good) (c .counted) (c .opens) (c .under))
 
       -- the area with the message
-      pub booked-done : {a' : List ℕ} {w : ℕ} → w ≡ decode area .count + writes (decode area) (messageIn s)
+      pub booked-done : {a' : List ℕ} {w : ℕ} → w ≡ decode area .count + messagesWritten (decode area) (messageIn s)
           → a' ≡ encode (bookedWith (decode area) (positionValue p) (ofBank (p .key .bank) (cut s (b .reference .start) (b .reference .end))) w) ++ drop areaSize area → AreaBooked s area a'
       booked-done f c = record { area = c ∙ rw (position-is, bank-is, k .reference, f, booked-after) refl }
 
@@ -180,22 +180,22 @@ sent-done {s} {area} {b} {p} m l w e c = record {
   difference = e ∙ ap (λ (x : Position). subℕ (x .transferred) (x .detailed)) (m .leaves .same);
   area = c .area;
   output = wrote-over (w .wrote) l;
-  small = rw e (difference-small (p .transferred) (p .detailed) (m .leaves .few) (m .leaves .small));
+  small = rw e (difference-small (p .transferred) (p .detailed) (m .leaves .transferred-small) (m .leaves .detailed-small));
 }
 
 -- ---- the ways out of a message that passed 1 to 8
 
 module _ (s area : List ℕ) (h : isSome (holds area) ≡ true) (b : Booking) {amounts places : List ℕ} (k : Passes (temporaryOf (decode area)) s b amounts places) (out : List ℕ) where
   pub sent-state : (n : ℕ) → n ≡ firstOf (limitStops (decode area) (some (messageIn s))) → 0 < n → Answers (cardMessage s area out) n 0 (pos 0) area out
-  sent-state n e p = message-state s area out (decode area) (held-decode area h) (messageIn s) (k .none-holds) (k .read) n (sym e) (ne-eqb n 0 (λ z. omega arith))
+  sent-state n e p = message-state s area out (decode area) (holds-decode area h) (messageIn s) (k .none-holds) (k .read) n (sym e) (ne-eqb n 0 (λ z. omega arith))
 
   module _ (z : 0 ≡ firstOf (limitStops (decode area) (some (messageIn s)))) {r : ℕ} (w : Measured (messageText (decode area) (messageIn s)) r) where
     pub sent-room : length out < r → Answers (cardMessage s area out) 16 0 (pos 0) area out
-    sent-room m = message-room s area out (decode area) (held-decode area h) (messageIn s) (k .none-holds) (k .read) (sym z) (size-long w (length out) m)
+    sent-room m = message-room s area out (decode area) (holds-decode area h) (messageIn s) (k .none-holds) (k .read) (sym z) (size-long w (length out) m)
 
     pub sent-made : {n₁ : ℕ} {d : ℤ} {a' out' : List ℕ} → r ≤ length out → length out < furthest → Sent s area out n₁ d a' out' → Answers (cardMessage s area out) 0 n₁ d a' out'
     sent-made m f c =
-        message-accepted s area out (decode area) (held-decode area h) (messageIn s) (k .none-holds) (k .read) (sym z) (size-fits w (length out) m f) (c .written) (c .difference) (c .area) (c .output) (c .small)
+        message-accepted s area out (decode area) (holds-decode area h) (messageIn s) (k .none-holds) (k .read) (sym z) (size-fits w (length out) m f) (c .written) (c .difference) (c .area) (c .output) (c .small)
 
 -- none of 11 to 15 holds
 pub state-none : (s area : List ℕ) (n : ℕ) → n ≡ firstOf (limitStops (decode area) (some (messageIn s))) → n ≤ 0 → 0 ≡ firstOf (limitStops (decode area) (some (messageIn s)))
@@ -213,7 +213,7 @@ check-told s area t r e c = rw e at c
 
 pub checked-refused : (s area : List ℕ) → isSome (holds area) ≡ true → (r : Checked) {amounts places : List ℕ} → CheckedAs (temporaryOf (decode area)) s r amounts places → (out : List ℕ) (k : ℕ) → r ≡ Refused k → Answers (cardMessage s area out) k 0 (pos 0) area out
 checked-refused s area h r {amounts} {places} c out k e =
-    message-input s area out (decode area) (held-decode area h) k (sym (refused-told _ s r amounts places c k e)) (ne-eqb k 0 (λ z. omega (arith, refused-some _ s r amounts places c k e)))
+    message-input s area out (decode area) (holds-decode area h) k (sym (refused-told _ s r amounts places c k e)) (ne-eqb k 0 (λ z. omega (arith, refused-some _ s r amounts places c k e)))
 
 -- room for 16 details
 pub room-made : DetailRoom (replicate 16 0) (replicate 96 0)
@@ -223,4 +223,4 @@ room-made = record { amounts-size = refl; places-size = refl }
 pub message-no-engine : (s area out : List ℕ) (t : Bool) → t ≡ isSome (holds area) → t ≡ false → Answers (cardMessage s area out) 10 0 (pos 0) area out
 message-no-engine s area out t u d = message-engine s area out (sym u ∙ d)
 
-pub ruleset sending = (held-told, measured, judged-told, leaves-told, ready, booking-of, booked-done, sent-done, sent-state, sent-room, sent-made, state-none, text-fits, room-made, check-told, checked-refused, passed-told, message-no-engine)
+pub ruleset sending = (holds-told, measured, judged-told, leaves-told, ready, booking-of, booked-done, sent-done, sent-state, sent-room, sent-made, state-none, text-fits, room-made, check-told, checked-refused, passed-told, message-no-engine)

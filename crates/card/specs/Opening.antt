@@ -12,7 +12,7 @@ use Rattle.rules.specs.Dates.{exists}
 use Rattle.rules.specs.Register.{register}
 use Rattle.rules.specs.Calls.{firstOf, openStops, opened, acceptedOpening, openCall}
 use Rattle.rules.specs.Area.{cardOpen, encode, holds, areaSize}
-use Rattle.laws.specs.Tests.{held-told}
+use Rattle.laws.specs.Tests.{holds-told}
 use Rattle.card.specs.Answers.{Answers, answers-refused, answers-accepted}
 
 -- the text, the day and the area
@@ -45,4 +45,4 @@ module _ (text : List ℕ) (day : ℕ) (area : List ℕ) where
       unfolding firstOf openStops cardOpen openCall acceptedOpening over
       open-accepted {area'} r a = answers-accepted _ (holds area) (acceptedOpening text day) area [] (rw (room, ← u, d, ← v, r) refl) refl refl refl a refl (lit< tt)
 
-pub ruleset opening = (held-told, open-short, open-long, open-day, open-register, open-accepted)
+pub ruleset opening = (holds-told, open-short, open-long, open-day, open-register, open-accepted)

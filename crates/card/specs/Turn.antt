@@ -15,8 +15,9 @@ use Rattle.rules.specs.Dates.{exists}
 use Rattle.rules.specs.Engine.{Engine}
 use Rattle.rules.specs.Calls.{firstOf, turnStops, turnText, refunded, collected, afterTurn, turnCall, acceptedTurn}
 use Rattle.rules.specs.Area.{cardTurn, encode, decode, holds, areaSize}
-use Rattle.laws.specs.Tests.{held-told}
+use Rattle.laws.specs.Tests.{holds-told}
 use Rattle.laws.specs.Writing.{wrote-over, furthest}
+use Rattle.engine_laws.specs.Decoded.{holds-decode}
 use Rattle.outgoing_number.specs.declared.Numbered.{Numbered}
 use Rattle.turn_text.specs.Area.{TurnPut}
 use Rattle.turn_text.specs.Sums.{SumsOf}
@@ -24,7 +25,7 @@ use Rattle.turn_text.specs.declared.sums.Sums.{Sums}
 use Rattle.engine_change.specs.Turning.{turned, turned-after}
 use Rattle.engine.specs.Header.{HeaderOf}
 use Rattle.engine.specs.declared.header.Header.{Header}
-use Rattle.card.specs.Held.{held-decode, wrote-exact, Measured, measured, size-long, size-fits}
+use Rattle.card.specs.Measured.{wrote-exact, Measured, measured, size-long, size-fits}
 use Rattle.card.specs.Answers.{Answers, answers-refused, answers-accepted}
 use Rattle.card.specs.Minus.{difference-small}
 
@@ -84,7 +85,7 @@ turned-done day {a} x l w t d c = record {
 
 module _ (day : ℕ) (area out : List ℕ) (h : isSome (holds area) ≡ true) where
   engine : holds area ≡ some (decode area)
-  engine = held-decode area h
+  engine = holds-decode area h
 
   module _ (t : Bool) (u : t ≡ exists day) where
     pub turn-refused-day : t ≡ false → Answers (cardTurn day area out) 3 0 (pos 0) area out
@@ -113,4 +114,4 @@ module _ (day : ℕ) (area out : List ℕ) (h : isSome (holds area) ≡ true) wh
 pub turn-no-engine : (day : ℕ) (area out : List ℕ) (t : Bool) → t ≡ isSome (holds area) → t ≡ false → Answers (cardTurn day area out) 10 0 (pos 0) area out
 turn-no-engine day area out t u d = turn-engine day area out (sym u ∙ d)
 
-pub ruleset turning = (held-told, turn-no-engine, measured, turned-done, turn-refused-day, turn-refused-early, turn-refused-room, turn-fits, turn-made)
+pub ruleset turning = (holds-told, turn-no-engine, measured, turned-done, turn-refused-day, turn-refused-early, turn-refused-room, turn-fits, turn-made)

@@ -9,7 +9,7 @@ ghost use mathlib.Core.Option.{some};
 ghost use Prim.Native.Nat.{_+_, _≤_};
 ghost use lib.ListN.{length};
 ghost use Rattle.rules.specs.Text.{isSome};
-ghost use Rattle.rules.specs.Calls.{firstOf, limitStops, messageText, writes};
+ghost use Rattle.rules.specs.Calls.{firstOf, limitStops, messageText, messagesWritten};
 ghost use Rattle.rules.specs.Area.{holds, decode, cardMessage};
 ghost use Rattle.details.specs.Message.{messageIn};
 ghost use Rattle.details.specs.Kept.{DetailRoom, LinesIn};
@@ -17,7 +17,7 @@ ghost use Rattle.conditions.specs.Answers.{CheckedAs, Passes};
 ghost use Rattle.conditions.specs.Books.{Books};
 ghost use Rattle.verdict.specs.Details.{VerdictsIn};
 ghost use Rattle.card.specs.Answers.{Answers};
-ghost use Rattle.card.specs.Held.{Measured};
+ghost use Rattle.card.specs.Measured.{Measured};
 ghost use Rattle.card.specs.Message.{Sent, AreaBooked, Leaves, Ready, temporaryOf};
 
 // 1 to 8, with the temporary account of the engine that the area holds.
@@ -74,7 +74,7 @@ fn book_in(message: &[u8], area: &mut [u8], b: Booking, count: u32)
     requires { ⌜ isSome (holds (now area)) ≡ true ⌝ }
     requires { ⌜ Books (now message) (messageIn (now message)) b ⌝ }
     requires { ⌜ 0 ≡ firstOf (limitStops (decode (now area)) (some (messageIn (now message)))) ⌝ }
-    requires { ⌜ count ≡ decode (now area) .count + writes (decode (now area)) (messageIn (now message)) ⌝ }
+    requires { ⌜ count ≡ decode (now area) .count + messagesWritten (decode (now area)) (messageIn (now message)) ⌝ }
     ensures { λ _. ⌜ AreaBooked (now (message .entry)) (now (area .entry)) (now (area .exit)) ⌝ }
 {
     let reference = b.reference;
@@ -146,7 +146,7 @@ fn send_message(
     let n = b.count as u32;
     let mut verdicts = [0u8; 16];
     judge_in(message, area, places, n, &mut verdicts);
-    let parts = message_text::message_writes(b, p, detail_lines::count_returned(&verdicts, n));
+    let parts = message_text::messages_written(b, p, detail_lines::count_returned(&verdicts, n));
     let size = message_size(message, amounts, places, &verdicts, area, b, p, parts);
     if output.len() < size {
         return 16;

@@ -9,7 +9,7 @@ ghost use Rattle.rules.specs.Calls.{turnText};
 ghost use Rattle.rules.specs.Area.{holds, decode, cardTurn};
 ghost use Rattle.card.specs.Answers.{Answers};
 ghost use Rattle.card.specs.Turn.{Turned};
-ghost use Rattle.card.specs.Held.{Measured};
+ghost use Rattle.card.specs.Measured.{Measured};
 
 // A turn that no condition stops: its text is written, its difference told, and the area turned.
 fn accept_turn(

@@ -20,7 +20,7 @@ use Rattle.rules.specs.Replay.{lengthOf, sixDigits}
 use Rattle.laws.specs.Parts.{cut, cut-step, cut-done, cut-length}
 use Rattle.laws.specs.Reading.{Placed, power, fits-length}
 use Rattle.laws.specs.Numbers.{digits-small}
-use Rattle.laws.specs.Tests.{held-told, none-some}
+use Rattle.laws.specs.Tests.{holds-told, none-some}
 
 -- the number v and the digits behind it, where it is at most 8192
 unfoldable pub limited : ℕ → List ℕ → Option ℕ
@@ -169,4 +169,4 @@ pub length-room : (v : ℕ) → v ≤ 8192 → v < power 10 17
 unfolding power
 length-room v h = lt-of-le-of-lt h (lit< tt)
 
-pub ruleset numbers = (held-told, length-room, length-empty, length-starts, length-large, length-more, length-bad, length-end, six-other, six-read, room-empty, room-long, room-bad, room-large, room-read)
+pub ruleset numbers = (holds-told, length-room, length-empty, length-starts, length-large, length-more, length-bad, length-end, six-other, six-read, room-empty, room-long, room-bad, room-large, room-read)

@@ -11,7 +11,7 @@ use lib.ListN.{length, take, drop, length-append, length-drop, take-append-drop}
 use lib.Seq.{take-at, take-append-le, drop-append-le}
 use borrow.Author.Tests.{le-leb, leb-true, leb-false, ne-eqb}
 use Rattle.rules.specs.Text.{ascii, isDigit, digitsFrom, digits, fits, equal, then, given}
-use Rattle.rules.specs.Lines.{Taken, line}
+use Rattle.rules.specs.Lines.{TakenLine, takeLine}
 use Rattle.rules.specs.Replay.{opens, sends, turns, Commanded, lengthOf, sixDigits, withBytes, commandOf, command}
 use Rattle.laws.specs.Tests.{never, and-left, none-some}
 use Rattle.laws.specs.Reading.{fits-length}
@@ -20,13 +20,13 @@ use Rattle.commands.specs.Numbers.{limited, limited-large, length-limit}
 
 -- ---- a line
 
-pub line-more : (w r : List ℕ) (t : Taken) → line w ≡ some t → line (w ++ r) ≡ some record { line = t .line; others = t .others ++ r }
+pub line-more : (w r : List ℕ) (t : TakenLine) → takeLine w ≡ some t → takeLine (w ++ r) ≡ some record { line = t .line; others = t .others ++ r }
 line-more w r t e =
     let f : FirstLine w t = first-line w t e in
-    ap (λ (x : List ℕ). line (x ++ r)) (f .text) ∙ ap line (append-assoc (t .line) (13 ∷ 10 ∷ t .others) r) ∙ line-taken (t .line) (t .others ++ r) (f .plain)
+    ap (λ (x : List ℕ). takeLine (x ++ r)) (f .text) ∙ ap takeLine (append-assoc (t .line) (13 ∷ 10 ∷ t .others) r) ∙ line-taken (t .line) (t .others ++ r) (f .plain)
 
 -- a line that ends behind the bytes read
-pub line-late : (w r : List ℕ) (t : Taken) → line w ≡ none → line (w ++ r) ≡ some t → length w < length (t .line) + 2
+pub line-late : (w r : List ℕ) (t : TakenLine) → takeLine w ≡ none → takeLine (w ++ r) ≡ some t → length w < length (t .line) + 2
 line-late w r t h e = go (leb (length (t .line) + 2) (length w)) refl
   where
     f : FirstLine (w ++ r) t
@@ -42,7 +42,7 @@ line-late w r t h e = go (leb (length (t .line) + 2) (length w)) refl
         sym (take-append-drop (length (t .line) + 2) w) ∙ rw a (append-assoc (t .line) (13 ∷ 10 ∷ []) _)
 
     go : (b : Bool) → leb (length (t .line) + 2) (length w) ≡ b → length w < length (t .line) + 2
-    go true k = none-some (sym h ∙ ap line (whole (leb-true _ _ k)) ∙ line-taken (t .line) _ (f .plain))
+    go true k = none-some (sym h ∙ ap takeLine (whole (leb-true _ _ k)) ∙ line-taken (t .line) _ (f .plain))
     go false k = leb-false _ _ k
 
 -- ---- the command of a line
@@ -109,9 +109,9 @@ bytes-behind f n cs c e = go (leb n (length cs)) e
 -- a command that stands in the bytes read is the input's
 pub command-more : (w r : List ℕ) (c : Commanded) → command w ≡ some c → command (w ++ r) ≡ some (followed c r)
 unfolding command
-command-more w r c e = go (line w) refl e
+command-more w r c e = go (takeLine w) refl e
   where
-    go : (o : Option Taken) → line w ≡ o → then o (λ t. commandOf (t .line) (t .others)) ≡ some c → command (w ++ r) ≡ some (followed c r)
+    go : (o : Option TakenLine) → takeLine w ≡ o → then o (λ t. commandOf (t .line) (t .others)) ≡ some c → command (w ++ r) ≡ some (followed c r)
     go none h k = none-some k
     go (some t) h k = rw (line-more w r t h) (follows-line (t .others) r (t .line) .found c k)
 
@@ -134,9 +134,9 @@ line-behind l cs c e = go (equal (take 2 l) (ascii "M,")) (equal (take 2 l) (asc
 
 pub command-behind : (w : List ℕ) (c : Commanded) → command w ≡ some c → length (c .others) < length w
 unfolding command
-command-behind w c e = go (line w) refl e
+command-behind w c e = go (takeLine w) refl e
   where
-    go : (o : Option Taken) → line w ≡ o → then o (λ t. commandOf (t .line) (t .others)) ≡ some c → length (c .others) < length w
+    go : (o : Option TakenLine) → takeLine w ≡ o → then o (λ t. commandOf (t .line) (t .others)) ≡ some c → length (c .others) < length w
     go none h k = none-some k
     go (some t) h k = omega (arith, first-length w t h, line-behind (t .line) (t .others) c k)
 
@@ -257,17 +257,17 @@ module _ (w r : List ℕ) (h : longest ≤ length w) (d : doubled w ≡ false) w
 
   pub none-follows : command w ≡ none → command (w ++ r) ≡ none
   unfolding command
-  none-follows e = go (line w) refl e
+  none-follows e = go (takeLine w) refl e
     where
-      late : (o : Option Taken) → line w ≡ none → line (w ++ r) ≡ o → then o (λ t. commandOf (t .line) (t .others)) ≡ none
+      late : (o : Option TakenLine) → takeLine w ≡ none → takeLine (w ++ r) ≡ o → then o (λ t. commandOf (t .line) (t .others)) ≡ none
       late none m k = refl
       late (some t) m k = line-none (t .line) (t .others) (omega (arith, line-late w r t m k)) (first-line (w ++ r) t k .text)
 
-      soon : (t : Taken) → line w ≡ some t → commandOf (t .line) (t .others) ≡ none → (b : Bool) → leb 8192 (length (t .others)) ≡ b → commandOf (t .line) (t .others ++ r) ≡ none
+      soon : (t : TakenLine) → takeLine w ≡ some t → commandOf (t .line) (t .others) ≡ none → (b : Bool) → leb 8192 (length (t .others)) ≡ b → commandOf (t .line) (t .others ++ r) ≡ none
       soon t m k true f = follows-line (t .others) r (t .line) .missed (leb-true _ _ f) k
       soon t m k false f =
           line-none (t .line) (t .others ++ r) (omega (arith, first-length w t m, leb-false 8192 (length (t .others)) f)) (first-line (w ++ r) _ (line-more w r t m) .text)
 
-      go : (o : Option Taken) → line w ≡ o → then o (λ t. commandOf (t .line) (t .others)) ≡ none → then (line (w ++ r)) (λ t. commandOf (t .line) (t .others)) ≡ none
-      go none m k = late (line (w ++ r)) m refl
+      go : (o : Option TakenLine) → takeLine w ≡ o → then o (λ t. commandOf (t .line) (t .others)) ≡ none → then (takeLine (w ++ r)) (λ t. commandOf (t .line) (t .others)) ≡ none
+      go none m k = late (takeLine (w ++ r)) m refl
       go (some t) m k = rw (line-more w r t m) (soon t m k (leb 8192 (length (t .others))) refl)

@@ -13,7 +13,7 @@ use lib.ListN.{length, getD, take, drop, replicate, length-append, length-drop, 
 use lib.Seq.{length-take-le, take-at, drop-at}
 use borrow.Author.Tests.{eqb-true, eq-eqb, ne-eqb}
 use Rattle.rules.specs.Text.{ascii, isDigit, digitsFrom, every, equal, then}
-use Rattle.rules.specs.Lines.{Taken, lead, line}
+use Rattle.rules.specs.Lines.{TakenLine, lead, takeLine}
 use Rattle.rules.specs.Replay.{lengthOf, commandOf, command}
 use Rattle.laws.specs.Parts.{cut, from, from-take, cut-step, cut-done, cut-drop, cut-take, cut-join, cut-length}
 use Rattle.laws.specs.Places.{Passed}
@@ -28,33 +28,33 @@ use Rattle.commands.specs.Pieces.{lengthPlace, doubled}
 -- ---- a zero that goes
 
 -- two lines of which the second has one zero fewer behind p
-data Shorter (p : List ℕ) : Option Taken → Option Taken → Type 0 where
+data Shorter (p : List ℕ) : Option TakenLine → Option TakenLine → Type 0 where
   neither : Shorter p none none
   behind : (u cs : List ℕ) → Shorter p (some record { line = p ++ (48 ∷ 48 ∷ u); others = cs }) (some record { line = p ++ (48 ∷ u); others = cs })
   before : (l cs ds : List ℕ) → length l < length p → Shorter p (some record { line = l; others = cs }) (some record { line = l; others = ds })
 
-shorter-lead : (p : List ℕ) (c : ℕ) (x y : Option Taken) → Shorter p x y → Shorter (c ∷ p) (lead (c ∷ []) x) (lead (c ∷ []) y)
+shorter-lead : (p : List ℕ) (c : ℕ) (x y : Option TakenLine) → Shorter p x y → Shorter (c ∷ p) (lead (c ∷ []) x) (lead (c ∷ []) y)
 unfolding lead
 shorter-lead p c x y neither = neither
 shorter-lead p c x y (behind u cs) = behind u cs
 shorter-lead p c x y (before l cs ds h) = before (c ∷ l) cs ds (omega arith)
 
-shorter : (p v : List ℕ) → Shorter p (line (p ++ (48 ∷ 48 ∷ v))) (line (p ++ (48 ∷ v)))
-unfolding line lead
+shorter : (p v : List ℕ) → Shorter p (takeLine (p ++ (48 ∷ 48 ∷ v))) (takeLine (p ++ (48 ∷ v)))
+unfolding takeLine lead
 shorter [] [] = neither
-shorter [] (d ∷ v) = go (line (d ∷ v))
+shorter [] (d ∷ v) = go (takeLine (d ∷ v))
   where
-    go : (o : Option Taken) → Shorter [] (lead (48 ∷ []) (lead (48 ∷ []) o)) (lead (48 ∷ []) o)
+    go : (o : Option TakenLine) → Shorter [] (lead (48 ∷ []) (lead (48 ∷ []) o)) (lead (48 ∷ []) o)
     go none = neither
     go (some t) = behind (t .line) (t .others)
 shorter (c ∷ []) v = go (begins c 48) (shorter [] v)
   where
-    go : {c : ℕ} → Begins c 48 → Shorter [] (line (48 ∷ 48 ∷ v)) (line (48 ∷ v)) → Shorter (c ∷ []) (line (c ∷ 48 ∷ 48 ∷ v)) (line (c ∷ 48 ∷ v))
+    go : {c : ℕ} → Begins c 48 → Shorter [] (takeLine (48 ∷ 48 ∷ v)) (takeLine (48 ∷ v)) → Shorter (c ∷ []) (takeLine (c ∷ 48 ∷ 48 ∷ v)) (takeLine (c ∷ 48 ∷ v))
     go {c} (goes e) h = rw (line-goes c (48 ∷ 48 ∷ v) e, line-goes c (48 ∷ v) e) (shorter-lead [] c _ _ h)
     go (breaks e _) h = rw (e (48 ∷ v), e v) neither
 shorter (c ∷ d ∷ p) v = go (begins c d) (shorter (d ∷ p) v)
   where
-    go : {c d : ℕ} → Begins c d → Shorter (d ∷ p) (line (d ∷ p ++ (48 ∷ 48 ∷ v))) (line (d ∷ p ++ (48 ∷ v))) → Shorter (c ∷ d ∷ p) (line (c ∷ d ∷ p ++ (48 ∷ 48 ∷ v))) (line (c ∷ d ∷ p ++ (48 ∷ v)))
+    go : {c d : ℕ} → Begins c d → Shorter (d ∷ p) (takeLine (d ∷ p ++ (48 ∷ 48 ∷ v))) (takeLine (d ∷ p ++ (48 ∷ v))) → Shorter (c ∷ d ∷ p) (takeLine (c ∷ d ∷ p ++ (48 ∷ 48 ∷ v))) (takeLine (c ∷ d ∷ p ++ (48 ∷ v)))
     go ends h = before [] _ _ (omega arith)
     go {c} {d} (goes e) h = rw (line-goes c (d ∷ p ++ (48 ∷ 48 ∷ v)) e, line-goes c (d ∷ p ++ (48 ∷ v)) e) (shorter-lead (d ∷ p) c _ _ h)
     go (breaks e _) h = rw (e (p ++ (48 ∷ 48 ∷ v)), e (p ++ (48 ∷ v))) neither
@@ -66,10 +66,10 @@ unfolding commandOf equal lengthOf digitsFrom isDigit
 message-zero u cs = refl
 
 message-shorter : (v : List ℕ) → command (77 ∷ 44 ∷ 48 ∷ 48 ∷ v) ≡ command (77 ∷ 44 ∷ 48 ∷ v)
-unfolding command line lead
+unfolding command takeLine lead
 message-shorter v = go _ _ (shorter [] v)
   where
-    go : (x y : Option Taken) → Shorter [] x y
+    go : (x y : Option TakenLine) → Shorter [] x y
         → then (lead (77 ∷ []) (lead (44 ∷ []) x)) (λ t. commandOf (t .line) (t .others)) ≡ then (lead (77 ∷ []) (lead (44 ∷ []) y)) (λ t. commandOf (t .line) (t .others))
     go x y neither = refl
     go x y (behind u cs) = message-zero u cs
@@ -92,10 +92,10 @@ open-early (a ∷ b ∷ c ∷ d ∷ e ∷ f ∷ []) cs ds h = refl
 open-early (a ∷ b ∷ c ∷ d ∷ e ∷ f ∷ g ∷ l) cs ds h = absurd (omega arith)
 
 open-shorter : (a b c d e f : ℕ) (v : List ℕ) → command (79 ∷ 44 ∷ a ∷ b ∷ c ∷ d ∷ e ∷ f ∷ 44 ∷ 48 ∷ 48 ∷ v) ≡ command (79 ∷ 44 ∷ a ∷ b ∷ c ∷ d ∷ e ∷ f ∷ 44 ∷ 48 ∷ v)
-unfolding command line lead
+unfolding command takeLine lead
 open-shorter a b c d e f v = go _ _ (shorter (a ∷ b ∷ c ∷ d ∷ e ∷ f ∷ 44 ∷ []) v)
   where
-    go : (x y : Option Taken) → Shorter (a ∷ b ∷ c ∷ d ∷ e ∷ f ∷ 44 ∷ []) x y
+    go : (x y : Option TakenLine) → Shorter (a ∷ b ∷ c ∷ d ∷ e ∷ f ∷ 44 ∷ []) x y
         → then (lead (79 ∷ []) (lead (44 ∷ []) x)) (λ t. commandOf (t .line) (t .others)) ≡ then (lead (79 ∷ []) (lead (44 ∷ []) y)) (λ t. commandOf (t .line) (t .others))
     go x y neither = refl
     go x y (behind u cs) = open-zero a b c d e f u cs

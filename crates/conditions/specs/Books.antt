@@ -7,7 +7,7 @@ use native.Mathlib.Omega.{arith}
 use lib.Dec.{leb, eqb}
 use lib.ListN.{length}
 use borrow.Author.Tests.{leb-true}
-use Rattle.rules.specs.Text.{between, isText, every, run, number}
+use Rattle.rules.specs.Text.{between, isText, every, run, bigEndian}
 use Rattle.rules.specs.Lines.{sender}
 use Rattle.rules.specs.Messages.{Message, mt103, mt101, Transfer, Order, referenceOf, detailsOf, dateOf, transferredBy, detailedBy, sumOf, firstDate}
 use Rattle.rules.specs.Calls.{misdated, bankOf, keyOf}
@@ -46,7 +46,7 @@ KindOf m amount false = IsOrder m
 
 -- the booking of a message: the sender is the bank of its position's key
 abbrev pub bookingOf : List ℕ → Bool → Span → ℕ → ℕ → ℕ → Booking
-bookingOf s transfer reference date amount count = record { key = record { bank = number (cut s 4 12); date = date }; amount = amount; reference = reference; transfer = transfer; count = count }
+bookingOf s transfer reference date amount count = record { key = record { bank = bigEndian (cut s 4 12); date = date }; amount = amount; reference = reference; transfer = transfer; count = count }
 
 pub record Books (s : List ℕ) (m : Message) (b : Booking) : Type 0 where
   pub key : keyValue (b .key) ≡ keyOf m
@@ -64,9 +64,9 @@ pub record Books (s : List ℕ) (m : Message) (b : Booking) : Type 0 where
 -- ---- of any message that was read
 
 module _ (s : List ℕ) (m : Message) (h : Has s m) where
-  bank-is : number (cut s 4 12) ≡ bankOf m
+  bank-is : bigEndian (cut s 4 12) ≡ bankOf m
   unfolding sender from
-  bank-is = rw (h .sent) (ap number (sym (from-take s 4 8)))
+  bank-is = rw (h .sent) (ap bigEndian (sym (from-take s 4 8)))
 
   pub date-six : dateOf m < 1000000
   date-six = date-small (dateOf m) (h .date)
@@ -113,6 +113,6 @@ unfolding dateOf transferredBy detailedBy detailsOf misdated
 order-books s o h p w e {date} {sum} {count} d f l = books s (mt101 o) h p w e false date sum count d refl (sym f) (λ day. rw d refl) l (record { order = o; same = refl })
 
 -- made of a bank that was read
-pub booking-made : (s : List ℕ) (t : Bool) (p : Span) (v date amount count : ℕ) → v ≡ number (cut s 4 12)
+pub booking-made : (s : List ℕ) (t : Bool) (p : Span) (v date amount count : ℕ) → v ≡ bigEndian (cut s 4 12)
     → _≡_ {A = Booking} (record { key = record { bank = v; date = date }; amount = amount; reference = p; transfer = t; count = count }) (bookingOf s t p date amount count)
 booking-made s t p v date amount count e = rw e

@@ -9,7 +9,7 @@ use lib.Dec.{leb}
 use lib.ListN.{length, getD, take, length-take}
 use lib.Seq.{take-all}
 use borrow.Author.Tests.{leb-true}
-use Rattle.rules.specs.Text.{ascii, equal, number, then, twice}
+use Rattle.rules.specs.Text.{ascii, equal, then, twice}
 use Rattle.rules.specs.Lines.{Line, lines, inLines, opening, framed, type, sender, receiver, body}
 use Rattle.rules.specs.Forms.{takeRows, orderRows, message20}
 use Rattle.rules.specs.Engine.{slashed}
@@ -21,16 +21,16 @@ use Rattle.laws.specs.Tests.{and-left, and-right, answer-is, answer-not}
 use Rattle.laws.specs.Reading.{fits-length}
 use Rattle.engine_laws.specs.Accepted.{Has, transfer-has, order-has}
 use Rattle.forms.specs.Table.{table, part}
-use Rattle.forms.specs.Spans.{spanOf, noSpan, SpanIn, within-at, within-order, held, held-line}
+use Rattle.forms.specs.Spans.{spanOf, noSpan, SpanIn, within-at, within-order, linesAt, span-line}
 use Rattle.forms.specs.Fields.{Behind, behind-in, behind-bytes}
 use Rattle.forms.specs.Rows.{RowsAt}
-use Rattle.forms.specs.Transfers.{TransferIn, transferHeld}
+use Rattle.forms.specs.Transfers.{TransferIn, transferIn}
 use Rattle.forms.specs.declared.rows.Span.{Span}
 use Rattle.forms.specs.declared.rows.Rows.{Rows}
 use Rattle.forms.specs.declared.transfer.Transfer as T
 use Rattle.rule_laws.specs.Lines.{body-from}
 use Rattle.field_conditions.specs.Stops.{transferStop, transfer-stops}
-use Rattle.conditions.specs.Walk.{FieldsIn, heldFrom, alike, named-twice}
+use Rattle.conditions.specs.Walk.{FieldsIn, fieldsFrom, alike, named-twice}
 use Rattle.conditions.specs.Lowest.{lowestAny}
 use Rattle.conditions.specs.Tally.{TallyTold, DetailsTallied, TallyAt, told-fields}
 use Rattle.conditions.specs.Order.{orderStop, order-stops, order-many, order-few}
@@ -50,8 +50,8 @@ formless : (temporary s : List ℕ) (o : Option Message) {amounts places : List 
 formless temporary s o e = record { number = rw e (sym (unread temporary)); parts = omega arith }
 
 -- field 20, behind its line's first four bytes
-field-20 : (s : List ℕ) (l : List Span) (n : ℕ) (q : Span) → message20 < n → SpanIn s (getD l message20 noSpan) → Behind (getD l message20 noSpan) 4 q → spanOf s q ≡ field20 (held s l n)
-field-20 s l n q h w b = rw (held-line s l n message20 h) (behind-bytes s _ 4 w q b)
+field-20 : (s : List ℕ) (l : List Span) (n : ℕ) (q : Span) → message20 < n → SpanIn s (getD l message20 noSpan) → Behind (getD l message20 noSpan) 4 q → spanOf s q ≡ field20 (linesAt s l n)
+field-20 s l n q h w b = rw (span-line s l n message20 h) (behind-bytes s _ 4 w q b)
 
 -- ---- an MT103
 
@@ -64,10 +64,10 @@ module _ (s temporary : List ℕ) (t : T.Transfer) (w : TransferIn s t) where
   transfer-formless h = record { with = λ amounts places. formless temporary s (readTransfer s) (answer-not _ _ _ (w .same) h) }
 
   module _ (h : t .ok ≡ true) where
-    transfer-read : readTransfer s ≡ some (mt103 (transferHeld s t))
+    transfer-read : readTransfer s ≡ some (mt103 (transferIn s t))
     transfer-read = answer-is _ _ _ (w .same) h
 
-    transfer-its : Has s (mt103 (transferHeld s t))
+    transfer-its : Has s (mt103 (transferIn s t))
     transfer-its = transfer-has s _ transfer-read
 
     pub transfer-date : t .date < 1000000
@@ -89,9 +89,9 @@ module _ (s temporary : List ℕ) (t : T.Transfer) (w : TransferIn s t) where
             with = λ amounts places. record {
               number = sym z ∙ transfer-number;
               parts = record {
-                message = mt103 (transferHeld s t);
+                message = mt103 (transferIn s t);
                 same = transfer-read;
-                books = rw e (transfer-books s (transferHeld s t) transfer-its q (behind-in s _ 4 f q d) (field-20 s (t .spans) 23 q (omega arith) f d) (w .small));
+                books = rw e (transfer-books s (transferIn s t) transfer-its q (behind-in s _ 4 f q d) (field-20 s (t .spans) 23 q (omega arith) f d) (w .small));
                 count = rw e;
                 few = rw e (omega arith);
                 amounts-are = λ i l. absurd (let n : i < 0 = rw e at l in omega arith);
@@ -122,13 +122,13 @@ module _ (s : List ℕ) (rows : Rows) (w : RowsAt s 23 0 1 rows) where
 
   -- the message of some details
   abbrev order : List M.Detail → M.Order
-  order ds = record { sender = sender s; rows = held s (rows .spans) 1; details = ds }
+  order ds = record { sender = sender s; rows = linesAt s (rows .spans) 1; details = ds }
 
   module _ (h : rows .ok ≡ true) (t : Tally) {amounts places fields : List ℕ} (v : TallyAt s (rows .next) t amounts places fields) where
     order-read : readOrder s ≡ then (M.details 4096 (from s (rows .next))) (λ ds. some (mt101 (order ds)))
     unfolding readOrder
     order-read =
-        let e : some record { rows = held s (rows .spans) 1; others = from s (rows .next) } ≡ takeRows orderRows (body s) = rw (h, order-rows, body-from) at (w .same) in
+        let e : some record { rows = linesAt s (rows .spans) 1; others = from s (rows .next) } ≡ takeRows orderRows (body s) = rw (h, order-rows, body-from) at (w .same) in
         rw (← e)
 
     pub order-formless : t .ok ≡ false → OrderChecked s (Refused 3) amounts places
@@ -154,19 +154,19 @@ module _ (s : List ℕ) (rows : Rows) (w : RowsAt s 23 0 1 rows) where
       unfolding dateOf
       order-date = rw (its .date) (date-six s _ order-its)
 
-      module _ (c : ℕ) (u : c ≡ orderStop (t .count) (slashed (past ":20:" (spanOf s (getD (rows .spans) message20 noSpan)))) (t .low) (twice equal (heldFrom s fields 0 (t .count)))) where
+      module _ (c : ℕ) (u : c ≡ orderStop (t .count) (slashed (past ":20:" (spanOf s (getD (rows .spans) message20 noSpan)))) (t .low) (twice equal (fieldsFrom s fields 0 (t .count)))) where
         order-number : (temporary : List ℕ) → c ≡ firstOf (formStops temporary (readOrder s))
         order-number temporary =
             u
-            ∙ all-stops temporary (sender s) (held s (rows .spans) 1) (all .all) (t .count) (t .low) (slashed (past ":20:" (spanOf s (getD (rows .spans) message20 noSpan)))) (twice equal (heldFrom s fields 0 (t .count))) (its .count) (its .low) (rw (held-line s (rows .spans) 1 message20 (omega arith)))
-            (λ l. ap (λ (n : ℕ). twice equal (heldFrom s fields 0 n)) (its .count) ∙ named-twice s (all .all) fields (its .named) l)
+            ∙ all-stops temporary (sender s) (linesAt s (rows .spans) 1) (all .all) (t .count) (t .low) (slashed (past ":20:" (spanOf s (getD (rows .spans) message20 noSpan)))) (twice equal (fieldsFrom s fields 0 (t .count))) (its .count) (its .low) (rw (span-line s (rows .spans) 1 message20 (omega arith)))
+            (λ l. ap (λ (n : ℕ). twice equal (fieldsFrom s fields 0 n)) (its .count) ∙ named-twice s (all .all) fields (its .named) l)
             ∙ ap (λ (o : Option Message). firstOf (formStops temporary o)) (sym is-order)
 
         pub order-stopped : (c ≡ 0 → ⊥) → OrderChecked s (Refused c) amounts places
         order-stopped z = record { with = λ temporary. record { number = order-number temporary; parts = omega arith } }
 
         pub order-count : c ≡ 0 → t .count ≤ 16
-        order-count z = order-few (t .count) (slashed (past ":20:" (spanOf s (getD (rows .spans) message20 noSpan)))) (t .low) (twice equal (heldFrom s fields 0 (t .count))) (sym u ∙ z)
+        order-count z = order-few (t .count) (slashed (past ":20:" (spanOf s (getD (rows .spans) message20 noSpan)))) (t .low) (twice equal (fieldsFrom s fields 0 (t .count))) (sym u ∙ z)
 
         pub order-good : c ≡ 0 → (q : Span) → Behind (getD (rows .spans) message20 noSpan) 4 q → (b : Booking)
             → b ≡ bookingOf s false q (t .date) (t .sum) (t .count) → OrderChecked s (Passed b) amounts places

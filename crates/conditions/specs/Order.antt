@@ -15,7 +15,7 @@ use Rattle.rules.specs.Messages.{mt101, field20, field21, currency32B, firstDat
 use Rattle.rules.specs.Calls.{formStops, firstOf, holdsOf, badReference, badSum, badAmount, foreignPayer, badAccount, manyDates}
 use Rattle.laws.specs.Tests.{pick-equal, pick-other}
 use Rattle.forms.specs.Spans.{within-at}
-use Rattle.field_conditions.specs.Stops.{pick-held, pick-missed, noStop}
+use Rattle.field_conditions.specs.Stops.{pick-holds, pick-missed, noStop}
 use Rattle.conditions.specs.Walk.{alike}
 use Rattle.conditions.specs.Lowest.{pick, lowestAny}
 
@@ -72,4 +72,4 @@ order-few n b low t h = go (leb n 16) refl h
     go true e g = leb-true n 16 e
     go false e g = absurd (omega arith)
 
-pub ruleset ordering = (within-at, pick-held, pick-missed, pick-equal, pick-other, pick-over, pick-within)
+pub ruleset ordering = (within-at, pick-holds, pick-missed, pick-equal, pick-other, pick-over, pick-within)

@@ -17,7 +17,7 @@ use Rattle.laws.specs.Parts.{from}
 use Rattle.laws.specs.Tests.{answer-is, answer-not, never}
 use Rattle.forms.specs.Spans.{noSpan, within-order}
 use Rattle.forms.specs.Fields.{Behind}
-use Rattle.forms.specs.Details.{detailHeld, DetailAt}
+use Rattle.forms.specs.Details.{detailIn, DetailAt}
 use Rattle.forms.specs.declared.rows.Span.{Span}
 use Rattle.forms.specs.declared.detail.Detail.{Detail}
 use Rattle.details.specs.Lines.{withLine}
@@ -151,22 +151,22 @@ told-none s a b c d e f = record { count = a; sum = b; bound = omega (arith, b);
 
 module _ (s : List ℕ) (ds : List M.Detail) (t : Tally) {amounts places fields : List ℕ} (o : TallyTold s ds t amounts places fields) {at : ℕ} (d : Detail) (w : DetailAt s at d) {amounts' places' fields' : List ℕ}
     (c : KeepsFirst (t .count) d amounts places fields amounts' places' fields') (r : Tally) (a : After s t d r) where
-  dated : r .date ≡ firstDate (ds ++ (detailHeld s d ∷ []))
-  dated = a .date ∙ rw (o .count, o .date) (date-more ds (detailHeld s d))
+  dated : r .date ≡ firstDate (ds ++ (detailIn s d ∷ []))
+  dated = a .date ∙ rw (o .count, o .date) (date-more ds (detailIn s d))
 
-  pub told-more : TallyTold s (ds ++ (detailHeld s d ∷ [])) r amounts' places' fields'
+  pub told-more : TallyTold s (ds ++ (detailIn s d ∷ [])) r amounts' places' fields'
   told-more = record {
-    count = a .count ∙ (rw (o .count) (sym (more-length ds (detailHeld s d))));
-    sum = a .sum ∙ rw (o .count, o .sum) (sum-more ds (detailHeld s d));
+    count = a .count ∙ (rw (o .count) (sym (more-length ds (detailIn s d))));
+    sum = a .sum ∙ rw (o .count, o .sum) (sum-more ds (detailIn s d));
     bound = a .bound;
     date = dated;
-    low = a .low ∙ rw (detail-lowest s (r .date) d, o .low, dated) (low-more (sender s) ds (detailHeld s d));
+    low = a .low ∙ rw (detail-lowest s (r .date) d, o .low, dated) (low-more (sender s) ds (detailIn s d));
     kept = few-or-many (length ds)
         (λ h. kept-more s ds (o .kept) h d w (rw (o .count) at (c .keeps (rw (o .count) h))))
-        (λ h. rw (c .amounts-stay (rw (o .count) h), c .places-stay (rw (o .count) h)) (kept-full s ds (o .kept) h (detailHeld s d)));
+        (λ h. rw (c .amounts-stay (rw (o .count) h), c .places-stay (rw (o .count) h)) (kept-full s ds (o .kept) h (detailIn s d)));
     named = few-or-many (length ds)
         (λ h. named-more s ds (o .named) h d w (c .behind) (rw (o .count) at (c .names (rw (o .count) h))))
-        (λ h. rw (c .fields-stay (rw (o .count) h)) (named-full s ds (o .named) h (detailHeld s d)));
+        (λ h. rw (c .fields-stay (rw (o .count) h)) (named-full s ds (o .named) h (detailIn s d)));
   }
 
 -- ---- the walk over all details
@@ -226,7 +226,7 @@ module _ (s : List ℕ) (at pos : ℕ) (t : Tally) {amounts places fields : List
     walk-last f = record {
       none-there = λ g. never (sym g ∙ a .ok);
       all-there = λ g. record {
-        all = m .done ++ (detailHeld s d ∷ []);
+        all = m .done ++ (detailIn s d ∷ []);
         read = sym (rw (next, answer-is _ _ _ (w .same) k, ← u, f) at (m .left));
         told = told-more s (m .done) t (m .told) d w c r a;
       };
@@ -235,11 +235,11 @@ module _ (s : List ℕ) (at pos : ℕ) (t : Tally) {amounts places fields : List
     pub walk-on : b ≡ false → Walking s at (d .next) r amounts' places' fields'
     unfolding details
     walk-on f = record {
-      done = m .done ++ (detailHeld s d ∷ []);
+      done = m .done ++ (detailIn s d ∷ []);
       told = told-more s (m .done) t (m .told) d w c r a;
       left =
           let g : 4096 - r .count ≡ 4096 - (t .count + 1) = omega (arith, a .count) in
-          rw g (sym (map-one (m .done) (detailHeld s d) (details (4096 - (t .count + 1)) (from s (d .next)))) ∙ (rw (next, answer-is _ _ _ (w .same) k, ← u, f) at (m .left)));
+          rw g (sym (map-one (m .done) (detailIn s d) (details (4096 - (t .count + 1)) (from s (d .next)))) ∙ (rw (next, answer-is _ _ _ (w .same) k, ← u, f) at (m .left)));
     }
 
 -- the places of the fields 21, where all are told

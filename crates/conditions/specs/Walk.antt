@@ -10,9 +10,9 @@ use Rattle.rules.specs.Text.{equal, any, twice}
 use Rattle.rules.specs.Forms.{detail21}
 use Rattle.rules.specs.Messages as M
 use Rattle.rules.specs.Messages.{field21}
-use Rattle.forms.specs.Spans.{spanOf, noSpan, SpanIn, within-at, held-line}
+use Rattle.forms.specs.Spans.{spanOf, noSpan, SpanIn, within-at, span-line}
 use Rattle.forms.specs.Fields.{Behind, behind-in, behind-bytes}
-use Rattle.forms.specs.Details.{DetailAt, detailHeld}
+use Rattle.forms.specs.Details.{DetailAt, detailIn}
 use Rattle.forms.specs.declared.rows.Span.{Span}
 use Rattle.forms.specs.declared.detail.Detail.{Detail}
 use Rattle.details.specs.Lines.{lineAt, withLine, line-length, line-set, line-other}
@@ -27,9 +27,9 @@ field-in : (s fields : List ℕ) (n i : ℕ) → FieldsIn s fields n → i < n �
 field-in s fields n i w h k = w .inside i h (omega arith)
 
 -- the bytes at k of the places, from place i on
-unfoldable pub heldFrom : List ℕ → List ℕ → ℕ → ℕ → List (List ℕ)
-heldFrom s fields i zero = []
-heldFrom s fields i (suc k) = spanOf s (lineAt fields i) ∷ heldFrom s fields (i + 1) k
+unfoldable pub fieldsFrom : List ℕ → List ℕ → ℕ → ℕ → List (List ℕ)
+fieldsFrom s fields i zero = []
+fieldsFrom s fields i (suc k) = spanOf s (lineAt fields i) ∷ fieldsFrom s fields (i + 1) k
 
 -- ---- they are the fields 21 of the first 16 details
 
@@ -59,28 +59,28 @@ module _ (s : List ℕ) (ds : List M.Detail) {fields : List ℕ} (k : Named s ds
     first-in : SpanIn s (getD (d .spans) detail21 noSpan)
     first-in = within-at s (d .spans) detail21 (w .within)
 
-    own-field : spanOf s q ≡ field21 (detailHeld s d)
-    own-field = rw (held-line s (d .spans) 17 detail21 (omega arith)) (behind-bytes s _ 4 first-in q b)
+    own-field : spanOf s q ≡ field21 (detailIn s d)
+    own-field = rw (span-line s (d .spans) 17 detail21 (omega arith)) (behind-bytes s _ 4 first-in q b)
 
-    pub named-more : Named s (ds ++ (detailHeld s d ∷ [])) fields'
+    pub named-more : Named s (ds ++ (detailIn s d ∷ [])) fields'
     named-more = record {
       size = rw c (line-length fields (length ds) q ∙ k .size);
-      inside = λ i l m. before-or-last i (length ds) (rw (more-length ds (detailHeld s d)) at l)
+      inside = λ i l m. before-or-last i (length ds) (rw (more-length ds (detailIn s d)) at l)
           (λ e. rw (other i e) (k .inside i e m))
           (λ e. rw (e, own) (behind-in s _ 4 first-in q b));
-      bytes = λ i l m. before-or-last i (length ds) (rw (more-length ds (detailHeld s d)) at l)
-          (λ e. ap (spanOf s) (other i e) ∙ k .bytes i e m ∙ ap field21 (sym (more-before ds (detailHeld s d) i e)))
-          (λ e. ap (λ (j : ℕ). spanOf s (lineAt fields' j)) e ∙ ap (spanOf s) own ∙ own-field ∙ ap field21 (sym (more-last ds (detailHeld s d) i e)));
+      bytes = λ i l m. before-or-last i (length ds) (rw (more-length ds (detailIn s d)) at l)
+          (λ e. ap (spanOf s) (other i e) ∙ k .bytes i e m ∙ ap field21 (sym (more-before ds (detailIn s d) i e)))
+          (λ e. ap (λ (j : ℕ). spanOf s (lineAt fields' j)) e ∙ ap (spanOf s) own ∙ own-field ∙ ap field21 (sym (more-last ds (detailIn s d) i e)));
     }
 
 -- the places hold the fields 21
-held-fields : (s fields : List ℕ) (es : List M.Detail) (i : ℕ) → ((j : ℕ) → j < length es → spanOf s (lineAt fields (i + j)) ≡ field21 (detailAt es j)) → heldFrom s fields i (length es) ≡ map field21 es
-unfolding heldFrom
-held-fields s fields [] i f = refl
-held-fields s fields (e ∷ es) i f =
+fields-named : (s fields : List ℕ) (es : List M.Detail) (i : ℕ) → ((j : ℕ) → j < length es → spanOf s (lineAt fields (i + j)) ≡ field21 (detailAt es j)) → fieldsFrom s fields i (length es) ≡ map field21 es
+unfolding fieldsFrom
+fields-named s fields [] i f = refl
+fields-named s fields (e ∷ es) i f =
     let first : spanOf s (lineAt fields i) ≡ field21 e = rw (add-zero i) at (f 0 (omega arith)) in
     let more : (j : ℕ) → j < length es → spanOf s (lineAt fields (i + 1 + j)) ≡ field21 (detailAt es j) = λ j h. (let q : i + suc j ≡ i + 1 + j = omega arith in rw q at (f (suc j) (omega arith))) in
-    rw (first, held-fields s fields es (i + 1) more)
+    rw (first, fields-named s fields es (i + 1) more)
 
 -- two details with one field 21
 unfoldable pub alike : M.Detail → M.Detail → Bool
@@ -96,13 +96,13 @@ twice-map (d ∷ ds) = rw (any-map d ds, twice-map ds) refl
     any-map d (e ∷ es) = rw (any-map d es) refl
 
 -- so that two of them are the same where two details have one field 21
-pub named-twice : (s : List ℕ) (ds : List M.Detail) (fields : List ℕ) → Named s ds fields → length ds ≤ 16 → twice equal (heldFrom s fields 0 (length ds)) ≡ twice alike ds
+pub named-twice : (s : List ℕ) (ds : List M.Detail) (fields : List ℕ) → Named s ds fields → length ds ≤ 16 → twice equal (fieldsFrom s fields 0 (length ds)) ≡ twice alike ds
 named-twice s ds fields k h =
-    rw (held-fields s fields ds 0 (λ j l. rw (zero-add j) (k .bytes j l (omega arith)))) (sym (twice-map ds))
+    rw (fields-named s fields ds 0 (λ j l. rw (zero-add j) (k .bytes j l (omega arith)))) (sym (twice-map ds))
 
 -- ---- two of them the same: j of n are passed
 
-pub twice-start : (s fields : List ℕ) (n : ℕ) → twice equal (heldFrom s fields 0 (n - 0)) ≡ twice equal (heldFrom s fields 0 n)
+pub twice-start : (s fields : List ℕ) (n : ℕ) → twice equal (fieldsFrom s fields 0 (n - 0)) ≡ twice equal (fieldsFrom s fields 0 n)
 twice-start s fields n = rw (sub-zero n)
 
 pub again-start : (s fields : List ℕ) (i : ℕ) (p : Span) (ls : List (List ℕ)) → p ≡ lineAt fields i → any (equal (spanOf s p)) ls ≡ any (equal (spanOf s (lineAt fields i))) ls
@@ -112,18 +112,18 @@ pub line-in : (s fields : List ℕ) (n i : ℕ) (p : Span) → FieldsIn s fields
 line-in s fields n i p w e h k = rw e (field-in s fields n i w h k)
 
 module _ (s fields : List ℕ) (n j : ℕ) (x : Bool) where
-  held-none : n ≤ j → heldFrom s fields j (n - j) ≡ []
-  unfolding heldFrom
-  held-none h = let e : n - j ≡ 0 = omega arith in rw e
+  fields-none : n ≤ j → fieldsFrom s fields j (n - j) ≡ []
+  unfolding fieldsFrom
+  fields-none h = let e : n - j ≡ 0 = omega arith in rw e
 
-  held-one : j < n → heldFrom s fields j (n - j) ≡ spanOf s (lineAt fields j) ∷ heldFrom s fields (j + 1) (n - (j + 1))
-  unfolding heldFrom
-  held-one h = let e : n - j ≡ suc (n - (j + 1)) = omega arith in rw e
+  fields-one : j < n → fieldsFrom s fields j (n - j) ≡ spanOf s (lineAt fields j) ∷ fieldsFrom s fields (j + 1) (n - (j + 1))
+  unfolding fieldsFrom
+  fields-one h = let e : n - j ≡ suc (n - (j + 1)) = omega arith in rw e
 
-  module _ (cs : List ℕ) (inv : any (equal cs) (heldFrom s fields j (n - j)) ≡ x) where
+  module _ (cs : List ℕ) (inv : any (equal cs) (fieldsFrom s fields j (n - j)) ≡ x) where
     pub again-out : n ≤ j → false ≡ x
     unfolding any
-    again-out h = rw (held-none h) at inv
+    again-out h = rw (fields-none h) at inv
 
     module _ (h : j < n) (q : Span) (e : q ≡ lineAt fields j) (t : Bool) (u : t ≡ equal cs (spanOf s q)) where
       told : t ≡ equal cs (spanOf s (lineAt fields j))
@@ -131,24 +131,24 @@ module _ (s fields : List ℕ) (n j : ℕ) (x : Bool) where
 
       pub again-hit : t ≡ true → true ≡ x
       unfolding any
-      again-hit d = rw (held-one h, ← told, d) at inv
+      again-hit d = rw (fields-one h, ← told, d) at inv
 
-      pub again-on : t ≡ false → any (equal cs) (heldFrom s fields (j + 1) (n - (j + 1))) ≡ x
+      pub again-on : t ≡ false → any (equal cs) (fieldsFrom s fields (j + 1) (n - (j + 1))) ≡ x
       unfolding any
-      again-on d = rw (held-one h, ← told, d) at inv
+      again-on d = rw (fields-one h, ← told, d) at inv
 
-  module _ (inv : twice equal (heldFrom s fields j (n - j)) ≡ x) where
+  module _ (inv : twice equal (fieldsFrom s fields j (n - j)) ≡ x) where
     pub twice-out : n ≤ j → false ≡ x
     unfolding twice
-    twice-out h = rw (held-none h) at inv
+    twice-out h = rw (fields-none h) at inv
 
-    module _ (h : j < n) (t : Bool) (u : t ≡ any (equal (spanOf s (lineAt fields j))) (heldFrom s fields (j + 1) (n - (j + 1)))) where
+    module _ (h : j < n) (t : Bool) (u : t ≡ any (equal (spanOf s (lineAt fields j))) (fieldsFrom s fields (j + 1) (n - (j + 1)))) where
       pub twice-hit : t ≡ true → true ≡ x
       unfolding twice
-      twice-hit d = rw (held-one h, ← u, d) at inv
+      twice-hit d = rw (fields-one h, ← u, d) at inv
 
-      pub twice-on : t ≡ false → twice equal (heldFrom s fields (j + 1) (n - (j + 1))) ≡ x
+      pub twice-on : t ≡ false → twice equal (fieldsFrom s fields (j + 1) (n - (j + 1))) ≡ x
       unfolding twice
-      twice-on d = rw (held-one h, ← u, d) at inv
+      twice-on d = rw (fields-one h, ← u, d) at inv
 
 pub ruleset walking = (line-in, again-start, twice-start, again-out, again-hit, again-on, twice-out, twice-hit, twice-on)

@@ -9,14 +9,14 @@ ghost use Rattle.rules.specs.Text.{equal, twice};
 ghost use Rattle.rules.specs.Messages.{past};
 ghost use Rattle.rules.specs.Engine.{slashed};
 ghost use Rattle.forms.specs.Spans.{spanOf, SpanIn};
-ghost use Rattle.conditions.specs.Walk.{FieldsIn, heldFrom};
+ghost use Rattle.conditions.specs.Walk.{FieldsIn, fieldsFrom};
 ghost use Rattle.conditions.specs.Order.{orderStop};
 
 // The lowest condition of 4 to 8 that holds, 0 where none does; p is field 20's line, fields the places of the fields 21, t the details' tally.
 pub fn order_stop(s: &[u8], p: Span, fields: &[u16; 32], t: Tally) -> u32
     requires { ⌜ SpanIn (now s) p ⌝ }
     requires { ⌜ FieldsIn (now s) (now fields) (t .count) ⌝ }
-    ensures { λ r. ⌜ r ≡ orderStop (t .count) (slashed (past ":20:" (spanOf (now (s .entry)) p))) (t .low) (twice equal (heldFrom (now (s .entry)) (now (fields .entry)) 0 (t .count))) ⌝ }
+    ensures { λ r. ⌜ r ≡ orderStop (t .count) (slashed (past ":20:" (spanOf (now (s .entry)) p))) (t .low) (twice equal (fieldsFrom (now (s .entry)) (now (fields .entry)) 0 (t .count))) ⌝ }
 {
     if 16 < t.count {
         return 4;

@@ -7,7 +7,7 @@ ghost use Prim.Native.Nat.{_+_, _-_, _<_, _≤_};
 ghost use Rattle.rules.specs.Text.{equal, any, twice};
 ghost use Rattle.forms.specs.Spans.{spanOf, SpanIn};
 ghost use Rattle.details.specs.Lines.{lineAt};
-ghost use Rattle.conditions.specs.Walk.{FieldsIn, heldFrom};
+ghost use Rattle.conditions.specs.Walk.{FieldsIn, fieldsFrom};
 
 // Have the two parts the same bytes?
 fn same_spans(s: &[u8], p: Span, q: Span) -> bool
@@ -30,7 +30,7 @@ fn again(s: &[u8], fields: &[u16; 32], i: u32, n: u32) -> bool
     requires { ⌜ FieldsIn (now s) (now fields) n ⌝ }
     requires { ⌜ i < n ⌝ }
     requires { ⌜ n ≤ 16 ⌝ }
-    ensures { λ r. ⌜ r ≡ any (equal (spanOf (now (s .entry)) (lineAt (now (fields .entry)) i))) (heldFrom (now (s .entry)) (now (fields .entry)) (i + 1) (n - (i + 1))) ⌝ }
+    ensures { λ r. ⌜ r ≡ any (equal (spanOf (now (s .entry)) (lineAt (now (fields .entry)) i))) (fieldsFrom (now (s .entry)) (now (fields .entry)) (i + 1) (n - (i + 1))) ⌝ }
 {
     let p = line_at(fields, i);
     let mut j = i + 1;
@@ -48,7 +48,7 @@ fn again(s: &[u8], fields: &[u16; 32], i: u32, n: u32) -> bool
 pub fn appears_twice(s: &[u8], fields: &[u16; 32], n: u32) -> bool
     requires { ⌜ FieldsIn (now s) (now fields) n ⌝ }
     requires { ⌜ n ≤ 16 ⌝ }
-    ensures { λ r. ⌜ r ≡ twice equal (heldFrom (now (s .entry)) (now (fields .entry)) 0 n) ⌝ }
+    ensures { λ r. ⌜ r ≡ twice equal (fieldsFrom (now (s .entry)) (now (fields .entry)) 0 n) ⌝ }
 {
     let mut i: u32 = 0;
     while i < n {

@@ -40,10 +40,10 @@ isEnd End = true
 
 -- the card's answer to a command
 unfoldable pub answerTo : List ℕ → Command → ℕ → Option Engine → Answer
-answerTo s (Opens day a b) room held = openCall areaSize held (cut s a b) day
-answerTo s (Sends a b) room held = messageCall room held (cut s a b)
-answerTo s (Turns day n) room held = turnCall room held day
-answerTo s End room held = turnCall room held 0
+answerTo s (Opens day a b) room engine = openCall areaSize engine (cut s a b) day
+answerTo s (Sends a b) room engine = messageCall room engine (cut s a b)
+answerTo s (Turns day n) room engine = turnCall room engine day
+answerTo s End room engine = turnCall room engine 0
 
 pub next-within : (s : List ℕ) (x : Option Commanded) (c : Command) → Commanding s x c → nextOf c ≤ length s
 unfolding nextOf Placed
@@ -53,18 +53,18 @@ next-within s x (Turns day n) w = w .places
 next-within s x End w = omega arith
 
 -- a command that was read, in the paper's words
-record CommandFound (s : List ℕ) (x : Option Commanded) (c : Command) (room : ℕ) (held : Option Engine) : Type 0 where
+record CommandFound (s : List ℕ) (x : Option Commanded) (c : Command) (room : ℕ) (engine : Option Engine) : Type 0 where
   found : Commanded
   stands : x ≡ some found
   others : from s (nextOf c) ≡ found .others
-  answers : called room held (found .command) ≡ answerTo s c room held
+  answers : called room engine (found .command) ≡ answerTo s c room engine
 
-found-by : (s : List ℕ) (x : Option Commanded) (c : Command) (room : ℕ) (held : Option Engine) → Commanding s x c → isEnd c ≡ false → CommandFound s x c room held
+found-by : (s : List ℕ) (x : Option Commanded) (c : Command) (room : ℕ) (engine : Option Engine) → Commanding s x c → isEnd c ≡ false → CommandFound s x c room engine
 unfolding isEnd answerTo nextOf commandedOf called
-found-by s x (Opens day a b) room held w e = record { found = record { command = R.opens day (cut s a b); others = from s b }; stands = sym (w .same); others = refl; answers = refl }
-found-by s x (Sends a b) room held w e = record { found = record { command = R.sends (cut s a b); others = from s b }; stands = sym (w .same); others = refl; answers = refl }
-found-by s x (Turns day n) room held w e = record { found = record { command = R.turns day; others = from s n }; stands = sym (w .same); others = refl; answers = refl }
-found-by s x End room held w e = never (sym e)
+found-by s x (Opens day a b) room engine w e = record { found = record { command = R.opens day (cut s a b); others = from s b }; stands = sym (w .same); others = refl; answers = refl }
+found-by s x (Sends a b) room engine w e = record { found = record { command = R.sends (cut s a b); others = from s b }; stands = sym (w .same); others = refl; answers = refl }
+found-by s x (Turns day n) room engine w e = record { found = record { command = R.turns day; others = from s n }; stands = sym (w .same); others = refl; answers = refl }
+found-by s x End room engine w e = never (sym e)
 
 -- ---- one step
 

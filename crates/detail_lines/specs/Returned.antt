@@ -22,7 +22,7 @@ use Rattle.verdict.specs.declared.Verdict.the-variants.{Credited, Returned}
 use Rattle.verdict.specs.declared.detail.Judged as J
 use Rattle.forms.specs.Spans.{SpanIn}
 use Rattle.detail_lines.specs.declared.returned.Place.{Place}
-use Rattle.detail_lines.specs.Rows.{rowsOf, rows-held}
+use Rattle.detail_lines.specs.Rows.{rowsOf, rows-kept}
 
 -- ---- is it returned?
 
@@ -131,17 +131,17 @@ module _ (verdicts : List ℕ) (n i r : ℕ) (l : Counting verdicts n i r) where
 -- ---- past the first of them
 
 -- behind the first `most` of them the details from `at` on are left
-pub record DetailsPassed (s verdicts : List ℕ) (first n most at : ℕ) : Type 0 where
+pub record DetailsSkipped (s verdicts : List ℕ) (first n most at : ℕ) : Type 0 where
   pub within : at ≤ n
   pub same : returnedAt s verdicts at (n - at) ≡ drop most (returnedAt s verdicts first (n - first))
 
--- m of them are still to be passed, and the details from i on are left
-pub record DetailsPassing (s verdicts : List ℕ) (first n most i m : ℕ) : Type 0 where
+-- m of them are still to be skipped, and the details from i on are left
+pub record DetailsSkipping (s verdicts : List ℕ) (first n most i m : ℕ) : Type 0 where
   pub within : i ≤ n
   pub same : drop m (returnedAt s verdicts i (n - i)) ≡ drop most (returnedAt s verdicts first (n - first))
 
-pub passing-start : (s verdicts : List ℕ) (first n most : ℕ) → first ≤ n → DetailsPassing s verdicts first n most first most
-passing-start s verdicts first n most h = record { within = h; same = refl }
+pub skip-start : (s verdicts : List ℕ) (first n most : ℕ) → first ≤ n → DetailsSkipping s verdicts first n most first most
+skip-start s verdicts first n most h = record { within = h; same = refl }
 
 drop-none : {A : Type 0} (i : ℕ) → _≡_ {A = List A} (drop i []) []
 drop-none zero = refl
@@ -151,26 +151,26 @@ drop-one : {A : Type 0} (x : A) (xs : List A) (i : ℕ) → (i ≡ 0 → ⊥) �
 drop-one x xs zero h = absurd (h refl)
 drop-one x xs (suc i) h = let e : suc i - 1 ≡ i = omega arith in rw e
 
-module _ (s verdicts : List ℕ) (first n most i m : ℕ) (l : DetailsPassing s verdicts first n most i m) where
-  pub passing-done : m ≡ 0 → DetailsPassed s verdicts first n most i
-  passing-done e = record { within = l .within; same = ap (λ (x : ℕ). drop x (returnedAt s verdicts i (n - i))) (sym e) ∙ l .same }
+module _ (s verdicts : List ℕ) (first n most i m : ℕ) (l : DetailsSkipping s verdicts first n most i m) where
+  pub skip-done : m ≡ 0 → DetailsSkipped s verdicts first n most i
+  skip-done e = record { within = l .within; same = ap (λ (x : ℕ). drop x (returnedAt s verdicts i (n - i))) (sym e) ∙ l .same }
 
-  pub passing-end : n ≤ i → DetailsPassed s verdicts first n most i
-  passing-end h = record {
+  pub skip-end : n ≤ i → DetailsSkipped s verdicts first n most i
+  skip-end h = record {
     within = l .within;
     same = returned-end s verdicts n i h ∙ sym (drop-none m) ∙ ap (λ (ds : List Detail). drop m ds) (sym (returned-end s verdicts n i h)) ∙ l .same;
   }
 
   module _ (amounts places : List ℕ) (h : i < n) (j : J.Judged) (e : j ≡ judgedIn amounts places verdicts i) (b : Bool) (u : b ≡ isReturned (verdictOf (j .verdict))) where
-    pub passing-more : b ≡ true → (m ≡ 0 → ⊥) → DetailsPassing s verdicts first n most (i + 1) (m - 1)
-    passing-more d z = record {
+    pub skip-more : b ≡ true → (m ≡ 0 → ⊥) → DetailsSkipping s verdicts first n most (i + 1) (m - 1)
+    skip-more d z = record {
       within = omega arith;
       same = sym (drop-one (detailAt (detailsIn s) i) (returnedAt s verdicts (i + 1) (n - (i + 1))) m z)
           ∙ ap (λ (ds : List Detail). drop m ds) (sym (returned-one s verdicts n i h (j .verdict) (judged-verdict amounts places verdicts i j e) b u d)) ∙ l .same;
     }
 
-    pub passing-on : b ≡ false → DetailsPassing s verdicts first n most (i + 1) m
-    passing-on d = record { within = omega arith; same = ap (λ (ds : List Detail). drop m ds) (sym (returned-none s verdicts n i h (j .verdict) (judged-verdict amounts places verdicts i j e) b u d)) ∙ l .same }
+    pub skip-on : b ≡ false → DetailsSkipping s verdicts first n most (i + 1) m
+    skip-on d = record { within = omega arith; same = ap (λ (ds : List Detail). drop m ds) (sym (returned-none s verdicts n i h (j .verdict) (judged-verdict amounts places verdicts i j e) b u d)) ∙ l .same }
 
 -- ---- their rows, m of them at most
 
@@ -201,7 +201,7 @@ module _ (s verdicts : List ℕ) (n i m : ℕ) {o at : ℕ} {out whole start : L
     pub rows-more : b ≡ true → (m ≡ 0 → ⊥) → {o' : ℕ} {out' : List ℕ}
         → Wrote (rowsOf s (j .branch) (j .account) (j .baeref)) o out o' out'
         → Left (allReturned (take (m - 1) (returnedAt s verdicts (i + 1) (n - (i + 1))))) o' out' whole at start
-    rows-more d z v = left-turn (rw (rows-step d z) at l) (rw (rows-held s (detailAt (detailsIn s) i) (j .branch) (j .account) (j .baeref) (judged-branch amounts places verdicts i j e s n k h) (judged-account amounts places verdicts i j e s n k h) (judged-baeref amounts places verdicts i j e s n k h)) at v)
+    rows-more d z v = left-turn (rw (rows-step d z) at l) (rw (rows-kept s (detailAt (detailsIn s) i) (j .branch) (j .account) (j .baeref) (judged-branch amounts places verdicts i j e s n k h) (judged-account amounts places verdicts i j e s n k h) (judged-baeref amounts places verdicts i j e s n k h)) at v)
 
     pub rows-pass : b ≡ false → Left (allReturned (take m (returnedAt s verdicts (i + 1) (n - (i + 1))))) o out whole at start
     rows-pass d = rw (returned-none s verdicts n i h (j .verdict) verdict-is b u d) at l
@@ -221,6 +221,6 @@ module _ (s amounts places verdicts : List ℕ) (n i : ℕ) (k : LinesIn s place
 
 pub record RowsPut (s verdicts : List ℕ) (first n most at : ℕ) (out : List ℕ) (r : Place) (out' : List ℕ) : Type 0 where
   pub wrote : Wrote (allReturned (take most (returnedAt s verdicts first (n - first)))) at out (r .out) out'
-  pub passed : DetailsPassed s verdicts first n most (r .at)
+  pub skipped : DetailsSkipped s verdicts first n most (r .at)
 
-pub ruleset returning = (left-length, credit-stays, return-goes, counting-start, counting-end, counting-more, counting-pass, branch-in, account-in, baeref-in, passing-start, passing-done, passing-end, passing-more, passing-on, rows-full, rows-end, rows-more, rows-pass)
+pub ruleset returning = (left-length, credit-stays, return-goes, counting-start, counting-end, counting-more, counting-pass, branch-in, account-in, baeref-in, skip-start, skip-done, skip-end, skip-more, skip-on, rows-full, rows-end, rows-more, rows-pass)

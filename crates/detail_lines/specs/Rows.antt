@@ -45,6 +45,6 @@ rowFront s branch baeref = take 8 (past ":52D:" (spanOf s branch)) ++ ascii "/" 
 abbrev pub rowsOf : List ℕ → Span → Span → Span → List ℕ
 rowsOf s branch account baeref = (rowFront s branch baeref ++ past "BAEREFnnnnnn" (spanOf s baeref) ++ ascii "\r\n") ++ (past ":59:/" (spanOf s account) ++ ascii "\r\n")
 
-pub rows-held : (s : List ℕ) (d : Detail) (branch account baeref : Span) → LineOf s d detail52D branch → LineOf s d detail59 account → LineOf s d detailBaeref baeref → rowsOf s branch account baeref ≡ returnedRows d
+pub rows-kept : (s : List ℕ) (d : Detail) (branch account baeref : Span) → LineOf s d detail52D branch → LineOf s d detail59 account → LineOf s d detailBaeref baeref → rowsOf s branch account baeref ≡ returnedRows d
 unfolding returnedRows
-rows-held s d branch account baeref h k l = rw (h .bytes, k .bytes, l .bytes)
+rows-kept s d branch account baeref h k l = rw (h .bytes, k .bytes, l .bytes)

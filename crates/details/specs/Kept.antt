@@ -12,8 +12,8 @@ use borrow.Author.Tests.{leb-true, leb-false}
 use Rattle.rules.specs.Forms.{detail52D, detail59, detailBaeref}
 use Rattle.rules.specs.Messages as M
 use Rattle.rules.specs.Messages.{lineOf}
-use Rattle.forms.specs.Spans.{spanOf, noSpan, SpanIn, within-at, held-line}
-use Rattle.forms.specs.Details.{DetailAt, detailHeld}
+use Rattle.forms.specs.Spans.{spanOf, noSpan, SpanIn, within-at, span-line}
+use Rattle.forms.specs.Details.{DetailAt, detailIn}
 use Rattle.forms.specs.declared.rows.Span.{Span}
 use Rattle.forms.specs.declared.detail.Detail.{Detail}
 use Rattle.details.specs.Lines.{lineAt, withLine, line-length, line-set, line-other}
@@ -86,8 +86,8 @@ module _ (s : List ℕ) (ds : List M.Detail) {amounts places : List ℕ} (k : Ke
   }
 
   module _ {at : ℕ} (h : length ds < 16) (d : Detail) (w : DetailAt s at d) {amounts' places' : List ℕ} (c : Keeps (length ds) d amounts places amounts' places') where
-    line-of : (j : ℕ) → j < 17 → LineOf s (detailHeld s d) j (getD (d .spans) j noSpan)
-    line-of j l = record { inside = within-at s (d .spans) j (w .within); bytes = sym (held-line s (d .spans) 17 j l) }
+    line-of : (j : ℕ) → j < 17 → LineOf s (detailIn s d) j (getD (d .spans) j noSpan)
+    line-of j l = record { inside = within-at s (d .spans) j (w .within); bytes = sym (span-line s (d .spans) 17 j l) }
 
     abbrev first : List ℕ
     first = withLine places (3 * length ds) (getD (d .spans) detail52D noSpan)
@@ -123,7 +123,7 @@ module _ (s : List ℕ) (ds : List M.Detail) {amounts places : List ℕ} (k : Ke
           line-other places (3 * length ds) (getD (d .spans) detail52D noSpan) j (λ e. omega arith),
         )
 
-    own-lines : LinesAs s (detailHeld s d) places' (length ds)
+    own-lines : LinesAs s (detailIn s d) places' (length ds)
     own-lines = record { branch = rw own-branch (line-of detail52D (omega arith)); account = rw own-account (line-of detail59 (omega arith)); baeref = rw own-baeref (line-of detailBaeref (omega arith)) }
 
     other-lines : (i : ℕ) → i < length ds → LinesAs s (detailAt ds i) places i → LinesAs s (detailAt ds i) places' i
@@ -139,18 +139,18 @@ module _ (s : List ℕ) (ds : List M.Detail) {amounts places : List ℕ} (k : Ke
     other-amount : (i : ℕ) → i < length ds → getD amounts' i 0 ≡ getD amounts i 0
     other-amount i l = rw (c .amounts-are, getD-set-other amounts (length ds) i (d .amount) 0 (λ e. omega arith))
 
-    pub kept-more : Kept s (ds ++ (detailHeld s d ∷ [])) amounts' places'
+    pub kept-more : Kept s (ds ++ (detailIn s d ∷ [])) amounts' places'
     kept-more = record {
       room = record {
         amounts-size = rw (c .amounts-are) (length-set amounts (length ds) (d .amount) ∙ k .room .amounts-size);
         places-size = rw (c .places-are) (line-length second (3 * length ds + 2) (getD (d .spans) detailBaeref noSpan) ∙ second-size);
       };
-      amounts-are = λ i l m. before-or-last i (length ds) (rw (more-length ds (detailHeld s d)) at l)
-          (λ b. rw (more-before ds (detailHeld s d) i b) (other-amount i b ∙ k .amounts-are i b m))
-          (λ e. rw (more-last ds (detailHeld s d) i e) (rw e own-amount));
-      lines-are = λ i l m. before-or-last i (length ds) (rw (more-length ds (detailHeld s d)) at l)
-          (λ b. rw (more-before ds (detailHeld s d) i b) (other-lines i b (k .lines-are i b m)))
-          (λ e. rw (more-last ds (detailHeld s d) i e) (rw e own-lines));
+      amounts-are = λ i l m. before-or-last i (length ds) (rw (more-length ds (detailIn s d)) at l)
+          (λ b. rw (more-before ds (detailIn s d) i b) (other-amount i b ∙ k .amounts-are i b m))
+          (λ e. rw (more-last ds (detailIn s d) i e) (rw e own-amount));
+      lines-are = λ i l m. before-or-last i (length ds) (rw (more-length ds (detailIn s d)) at l)
+          (λ b. rw (more-before ds (detailIn s d) i b) (other-lines i b (k .lines-are i b m)))
+          (λ e. rw (more-last ds (detailIn s d) i e) (rw e own-lines));
     }
 
 -- ---- the details of a message, all kept

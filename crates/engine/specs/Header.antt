@@ -5,7 +5,7 @@ use mathlib.Core.List.{List}
 use Prim.Native.Nat.{ℕ, _≤_}
 use native.Mathlib.Omega.{arith}
 use lib.ListN.{length}
-use Rattle.rules.specs.Text.{number, isSome}
+use Rattle.rules.specs.Text.{bigEndian, isSome}
 use Rattle.rules.specs.Area.{numberAt, decode, holds, areaSize, referencesPlace, dayPlace, countPlace, manyPositionsPlace, manyReferencesPlace, currencyPlace}
 use Rattle.laws.specs.Parts.{cut}
 use Rattle.engine_laws.specs.Limits.{Limits}
@@ -27,17 +27,17 @@ header-read a day count positions references d c p r = record { day = d .value; 
 
 -- what is asked of a number that was read is asked of the bytes where it stands
 module _ (a : List ℕ) (x : Header) (n : HeaderAt a x) where
-  pub day-stands : x .day ≡ number (cut a dayPlace countPlace)
-  day-stands = n .day ∙ ap number (sym (cut-is a 2 3))
+  pub day-stands : x .day ≡ bigEndian (cut a dayPlace countPlace)
+  day-stands = n .day ∙ ap bigEndian (sym (cut-is a 2 3))
 
-  pub count-stands : x .count ≡ number (cut a countPlace manyPositionsPlace)
-  count-stands = n .count ∙ ap number (sym (cut-is a 5 2))
+  pub count-stands : x .count ≡ bigEndian (cut a countPlace manyPositionsPlace)
+  count-stands = n .count ∙ ap bigEndian (sym (cut-is a 5 2))
 
-  pub positions-stand : x .positions ≡ number (cut a manyPositionsPlace manyReferencesPlace)
-  positions-stand = n .positions ∙ ap number (sym (cut-is a 7 1))
+  pub positions-stand : x .positions ≡ bigEndian (cut a manyPositionsPlace manyReferencesPlace)
+  positions-stand = n .positions ∙ ap bigEndian (sym (cut-is a 7 1))
 
-  pub references-stand : x .references ≡ number (cut a manyReferencesPlace currencyPlace)
-  references-stand = n .references ∙ ap number (sym (cut-is a 8 1))
+  pub references-stand : x .references ≡ bigEndian (cut a manyReferencesPlace currencyPlace)
+  references-stand = n .references ∙ ap bigEndian (sym (cut-is a 8 1))
 
 -- the numbers of the engine that the area holds
 pub record HeaderOf (a : List ℕ) (h : Header) : Type 0 where
@@ -46,9 +46,9 @@ pub record HeaderOf (a : List ℕ) (h : Header) : Type 0 where
   pub count : h .count ≡ decode a .count
   pub positions : h .positions ≡ length (decode a .positions)
   pub references : h .references ≡ length (decode a .references)
-  pub few : h .positions ≤ 32
-  pub today : h .references ≤ 64
-  pub small : h .count ≤ 1184
+  pub positions-few : h .positions ≤ 32
+  pub references-few : h .references ≤ 64
+  pub count-small : h .count ≤ 1184
 
 pub header-told : (a : List ℕ) (x : Header) → isSome (holds a) ≡ true → HeaderAt a x → HeaderOf a x
 unfolding decode
@@ -61,9 +61,9 @@ header-told a x h n =
       count = n .count;
       positions = p;
       references = r;
-      few = omega (arith, l .few, p);
-      today = omega (arith, l .today, r);
-      small = omega (arith, l .numbered, l .today, n .count);
+      positions-few = omega (arith, l .few, p);
+      references-few = omega (arith, l .references-few, r);
+      count-small = omega (arith, l .numbered, l .references-few, n .count);
     }
 
 -- the header is there

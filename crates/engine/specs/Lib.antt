@@ -4,5 +4,5 @@ pub mod Places
 pub mod Records
 pub mod Totals
 pub mod References
-pub mod Held
+pub mod Lookup
 pub mod Texts

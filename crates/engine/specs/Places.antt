@@ -26,7 +26,7 @@ isFirst k [] = false
 isFirst k (p ∷ ps) = sameKey (p .key) k
 
 -- i positions stand before a key: its position is to be booked, and found, among the others
-pub record KeyPassed (k : Key) (ps : List Position) (i : ℕ) : Type 0 where
+pub record KeysBefore (k : Key) (ps : List Position) (i : ℕ) : Type 0 where
   pub within : i ≤ length ps
   pub sorted : Sorted Before (drop i ps)
   pub left : (t d : ℕ) → PutBehind (booked (position k t d)) ps i
@@ -44,10 +44,10 @@ pub record PlaceOf (k : Key) (ps : List Position) (i : ℕ) : Type 0 where
 
 -- ---- from one position to the next
 
-pub passed-none : (k : Key) (ps : List Position) → Sorted Before ps → KeyPassed k ps 0
-passed-none k ps s = record { within = omega arith; sorted = s; left = λ t d. put-start (booked (position k t d)) ps; found = refl; opens = refl }
+pub before-none : (k : Key) (ps : List Position) → Sorted Before ps → KeysBefore k ps 0
+before-none k ps s = record { within = omega arith; sorted = s; left = λ t d. put-start (booked (position k t d)) ps; found = refl; opens = refl }
 
-module _ {k : Key} {ps : List Position} {i : ℕ} (g : KeyPassed k ps i) where
+module _ {k : Key} {ps : List Position} {i : ℕ} (g : KeysBefore k ps i) where
   pub place-end : length ps ≤ i → PlaceOf k ps i
   unfolding isFirst booked positionOf isOpen any
   place-end h =
@@ -74,9 +74,9 @@ module _ {k : Key} {ps : List Position} {i : ℕ} (g : KeyPassed k ps i) where
     tail : Sorted Before (p ∷ rest) → Sorted Before rest
     tail (next a s) = s
 
-    pub passed-more : keyBefore (getD ps i (position k 0 0) .key) k ≡ true → KeyPassed k ps (i + 1)
+    pub before-more : keyBefore (getD ps i (position k 0 0) .key) k ≡ true → KeysBefore k ps (i + 1)
     unfolding p rest
-    passed-more b =
+    before-more b =
         let before = test-before (p .key) k b in
         let other : sameKey (p .key) k ≡ false = before-other before in
         let first : keyBefore k (p .key) ≡ false = before-first before in

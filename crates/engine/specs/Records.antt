@@ -17,7 +17,7 @@ use Rattle.engine_laws.specs.Tests.{valueAt, keyAt}
 use Rattle.engine.specs.Header.{HeaderOf}
 use Rattle.engine.specs.declared.header.Header.{Header}
 use Rattle.engine.specs.Positions.{nthPosition}
-use Rattle.engine.specs.Places.{position, isFirst, KeyPassed, PlaceOf, passed-none, passed-more, place-here, place-end}
+use Rattle.engine.specs.Places.{position, isFirst, KeysBefore, PlaceOf, before-none, before-more, place-here, place-end}
 
 -- how many positions an area has, which stand in order
 pub record Many (a : List ℕ) (n : ℕ) : Type 0 where
@@ -27,7 +27,7 @@ pub record Many (a : List ℕ) (n : ℕ) : Type 0 where
   pub sorted : Sorted Before (decode a .positions)
 
 pub many : (a : List ℕ) (x : Header) → isSome (holds a) ≡ true → HeaderOf a x → Many a (x .positions)
-many a x h n = record { same = n .positions; few = n .few; long = n .long; sorted = ordered-sorted position-order (decode a .positions) (decoded-limits a h .order) }
+many a x h n = record { same = n .positions; few = n .positions-few; long = n .long; sorted = ordered-sorted position-order (decode a .positions) (decoded-limits a h .order) }
 
 -- the i-th of n records
 read-at : {A : Type 0} (f : List ℕ → A) (n i : ℕ) (bs : List ℕ) (none : A) → i < n → getD (map f (records n bs)) i none ≡ f (take recordSize (drop (recordSize * i) bs))
@@ -58,7 +58,7 @@ module _ (a : List ℕ) (n i : ℕ) (m : Many a n) where
 
   module _ (k : Key) where
     -- the walk to the place of a key
-    module _ (g : KeyPassed k (decode a .positions) i) where
+    module _ (g : KeysBefore k (decode a .positions) i) where
       pub walk-end : n ≤ i → PlaceOf k (decode a .positions) i
       walk-end h = place-end g (omega (arith, m .same))
 
@@ -67,8 +67,8 @@ module _ (a : List ℕ) (n i : ℕ) (m : Many a n) where
         unfolding valueAt positionIn
         here = rw (nth-read a i (position k 0 0) (omega (arith, m .same)), ← w, ← f) (sym e)
 
-        pub walk-on : t ≡ true → KeyPassed k (decode a .positions) (i + 1)
-        walk-on d = passed-more g (omega (arith, m .same)) (here ∙ d)
+        pub walk-on : t ≡ true → KeysBefore k (decode a .positions) (i + 1)
+        walk-on d = before-more g (omega (arith, m .same)) (here ∙ d)
 
         pub walk-here : t ≡ false → PlaceOf k (decode a .positions) i
         walk-here d = place-here g (omega (arith, m .same)) (here ∙ d)
@@ -82,7 +82,7 @@ module _ (a : List ℕ) (n i : ℕ) (m : Many a n) where
     unfolding isFirst valueAt positionIn
     first-is t h p w l f e = rw (positions-from h, ← w, ← f) e
 
-pub walk-start : (a : List ℕ) (n : ℕ) (k : Key) → Many a n → KeyPassed k (decode a .positions) 0
-walk-start a n k m = passed-none k (decode a .positions) (m .sorted)
+pub walk-start : (a : List ℕ) (n : ℕ) (k : Key) → Many a n → KeysBefore k (decode a .positions) 0
+walk-start a n k m = before-none k (decode a .positions) (m .sorted)
 
 pub ruleset placing = (inside, walk-start, walk-end, walk-on, walk-here, first-none, first-is)

@@ -1,4 +1,4 @@
--- A bank's reference held against those of an area: its bytes against a text that ends at the first zero.
+-- A bank's reference compared with those of an area: its bytes against a text that ends at the first zero.
 use mathlib.Core.Path.{_≡_, refl, sym, ap, _∙_}
 use mathlib.Core.Bool.{Bool, true, false, cond, and-true, and-false}
 use mathlib.Core.List.{List, [], _∷_}

@@ -13,7 +13,7 @@ use Rattle.rules.specs.Area.{decode, holds, positionsPlace, recordSize}
 use Rattle.laws.specs.Tests.{never}
 use Rattle.engine_laws.specs.Positions.{found-same}
 use Rattle.position.specs.declared.Position as P
-use Rattle.engine.specs.declared.held.Totals.{Totals}
+use Rattle.engine.specs.declared.lookup.Totals.{Totals}
 use Rattle.engine.specs.declared.header.Header.{Header}
 use Rattle.engine.specs.Header.{HeaderOf}
 use Rattle.engine.specs.Positions.{nthPosition, PositionAt}
@@ -25,8 +25,8 @@ pub record TotalsOf (ps : List Position) (k : Key) (r : Totals) : Type 0 where
   pub opens : r .«is_open» ≡ isOpen k ps
   pub transferred : r .transferred ≡ positionOf k ps .transferred
   pub detailed : r .detailed ≡ positionOf k ps .detailed
-  pub small : r .transferred < 2 ^ 48
-  pub few : r .detailed < 2 ^ 48
+  pub transferred-small : r .transferred < 2 ^ 48
+  pub detailed-small : r .detailed < 2 ^ 48
 
 -- an open position stands at its place
 pub record PositionFound (a : List ℕ) (n i : ℕ) (k : Key) : Type 0 where
@@ -53,15 +53,15 @@ module _ (a : List ℕ) (x : Header) (i : ℕ) (k : Key) (s : isSome (holds a) �
     here = found a (x .positions) i k (many a x s n) p (sym e ∙ h)
 
     pub found-place : i < 32
-    found-place = omega (arith, here .inside, n .few)
+    found-place = omega (arith, here .inside, n .positions-few)
 
     pub totals-found : (q : P.Position) → PositionAt a (positionsPlace + recordSize * i) q → TotalsOf (decode a .positions) k (record { «is_open» = true; transferred = q .transferred; detailed = q .detailed })
     totals-found q v = record {
       opens = sym (p .opens ∙ sym e ∙ h);
       transferred = ap (λ (y : Position). y .transferred) (v .value ∙ sym (here .is));
       detailed = ap (λ (y : Position). y .detailed) (v .value ∙ sym (here .is));
-      small = v .transferred;
-      few = v .detailed;
+      transferred-small = v .transferred;
+      detailed-small = v .detailed;
     }
 
   pub totals-missing : t ≡ false → TotalsOf (decode a .positions) k (record { «is_open» = false; transferred = 0; detailed = 0 })
@@ -69,6 +69,6 @@ module _ (a : List ℕ) (x : Header) (i : ℕ) (k : Key) (s : isSome (holds a) �
     opens = sym (p .opens ∙ sym e ∙ h);
     transferred = ap (λ (y : Position). y .transferred) (sym (p .missing (sym e ∙ h)));
     detailed = ap (λ (y : Position). y .detailed) (sym (p .missing (sym e ∙ h)));
-    small = lit< tt;
-    few = lit< tt;
+    transferred-small = lit< tt;
+    detailed-small = lit< tt;
   }

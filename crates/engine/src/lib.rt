@@ -1,7 +1,7 @@
 // The engine read off its area.
 mod header;
-mod held;
 pub mod layout;
+mod lookup;
 mod places;
 mod positions;
 mod reference;
@@ -11,9 +11,9 @@ pub use header::Header;
 pub use header::has_room;
 pub use header::header_at;
 pub use header::header_of;
-pub use held::Totals;
-pub use held::is_used;
-pub use held::totals_of;
+pub use lookup::Totals;
+pub use lookup::is_used;
+pub use lookup::totals_of;
 pub use places::is_at;
 pub use places::place_of;
 pub use positions::key_at;

@@ -10,7 +10,7 @@ use borrow.Author.Tests.{leb-true, not-false}
 use Rattle.rules.specs.Text.{isSome, bytes}
 use Rattle.rules.specs.Messages.{Message}
 use Rattle.rules.specs.Engine.{Key, Position, Reference, Engine, limit, positionOf, booked, filed, within}
-use Rattle.rules.specs.Calls.{added, ownReference, after, noRoom, overLimit, writes, afterMessage}
+use Rattle.rules.specs.Calls.{addition, ownReference, positionAfter, noRoom, overLimit, messagesWritten, afterMessage}
 use Rattle.rules.specs.Area.{referenceRecord, keyBytes, positionRecord, header, encode, decode, holds, areaSize, positionsPlace, positionsRoom, referencesRoom, textsOf, referencesPlace, recordSize}
 use Rattle.laws.specs.Digits.{places-length}
 use Rattle.laws.specs.Parts.{cut, cut-length}
@@ -21,8 +21,9 @@ use Rattle.laws.specs.Standing.{Stands, moved}
 use Rattle.laws.specs.Moving.{RoomFor, opens}
 use Rattle.engine_laws.specs.Facts.{or-left, or-right}
 use Rattle.engine_laws.specs.Limits.{Limits, limits}
-use Rattle.engine_laws.specs.Held.{Held}
-use Rattle.engine_laws.specs.Sections.{referencePart, positionPart, textPart, Of, held-sections, positions-stand}
+use Rattle.engine_laws.specs.EngineIn.{EngineIn}
+use Rattle.engine_laws.specs.Decoded.{decoded}
+use Rattle.engine_laws.specs.Sections.{referencePart, positionPart, textPart, Of, engine-sections, positions-stand}
 use Rattle.engine_laws.specs.Order.{ordered-sorted}
 use Rattle.engine_laws.specs.Positions.{position-order, booked-few}
 use Rattle.engine_laws.specs.Tests.{positionAt}
@@ -31,7 +32,7 @@ use Rattle.engine.specs.Header.{HeaderOf}
 use Rattle.engine.specs.declared.header.Header.{Header}
 use Rattle.engine_change.specs.Header.{numbers}
 use Rattle.engine_change.specs.Changes.{section, inserted-length, replaced-length, section-replaced, section-inserted, stands-back, stands-other}
-use Rattle.engine_change.specs.Next.{holding, position-wide, references-each, positions-length, positions-section, Fits, assembled}
+use Rattle.engine_change.specs.Next.{position-wide, references-each, positions-length, positions-section, Fits, assembled}
 use Rattle.position.specs.declared.Position as P
 use Rattle.engine.specs.Positions.{PositionAt}
 use Rattle.engine.specs.Places.{position, isFirst, PlaceOf}
@@ -53,26 +54,26 @@ bookedWith e q r count = record {
 }
 
 -- with a message's own parts it is the engine after the message
-pub booked-after : (e : Engine) (m : Message) → bookedWith e (added m) (ownReference m) (e .count + writes e m) ≡ afterMessage e m
+pub booked-after : (e : Engine) (m : Message) → bookedWith e (addition m) (ownReference m) (e .count + messagesWritten e m) ≡ afterMessage e m
 unfolding bookedWith afterMessage
 booked-after e m = refl
 
 -- there is room for a reference (13), the position is open or there is room for it (14), and both its totals stay within the limit (15)
 pub record CanBook (e : Engine) (q : Position) : Type 0 where
-  pub today : length (e .references) < 64
+  pub references-few : length (e .references) < 64
   pub few : length (booked q (e .positions)) ≤ 32
   pub transferred : positionOf (q .key) (e .positions) .transferred + q .transferred ≤ limit
   pub detailed : positionOf (q .key) (e .positions) .detailed + q .detailed ≤ limit
 
 -- where none of 13 to 15 holds of a message
-pub booking-clear : (e : Engine) (m : Message) → within e ≡ true → length (e .references) < 64 → noRoom e m ≡ false → overLimit e m ≡ false → CanBook e (added m)
-unfolding noRoom overLimit after
+pub booking-clear : (e : Engine) (m : Message) → within e ≡ true → length (e .references) < 64 → noRoom e m ≡ false → overLimit e m ≡ false → CanBook e (addition m)
+unfolding noRoom overLimit positionAfter
 booking-clear e m w t n o =
     let l : Limits e = limits e w in record {
-      today = t;
-      few = booked-few (added m) (ordered-sorted position-order (e .positions) (l .order)) (l .few) n;
+      references-few = t;
+      few = booked-few (addition m) (ordered-sorted position-order (e .positions) (l .order)) (l .few) n;
       transferred = leb-true _ _ (not-false _ (or-left _ _ o));
-      detailed = leb-true _ _ (not-false _ (or-right (not (leb (after e m .transferred) limit)) _ o));
+      detailed = leb-true _ _ (not-false _ (or-right (not (leb (positionAfter e m .transferred) limit)) _ o));
     }
 
 -- ---- positions
@@ -134,7 +135,7 @@ module _ (a : List ℕ) (n i : ℕ) (q : Position) (m : Many a n) (p : PlaceOf (
         let l : i < length ps = omega (arith, here .inside, m .same) in
         let e : booked q ps ≡ replaced i y ps = p .raised (q .transferred) (q .detailed) (sym f ∙ k) ∙ rw (here .is) in
         let c : b ≡ laid (section positionsRoom positionRecord (replaced i y ps)) positionsPlace a =
-        section-replaced positionRecord positionsRoom ps (each-map positionRecord position-wide ps) (omega (arith, m .same, m .few)) (positions-section (holding h)) i y (position-wide y) l (rw place at w) in
+        section-replaced positionRecord positionsRoom ps (each-map positionRecord position-wide ps) (omega (arith, m .same, m .few)) (positions-section (decoded a h)) i y (position-wide y) l (rw place at w) in
         record { count = m .same ∙ rw e (sym (replaced-length i y ps l)); bytes = rw e c }
 
   -- a missing one is put in its place
@@ -155,7 +156,7 @@ module _ (a : List ℕ) (n i : ℕ) (q : Position) (m : Many a n) (p : PlaceOf (
         let ps : List Position = decode a .positions in
         let v : b ≡ moved (positionsPlace + recordSize * i) (positionsPlace + recordSize * i + recordSize) (recordSize * (length ps - i)) a = rw (m .same) at u in
         let e : c ≡ laid (section positionsRoom positionRecord (inserted i q ps)) positionsPlace a =
-        section-inserted positionRecord positionsRoom ps (each-map positionRecord position-wide ps) (omega (arith, m .same, m .few)) (positions-section (holding h)) i q (position-wide q) (p .within) (omega (arith, g .few, grown, m .same)) v (rw place at w) in
+        section-inserted positionRecord positionsRoom ps (each-map positionRecord position-wide ps) (omega (arith, m .same, m .few)) (positions-section (decoded a h)) i q (position-wide q) (p .within) (omega (arith, g .few, grown, m .same)) v (rw place at w) in
         record { count = sym grown; bytes = rw after-place e }
 
 -- ---- the message
@@ -170,7 +171,7 @@ module _ (a : List ℕ) (x : Header) (q : Position) (bank : ℕ) (text : List �
     pub file-fits : RoomFor referencesPlace recordSize (x .references) i (length b)
     file-fits =
         let l : length b ≡ length a = ap length (p .bytes) ∙ laid-length (positionPart (booked q (decode a .positions))) positionsPlace a in
-        opens referencesPlace recordSize (x .references) i (length b) (omega (arith, f .within, n .references)) (omega (arith, g .today, n .references, n .long, l))
+        opens referencesPlace recordSize (x .references) i (length b) (omega (arith, f .within, n .references)) (omega (arith, g .references-few, n .references, n .long, l))
 
     pub book-done : {z : ℕ} {c d : List ℕ} → to ≤ length text → to - from ≤ 16 → Files (x .references) i (ofBank bank (cut text from to)) b c
         → Wrote (numbers (x .day) count k (x .references + 1)) 0 c z d → d ≡ encode (bookedWith (decode a) q (ofBank bank (cut text from to)) count) ++ drop areaSize a
@@ -180,8 +181,8 @@ module _ (a : List ℕ) (x : Header) (q : Position) (bank : ℕ) (text : List �
         let s : length (r .text) ≤ 16 = rw (cut-length text from to j) m in
         let e : Engine = decode a in
         let rs : List Reference = e .references in
-        let H : Held a e = holding h in
-        let S : Of e (drop areaSize a) a = held-sections a e H in
+        let H : EngineIn a e = decoded a h in
+        let S : Of e (drop areaSize a) a = engine-sections a e H in
         let P' : List ℕ = positionPart (booked q (e .positions)) in
         let Q : List ℕ = textPart (textsOf e) ++ drop areaSize a in
         let lP : length P' ≡ positionsRoom = positions-length (booked q (e .positions)) (g .few) in
@@ -189,8 +190,8 @@ module _ (a : List ℕ) (x : Header) (q : Position) (bank : ℕ) (text : List �
         let o : Stands (header e) (section referencesRoom referenceRecord rs) (P' ++ Q) referencesPlace b = stands-back (header e) (referencePart rs) P' Q (S .head) y in
         let up : u .between ≡ moved (referencesPlace + recordSize * i) (referencesPlace + recordSize * i + recordSize) (recordSize * (length rs - i)) b = rw (n .references) at (u .up) in
         let v : c ≡ laid (section referencesRoom referenceRecord (inserted i r rs)) referencesPlace b =
-        section-inserted referenceRecord referencesRoom rs (references-each H) (omega (arith, g .today)) o i r (reference-wide r s) (f .within) (omega (arith, g .today)) up (u .wrote) in
+        section-inserted referenceRecord referencesRoom rs (references-each H) (omega (arith, g .references-few)) o i r (reference-wide r s) (f .within) (omega (arith, g .references-few)) up (u .wrote) in
         let l : length (filed r rs) ≡ length rs + 1 = filed-length r rs in
         let wide : Each recordSize (map referenceRecord (filed r rs)) = rw (f .place, map-inserted) (each-inserted i (referenceRecord r) (references-each H) (reference-wide r s)) in
-        let fits : Fits (bookedWith e q r count) = record { few = g .few; today = omega (arith, g .today, l); wide = wide } in
+        let fits : Fits (bookedWith e q r count) = record { few = g .few; references-few = omega (arith, g .references-few, l); wide = wide } in
         assembled (bookedWith e q r count) H refl fits (p .bytes) (rw (f .place) v) (rw (n .day, n .references, p .count, ← l) at w)

@@ -57,7 +57,7 @@ pub record Today (a : List ℕ) (n : ℕ) : Type 0 where
   pub long : areaSize ≤ length a
 
 pub today : (a : List ℕ) (x : Header) → HeaderOf a x → Today a (x .references)
-today a x n = record { same = n .references; few = n .today; long = n .long }
+today a x n = record { same = n .references; few = n .references-few; long = n .long }
 
 reference-read : (a : List ℕ) (i : ℕ) → i < length (decode a .references) → getD (decode a .references) i (ofBank 0 []) ≡ referenceAt a (referencesPlace + recordSize * i)
 unfolding decode

@@ -17,7 +17,8 @@ use Rattle.laws.specs.Sections.{Each, Each.no-record, passing, Agree, Agree.on-
 use Rattle.laws.specs.Moving.{Sifted}
 use Rattle.engine_laws.specs.Limits.{Limits, limits}
 use Rattle.engine_laws.specs.Layout.{WrittenBack, All, All.none, All.more}
-use Rattle.engine_laws.specs.Held.{Held, positions-kept}
+use Rattle.engine_laws.specs.EngineIn.{EngineIn, positions-kept}
+use Rattle.engine_laws.specs.Decoded.{decoded}
 use Rattle.engine_laws.specs.Sections.{referencePart, positionPart}
 use Rattle.engine_laws.specs.Positions.{kept-length}
 use Rattle.engine_laws.specs.Records.{number-within}
@@ -25,7 +26,7 @@ use Rattle.engine.specs.Header.{HeaderOf}
 use Rattle.engine.specs.declared.header.Header.{Header}
 use Rattle.engine_change.specs.Header.{numbers}
 use Rattle.engine_change.specs.Changes.{section-passing, section-counted}
-use Rattle.engine_change.specs.Next.{holding, position-wide, positions-section, Fits, assembled}
+use Rattle.engine_change.specs.Next.{position-wide, positions-section, Fits, assembled}
 
 -- the engine after a turn to a day, with the outgoing number at a count
 unfoldable pub turned : Engine → ℕ → ℕ → Engine
@@ -74,7 +75,7 @@ pub turn-done : {a b c d : List ℕ} {x : Header} {j m r : ℕ} (day count : ℕ
     → Wrote (numbers day count j 0) 0 c r d → d ≡ encode (turned (decode a) day count) ++ drop areaSize a
 unfolding turned textsOf padded joined referencePart positionPart
 turn-done {a} {b} {c} {d} {x} {j} {m} {r} day count h n s z w =
-    let g : Held a (decode a) = holding h in
+    let g : EngineIn a (decode a) = decoded a h in
     let l : Limits (decode a) = limits (decode a) (g .good) in
     let ps : List Position = decode a .positions in
     let t : Sifted stays recordSize (length ps) positionsPlace a j b = rw (n .positions) at s in
@@ -84,5 +85,5 @@ turn-done {a} {b} {c} {d} {x} {j} {m} {r} day count h n s z w =
     let now : b ≡ laid (positionPart (kept ps)) positionsPlace a =
     rw (passing-kept ps) at (section-passing positionRecord positionsRoom ps wide few (positions-section g) agree t) in
     let counted : j ≡ length (kept ps) = section-counted positionRecord positionsRoom ps wide few (positions-section g) agree t ∙ ap length (passing-kept ps) in
-    let fits : Fits (turned (decode a) day count) = record { few = omega (arith, kept-length ps, l .few); today = omega arith; wide = no-record } in
+    let fits : Fits (turned (decode a) day count) = record { few = omega (arith, kept-length ps, l .few); references-few = omega arith; wide = no-record } in
     assembled (turned (decode a) day count) g refl fits now (z .output) (rw counted at w)

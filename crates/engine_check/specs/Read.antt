@@ -4,7 +4,7 @@ use mathlib.Core.Bool.{Bool, false, not}
 use mathlib.Core.List.{List}
 use Prim.Native.Nat.{ℕ, _+_, _≤_}
 use lib.ListN.{take, drop, length}
-use Rattle.rules.specs.Text.{number, every}
+use Rattle.rules.specs.Text.{bigEndian, every}
 use Rattle.rules.specs.Dates.{exists}
 use Rattle.rules.specs.Engine.{keyBefore}
 use Rattle.rules.specs.Area.{positionIn, areaSize, dayPlace, countPlace, manyPositionsPlace, manyReferencesPlace, currencyPlace, recordSize}
@@ -23,16 +23,16 @@ use Rattle.engine.specs.Texts.{PlaceAt}
 use Rattle.engine.specs.declared.header.Header.{Header}
 
 module _ (a : List ℕ) (x : Header) (n : HeaderAt a x) (t : Bool) where
-  pub day-read : t ≡ exists (x .day) → t ≡ exists (number (cut a dayPlace countPlace))
+  pub day-read : t ≡ exists (x .day) → t ≡ exists (bigEndian (cut a dayPlace countPlace))
   day-read e = rw (day-stands a x n) at e
 
-  pub counts-read : t ≡ countsTest (x .count) (x .positions) (x .references) → t ≡ countsTest (number (cut a countPlace manyPositionsPlace)) (number (cut a manyPositionsPlace manyReferencesPlace)) (number (cut a manyReferencesPlace currencyPlace))
+  pub counts-read : t ≡ countsTest (x .count) (x .positions) (x .references) → t ≡ countsTest (bigEndian (cut a countPlace manyPositionsPlace)) (bigEndian (cut a manyPositionsPlace manyReferencesPlace)) (bigEndian (cut a manyReferencesPlace currencyPlace))
   counts-read e = rw (count-stands a x n, positions-stand a x n, references-stand a x n) at e
 
-  pub references-read : t ≡ referencesTest a (x .references) → t ≡ referencesTest a (number (cut a manyReferencesPlace currencyPlace))
+  pub references-read : t ≡ referencesTest a (x .references) → t ≡ referencesTest a (bigEndian (cut a manyReferencesPlace currencyPlace))
   references-read e = rw (references-stand a x n) at e
 
-  pub positions-read : t ≡ positionsTest (x .day) a (x .positions) → t ≡ positionsTest (number (cut a dayPlace countPlace)) a (number (cut a manyPositionsPlace manyReferencesPlace))
+  pub positions-read : t ≡ positionsTest (x .day) a (x .positions) → t ≡ positionsTest (bigEndian (cut a dayPlace countPlace)) a (bigEndian (cut a manyPositionsPlace manyReferencesPlace))
   positions-read e = rw (day-stands a x n, positions-stand a x n) at e
 
   module _ (u : t ≡ headerTest a) (h : not t ≡ false) where

@@ -9,7 +9,7 @@ use lib.Dec.{leb, lit≤}
 use lib.ListN.{length, take, drop}
 use lib.Seq.{take-take}
 use borrow.Author.Tests.{le-leb}
-use Rattle.rules.specs.Text.{ascii, isText, run, fits, fitsSign, number}
+use Rattle.rules.specs.Text.{ascii, isText, run, fits, fitsSign, bigEndian}
 use Rattle.rules.specs.Dates.{exists}
 use Rattle.rules.specs.Accounts.{isBic}
 use Rattle.rules.specs.Lines.{Line, opening, lines, inLines, framed, sender}
@@ -77,11 +77,11 @@ unfolding cut from
 front-part s a n k h = from-take (take k s) a n ∙ ap (drop a) (take-take (a + n) k s h) ∙ sym (from-take s a n)
 
 -- the number of a BIC is a bank
-pub bic-bank : (cs : List ℕ) → isBic cs ≡ true → isBank (number cs) ≡ true
+pub bic-bank : (cs : List ℕ) → isBic cs ≡ true → isBank (bigEndian cs) ≡ true
 unfolding isBank
-bic-bank cs h = let n : number cs < 256 ^ 8 = bic-small cs h in rw (le-leb (number cs) lastBank (omega arith), bic-number cs h) h
+bic-bank cs h = let n : bigEndian cs < 256 ^ 8 = bic-small cs h in rw (le-leb (bigEndian cs) lastBank (omega arith), bic-number cs h) h
 
-pub sender-bank : (s : List ℕ) → framed s ≡ true → isBank (number (sender s)) ≡ true
+pub sender-bank : (s : List ℕ) → framed s ≡ true → isBank (bigEndian (sender s)) ≡ true
 unfolding framed opening sender isBic
 sender-bank s h =
     let o : fits (ascii "nnn,aaaaaacc,aaaaaacc\r\n") (take 23 s) ≡ true = and-right (leb (length s) 4096 && inLines (lines s)) _ h in

@@ -14,12 +14,12 @@ use Rattle.rules.specs.Text.{over}
 use Rattle.rules.specs.Dates.{exists}
 use Rattle.rules.specs.Messages.{Message, read}
 use Rattle.rules.specs.Engine.{Engine, within}
-use Rattle.rules.specs.Calls.{Stop, firstOf, Answer, answered, openStops, opened, acceptedOpening, openCall, messageStops, messageText, after, afterMessage, acceptedMessage, bothOf, messageCall, turnText, turnStops, refunded, collected, afterTurn, acceptedTurn, turnCall}
+use Rattle.rules.specs.Calls.{Stop, firstOf, Answer, answered, openStops, opened, acceptedOpening, openCall, messageStops, messageText, positionAfter, afterMessage, acceptedMessage, bothOf, messageCall, turnText, turnStops, refunded, collected, afterTurn, acceptedTurn, turnCall}
 use Rattle.rules.specs.Area.{encode, holds, Result, stored, onAreas, cardOpen, cardMessage, cardTurn, areaSize}
 use Rattle.rule_laws.specs.Conditions.{answered-accepted, answered-zero}
 use Rattle.rule_laws.specs.Clear.{open-clear, Clear, clear, message-engine, message-read, TurnClear, turn-clear, turn-engine}
 use Rattle.rule_laws.specs.Options.{There, there}
-use Rattle.engine_laws.specs.Held.{encode-length, holds-encode, held}
+use Rattle.engine_laws.specs.EngineIn.{encode-length, holds-encode, engine-in}
 use Rattle.engine_laws.specs.Keeps.{opened-within, message-within, turn-within}
 
 -- ---- what a call does to area and output
@@ -75,8 +75,8 @@ pub record Ends (ss : List Stop) (r : Result) (area out : List ℕ) : Type 0 whe
   pub accepted : r .number ≡ 0 → firstOf ss ≡ 0
   pub refused : (r .number ≡ 0 → ⊥) → Stays r area out
 
-on-ends : (ss : List Stop) (held : Option Engine) (a : Answer) (area out : List ℕ) → Ends ss (onAreas (answered ss held a) area out) area out
-on-ends ss held a area out = record { accepted = λ h. answered-zero ss held a (on-zero _ area out h); refused = on-stays _ area out }
+on-ends : (ss : List Stop) (engine-in : Option Engine) (a : Answer) (area out : List ℕ) → Ends ss (onAreas (answered ss engine-in a) area out) area out
+on-ends ss engine-in a area out = record { accepted = λ h. answered-zero ss engine-in a (on-zero _ area out h); refused = on-stays _ area out }
 
 on-done : (text : List ℕ) (d : ℤ) (next : Engine) (area out : List ℕ) → within next ≡ true → Done (onAreas record { number = 0; text = text; difference = d; next = some next } area out) area out text d next
 unfolding onAreas stored
@@ -108,7 +108,7 @@ module _ (s area out : List ℕ) where
     pub holding : holds area ≡ some engine
     pub reads : read s ≡ some message
     pub clear : Clear (length out) engine s message
-    pub done : Done (cardMessage s area out) area out (messageText engine message) (subℕ (after engine message .transferred) (after engine message .detailed)) (afterMessage engine message)
+    pub done : Done (cardMessage s area out) area out (messageText engine message) (subℕ (positionAfter engine message .transferred) (positionAfter engine message .detailed)) (afterMessage engine message)
 
   -- where there are an engine and a message and no condition holds
   pub message-done : (e : Engine) (m : Message) → holds area ≡ some e → read s ≡ some m → firstOf (messageStops (length out) (holds area) s) ≡ 0 → Takes
@@ -120,7 +120,7 @@ module _ (s area out : List ℕ) where
         holding = h;
         reads = r;
         clear = clear (length out) e s m r z;
-        done = rw (answered-accepted _ (holds area) (bothOf (holds area) (read s)) k, h, r) (on-done _ _ (afterMessage e m) area out (message-within (length out) e s m (held area e h .good) r z));
+        done = rw (answered-accepted _ (holds area) (bothOf (holds area) (read s)) k, h, r) (on-done _ _ (afterMessage e m) area out (message-within (length out) e s m (engine-in area e h .good) r z));
       }
 
   -- where no condition holds there are both
@@ -156,7 +156,7 @@ module _ (day : ℕ) (area out : List ℕ) where
         exist = c .date;
         later = c .later;
         fits = c .fits;
-        done = rw (answered-accepted _ (holds area) (acceptedTurn (holds area) day) k, h) (on-done _ _ (afterTurn e day) area out (turn-within (length out) e day (held area e h .good) z));
+        done = rw (answered-accepted _ (holds area) (acceptedTurn (holds area) day) k, h) (on-done _ _ (afterTurn e day) area out (turn-within (length out) e day (engine-in area e h .good) z));
       }
 
   pub turn-there : firstOf (turnStops (length out) (holds area) day) ≡ 0 → Turns

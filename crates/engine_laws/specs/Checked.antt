@@ -9,7 +9,7 @@ use lib.Dec.{leb, eqb, lit≤}
 use lib.ListN.{length, take, drop, replicate, length-append, length-drop}
 use lib.Seq.{drop-drop, length-take-le}
 use borrow.Author.Tests.{eqb-true, eqb-false, eq-eqb, ne-eqb, le-leb, lt-leb}
-use Rattle.rules.specs.Text.{isText, every, number, ordered, textBefore}
+use Rattle.rules.specs.Text.{isText, every, bigEndian, ordered, textBefore}
 use Rattle.rules.specs.Engine.{earlier, precedes}
 use Rattle.rules.specs.Area.{zeros, padded, untilZero, numberAt, referenceIn, positionIn, referenceRecord, positionRecord, records, recordSize}
 use Rattle.laws.specs.Numbers.{Within, bytes-within, within-take, within-drop}
@@ -107,8 +107,8 @@ unfolding positionTest valueAt
 positions-walk day a n p = walk-each a (always (positionTest day a)) (positionFits day) (λ k q. rw (cut-is a q recordSize)) n p
 
 -- a number of a record, as it stands in the area
-number-in : (a : List ℕ) (p i w : ℕ) → i + w ≤ recordSize → number (cut a (p + i) (p + (i + w))) ≡ numberAt (take recordSize (drop p a)) i w
-number-in a p i w h = ap number (sym (in-record a p i (i + w) h) ∙ cut-is (cut a p (p + recordSize)) i w ∙ rw (cut-is a p recordSize))
+number-in : (a : List ℕ) (p i w : ℕ) → i + w ≤ recordSize → bigEndian (cut a (p + i) (p + (i + w))) ≡ numberAt (take recordSize (drop p a)) i w
+number-in a p i w h = ap bigEndian (sym (in-record a p i (i + w) h) ∙ cut-is (cut a p (p + recordSize)) i w ∙ rw (cut-is a p recordSize))
 
 -- and so is the text of a reference
 pub text-in : (a : List ℕ) (p : ℕ) → cut a (p + 8) (p + 8 + 16) ≡ take 16 (drop 8 (take recordSize (drop p a)))
@@ -222,8 +222,8 @@ unfolding filedTest precedesBy precedes referenceIn
 filed-is a p k l =
     let r : List ℕ = take recordSize (drop p a) in
     let s : List ℕ = take recordSize (drop (p + recordSize) a) in
-    let m : number (cut a p (p + 8)) ≡ numberAt r 0 8 = rw add-zero at (number-in a p 0 8 (lit≤ tt)) in
-    let n : number (cut a (p + recordSize) (p + recordSize + 8)) ≡ numberAt s 0 8 = rw add-zero at (number-in a (p + recordSize) 0 8 (lit≤ tt)) in
+    let m : bigEndian (cut a p (p + 8)) ≡ numberAt r 0 8 = rw add-zero at (number-in a p 0 8 (lit≤ tt)) in
+    let n : bigEndian (cut a (p + recordSize) (p + recordSize + 8)) ≡ numberAt s 0 8 = rw add-zero at (number-in a (p + recordSize) 0 8 (lit≤ tt)) in
     let t : cut a (p + 8) (p + 8 + 16) ≡ take 16 (drop 8 r) = text-in a p in
     let u : cut a (p + recordSize + 8) (p + recordSize + 8 + 16) ≡ take 16 (drop 8 s) = text-in a (p + recordSize) in
     rw (

@@ -9,7 +9,7 @@ use lib.Dec.{leb, lit≤}
 use lib.ListN.{length, take, drop, length-append, length-drop, length-map}
 use lib.Seq.{take-add, length-take-le}
 use borrow.Author.Tests.{leb-true, le-leb}
-use Rattle.rules.specs.Text.{every, equal, number, bytes, isSome, given}
+use Rattle.rules.specs.Text.{every, equal, bigEndian, bytes, isSome, given}
 use Rattle.rules.specs.Dates.{exists}
 use Rattle.rules.specs.Register.{register}
 use Rattle.rules.specs.Engine.{Engine, within}
@@ -27,9 +27,9 @@ use Rattle.rule_laws.specs.Registers.{register-length}
 use Rattle.engine_laws.specs.Limits.{Limits, limits, limits-within}
 use Rattle.engine_laws.specs.Layout.{WrittenBack, All, All.none, All.more, part-at, joined-length}
 use Rattle.engine_laws.specs.Several.{Texts, stands-zeros, zeros-stand, text-size, lengths-behind, texts-behind, textsBefore, lengths-same, texts-same}
-use Rattle.engine_laws.specs.Held.{Held, held, positions-kept, references-kept, texts-count}
+use Rattle.engine_laws.specs.EngineIn.{EngineIn, engine-in, positions-kept, references-kept, texts-count}
 use Rattle.engine_laws.specs.Positions.{Good, all-good, good-all}
-use Rattle.engine_laws.specs.Sections.{Of, referencePart, positionPart, textPart, held-sections, references-stand, positions-stand, lengths-apart, held-texts}
+use Rattle.engine_laws.specs.Sections.{Of, referencePart, positionPart, textPart, engine-sections, references-stand, positions-stand, lengths-apart, engine-texts}
 use Rattle.engine_laws.specs.Walk.{walk, always}
 use Rattle.engine_laws.specs.Tests.{isZero, countsTest, headerTest, referenceTest, filedTest, referencesTest, positionFits, positionTest, orderTest, positionsTest, areaTest, textCount, registerTest, textsTest}
 use Rattle.engine_laws.specs.Records.{cut-is, zero-bytes, zeros-zero, bytes-zero, bytes-stand, take-part}
@@ -102,12 +102,12 @@ module _ {A : Type 0} (f : List ℕ → Bool) (write : A → List ℕ) (reads : 
         zero = rw j at (stands-zeros room (joined (map write xs)) t (omega arith));
       }
 
-module _ (a : List ℕ) (b : Bytes a) (e : Engine) (h : Held a e) where
+module _ (a : List ℕ) (b : Bytes a) (e : Engine) (h : EngineIn a e) where
   l : Limits e
   l = limits e (h .good)
 
   s : Of e (drop areaSize a) a
-  s = held-sections a e h
+  s = engine-sections a e h
 
   day-at : numberAt a dayPlace 3 ≡ e .day
   unfolding decode
@@ -130,7 +130,7 @@ module _ (a : List ℕ) (b : Bytes a) (e : Engine) (h : Held a e) where
   register-at = ap (λ (x : Engine). x .register) (h .read)
 
   x : Texts (textsOf e) a
-  x = held-texts a e h
+  x = engine-texts a e h
 
   many-positions : numberAt a manyPositionsPlace 1 ≡ length (e .positions)
   many-positions = sym (records-length positionIn (numberAt a manyPositionsPlace 1) (drop positionsPlace a)) ∙ ap length positions-at
@@ -147,24 +147,24 @@ module _ (a : List ℕ) (b : Bytes a) (e : Engine) (h : Held a e) where
       let m : take 2 a ≡ mark = ap (take 2) f ∙ mark-part mark refl (e .day) (e .count) (length (e .positions)) (length (e .references)) 0 rest in
       let o : take 1 (drop currencyPlace a) ≡ bytes 1 0 = ap (λ (x : List ℕ). take 1 (drop currencyPlace x)) f ∙ currency-part mark refl (e .day) (e .count) (length (e .positions)) (length (e .references)) 0 rest in
       let z : every isZero (cut a (lengthsPlace + 2 * textCount) referencesPlace) ≡ true = rw (texts-count e) at (lengths-behind x) in
-      header-form a ∙ rw (m, equal-same mark, day-at, l .day, count-at, many-references, many-positions, le-leb _ _ (l .numbered), le-leb _ _ (l .few), le-leb _ _ (l .today), o, bytes-zero 1, zeros-zero 1) z
+      header-form a ∙ rw (m, equal-same mark, day-at, l .day, count-at, many-references, many-positions, le-leb _ _ (l .numbered), le-leb _ _ (l .few), le-leb _ _ (l .references-few), o, bytes-zero 1, zeros-zero 1) z
 
-  references-pass : referencesTest a (number (cut a manyReferencesPlace currencyPlace)) ≡ true
+  references-pass : referencesTest a (bigEndian (cut a manyReferencesPlace currencyPlace)) ≡ true
   unfolding referencesTest referencePart
   references-pass =
-      let n : number (cut a manyReferencesPlace currencyPlace) ≡ numberAt a manyReferencesPlace 1 = ap number (cut-is a 8 1) in
-      let few : recordSize * length (e .references) ≤ referencesRoom = omega (arith, l .today) in
+      let n : bigEndian (cut a manyReferencesPlace currencyPlace) ≡ numberAt a manyReferencesPlace 1 = ap bigEndian (cut-is a 8 1) in
+      let few : recordSize * length (e .references) ≤ referencesRoom = omega (arith, l .references-few) in
       let c : SectionPasses referenceFits referenceRecord (numberAt a manyReferencesPlace 1) referencesPlace referencesRoom a (e .references) =
       section-passes referenceFits referenceRecord referenceIn Form reference-checks referencesRoom (e .references) (numberAt a manyReferencesPlace 1) b (references-stand s) (references-kept (e .references) (l .forms)) many-references few (omega (arith, h .long)) (all-forms (e .references) (l .forms)) in
       let r : All Rec (records (numberAt a manyReferencesPlace 1) (drop referencesPlace a)) = records-bytes a b (numberAt a manyReferencesPlace 1) referencesPlace (omega (arith, many-references, h .long)) in
       let w : All Filed (records (numberAt a manyReferencesPlace 1) (drop referencesPlace a)) = filed-all r (whole-all r (rw references-at (sym (c .stand)))) in
       rw (n, references-walk, c .pass, filed-walk a (numberAt a manyReferencesPlace 1) referencesPlace w, references-at, l .filed) (c .zero)
 
-  positions-pass : positionsTest (number (cut a dayPlace countPlace)) a (number (cut a manyPositionsPlace manyReferencesPlace)) ≡ true
+  positions-pass : positionsTest (bigEndian (cut a dayPlace countPlace)) a (bigEndian (cut a manyPositionsPlace manyReferencesPlace)) ≡ true
   unfolding positionsTest positionPart
   positions-pass =
-      let n : number (cut a manyPositionsPlace manyReferencesPlace) ≡ numberAt a manyPositionsPlace 1 = ap number (cut-is a 7 1) in
-      let d : number (cut a dayPlace countPlace) ≡ e .day = ap number (cut-is a 2 3) ∙ day-at in
+      let n : bigEndian (cut a manyPositionsPlace manyReferencesPlace) ≡ numberAt a manyPositionsPlace 1 = ap bigEndian (cut-is a 7 1) in
+      let d : bigEndian (cut a dayPlace countPlace) ≡ e .day = ap bigEndian (cut-is a 2 3) ∙ day-at in
       let few : recordSize * length (e .positions) ≤ positionsRoom = omega (arith, l .few) in
       let c : SectionPasses (positionFits (e .day)) positionRecord (numberAt a manyPositionsPlace 1) positionsPlace positionsRoom a (e .positions) =
       section-passes (positionFits (e .day)) positionRecord positionIn (Good (e .day)) (position-checks (e .day)) positionsRoom (e .positions) (numberAt a manyPositionsPlace 1) b (positions-stand s) (positions-kept (e .day) (e .positions) (l .good)) many-positions few (omega (arith, h .long)) (all-good (e .day) (e .positions) (l .good)) in
@@ -181,9 +181,9 @@ module _ (a : List ℕ) (b : Bytes a) (e : Engine) (h : Held a e) where
   unfolding textsTest
   texts-pass = rw register-passes (rw (texts-count e) at (texts-behind x))
 
-  pub held-passes : areaTest a ≡ true
+  pub engine-passes : areaTest a ≡ true
   unfolding areaTest
-  held-passes = rw (le-leb areaSize (length a) (h .long), header-passes, references-pass, positions-pass) texts-pass
+  engine-passes = rw (le-leb areaSize (length a) (h .long), header-passes, references-pass, positions-pass) texts-pass
 
 -- ---- an area that passes holds an engine
 
@@ -211,7 +211,7 @@ record TestsPassed (a : List ℕ) : Type 0 where
   day : exists (numberAt a dayPlace 3) ≡ true
   count : numberAt a countPlace 2 ≤ 32 + 18 * numberAt a manyReferencesPlace 1
   few : numberAt a manyPositionsPlace 1 ≤ 32
-  today : numberAt a manyReferencesPlace 1 ≤ 64
+  references-few : numberAt a manyReferencesPlace 1 ≤ 64
   currency : every isZero (take 1 (drop currencyPlace a)) ≡ true
   lengths : every isZero (cut a (lengthsPlace + 2 * textCount) referencesPlace) ≡ true
   references : walk (always (referenceTest a)) (numberAt a manyReferencesPlace 1) referencesPlace ≡ true
@@ -238,7 +238,7 @@ passed a t =
       day = search (and-left, and-right) depth 9;
       count = leb-true _ _ (search (and-left, and-right) depth 9);
       few = leb-true _ _ (search (and-left, and-right) depth 9);
-      today = leb-true _ _ (search (and-left, and-right) depth 9);
+      references-few = leb-true _ _ (search (and-left, and-right) depth 9);
       currency = search (and-left, and-right) depth 9;
       lengths = search (and-left, and-right) depth 9;
       references = and-left _ _ r;
@@ -260,14 +260,14 @@ module _ (a : List ℕ) (b : Bytes a) (t : TestsPassed a) where
   entries = sym (positions-walk (numberAt a dayPlace 3) a (numberAt a manyPositionsPlace 1) positionsPlace) ∙ t .positions
 
   references-good : All Form (map referenceIn (records (numberAt a manyReferencesPlace 1) (drop referencesPlace a)))
-  references-good = section-good referenceFits referenceRecord referenceIn Form reference-checks a b referencesPlace referencesRoom (numberAt a manyReferencesPlace 1) (omega (arith, t .today)) (omega (arith, t .long)) rows
+  references-good = section-good referenceFits referenceRecord referenceIn Form reference-checks a b referencesPlace referencesRoom (numberAt a manyReferencesPlace 1) (omega (arith, t .references-few)) (omega (arith, t .long)) rows
 
   positions-good : All (Good (numberAt a dayPlace 3)) (map positionIn (records (numberAt a manyPositionsPlace 1) (drop positionsPlace a)))
   positions-good = section-good (positionFits (numberAt a dayPlace 3)) positionRecord positionIn (Good (numberAt a dayPlace 3)) (position-checks (numberAt a dayPlace 3)) a b positionsPlace positionsRoom (numberAt a manyPositionsPlace 1) (omega (arith, t .few)) (omega (arith, t .long)) entries
 
   references-filed : All Filed (records (numberAt a manyReferencesPlace 1) (drop referencesPlace a))
   references-filed =
-      let r : All Rec (records (numberAt a manyReferencesPlace 1) (drop referencesPlace a)) = records-bytes a b (numberAt a manyReferencesPlace 1) referencesPlace (omega (arith, t .today, t .long)) in
+      let r : All Rec (records (numberAt a manyReferencesPlace 1) (drop referencesPlace a)) = records-bytes a b (numberAt a manyReferencesPlace 1) referencesPlace (omega (arith, t .references-few, t .long)) in
       filed-all r (whole-all r (each-same referenceFits referenceRecord referenceIn Form reference-checks r rows))
 
   -- the texts that are read are those of the area, and they have room
@@ -287,7 +287,7 @@ module _ (a : List ℕ) (b : Bytes a) (t : TestsPassed a) where
     few = rw records-length (t .few);
     good = good-all positions-good;
     order = sym (order-walk a (numberAt a manyPositionsPlace 1) positionsPlace (records-bytes a b (numberAt a manyPositionsPlace 1) positionsPlace (omega (arith, t .few, t .long)))) ∙ t .order;
-    today = rw records-length (t .today);
+    references-few = rw records-length (t .references-few);
     forms = forms-all references-good;
     filed = sym (filed-walk a (numberAt a manyReferencesPlace 1) referencesPlace references-filed) ∙ t .filed;
     numbered = rw records-length (t .count);
@@ -312,7 +312,7 @@ module _ (a : List ℕ) (b : Bytes a) (t : TestsPassed a) where
 
   reference-same : referencePart (decode a .references) ≡ take referencesRoom (drop referencesPlace a)
   unfolding referencePart decode
-  reference-same = section-same referenceFits referenceRecord referenceIn Form reference-checks a b referencesPlace referencesRoom (numberAt a manyReferencesPlace 1) (omega (arith, t .today)) (omega (arith, t .long)) rows (t .behind-references)
+  reference-same = section-same referenceFits referenceRecord referenceIn Form reference-checks a b referencesPlace referencesRoom (numberAt a manyReferencesPlace 1) (omega (arith, t .references-few)) (omega (arith, t .long)) rows (t .behind-references)
 
   position-same : positionPart (decode a .positions) ≡ take positionsRoom (drop positionsPlace a)
   unfolding positionPart decode
@@ -345,5 +345,5 @@ passes-holds a b h =
 pub holds-tests : (a : List ℕ) → Bytes a → isSome (holds a) ≡ areaTest a
 holds-tests a b =
     either _ _
-    (λ h. let x : There (holds a) = there (holds a) h in held-passes a b (x .value) (held a (x .value) (x .is)))
+    (λ h. let x : There (holds a) = there (holds a) h in engine-passes a b (x .value) (engine-in a (x .value) (x .is)))
     (λ h. isSome-is (holds a) (decode a) (passes-holds a b h))

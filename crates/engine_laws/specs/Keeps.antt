@@ -15,7 +15,7 @@ use Rattle.rules.specs.Register.{Register, register, registerOf}
 use Rattle.rules.specs.Verdict.{isReturned}
 use Rattle.rules.specs.Engine.{Position, Engine, limit, slashed, isBank, goodPositions, goodReference, goodReferences, within}
 use Rattle.rules.specs.Written.{partsOf}
-use Rattle.rules.specs.Calls.{firstOf, openStops, opened, badReference, misdated, bankOf, ownReference, added, after, noRoom, overLimit, verdictOf, returnedOf, hasVerdict, writes, afterMessage, messageStops, turnStops, afterTurn}
+use Rattle.rules.specs.Calls.{firstOf, openStops, opened, badReference, misdated, bankOf, ownReference, addition, positionAfter, noRoom, overLimit, verdictOf, returnedOf, hasVerdict, messagesWritten, afterMessage, messageStops, turnStops, afterTurn}
 use Rattle.rule_laws.specs.Clear.{OpenClear, open-clear, Clear, clear, TurnClear, turn-clear}
 use Rattle.engine_laws.specs.Facts.{or-left, or-right}
 use Rattle.engine_laws.specs.Limits.{Limits, limits, limits-within}
@@ -36,7 +36,7 @@ opened-within size text day h =
       few = omega arith;
       good = refl;
       order = refl;
-      today = omega arith;
+      references-few = omega arith;
       forms = refl;
       filed = refl;
       numbered = omega arith;
@@ -62,9 +62,9 @@ parts-few n h = go (eqb n 0)
     go false = omega arith
 
 -- a message writes at most two parts of an MT199
-pub writes-few : (e : Engine) (m : Message) → length (detailsOf m) ≤ 16 → writes e m ≤ 2
-unfolding writes
-writes-few e m h = go (hasVerdict m (after e m))
+pub writes-few : (e : Engine) (m : Message) → length (detailsOf m) ≤ 16 → messagesWritten e m ≤ 2
+unfolding messagesWritten
+writes-few e m h = go (hasVerdict m (positionAfter e m))
   where
     n : ℕ
     n = length (returnedOf (registerOf (e .register)) (detailsOf m))
@@ -86,16 +86,16 @@ own-good s m a f b =
     rw (k, a .reference, n)
 
 pub message-within : (room : ℕ) (e : Engine) (s : List ℕ) (m : Message) → within e ≡ true → read s ≡ some m → firstOf (messageStops room (some e) s) ≡ 0 → within (afterMessage e m) ≡ true
-unfolding afterMessage noRoom overLimit after
+unfolding afterMessage noRoom overLimit positionAfter
 message-within room e s m w r h =
     let l : Limits e = limits e w in
     let c : Clear room e s m = clear room e s m r h in
     let a : Has s m = read-has s m r in
-    let q : Position = added m in
+    let q : Position = addition m in
     let sorted : Sorted Before (e .positions) = ordered-sorted position-order (e .positions) (l .order) in
     let passes : UnderLimit q (e .positions) = record {
       transferred = leb-true _ _ (not-false _ (or-left _ _ (c .under)));
-      detailed = leb-true _ _ (not-false _ (or-right (not (leb (after e m .transferred) limit)) _ (c .under)));
+      detailed = leb-true _ _ (not-false _ (or-right (not (leb (positionAfter e m .transferred) limit)) _ (c .under)));
     } in
     limits-within (afterMessage e m) record {
       register = l .register;
@@ -103,7 +103,7 @@ message-within room e s m w r h =
       few = booked-few q sorted (l .few) (c .opens);
       good = good-all (booked-good q (rw (a .sent) (sender-bank s (c .frame))) (a .date) (dated (e .day) m (c .today)) passes (all-good (e .day) (e .positions) (l .good)));
       order = sorted-ordered position-order (booked-sorted q sorted);
-      today = rw (filed-length (ownReference m) (e .references)) (omega (arith, c .counted));
+      references-few = rw (filed-length (ownReference m) (e .references)) (omega (arith, c .counted));
       forms = filed-good (e .references) (ownReference m) (l .forms) (own-good s m a (c .frame) (c .references));
       filed = sorted-ordered reference-order (filed-sorted (ownReference m) (ordered-sorted reference-order (e .references) (l .filed)) (c .new));
       numbered = rw (filed-length (ownReference m) (e .references)) (omega (arith, l .numbered, writes-few e m (c .details)));
@@ -123,7 +123,7 @@ turn-within room e day w h =
       few = omega (arith, kept-length (e .positions), l .few);
       good = good-all (kept-good {day = e .day} (omega arith) (all-good (e .day) (e .positions) (l .good)));
       order = sorted-ordered position-order (kept-sorted (ordered-sorted position-order (e .positions) (l .order)));
-      today = omega arith;
+      references-few = omega arith;
       forms = refl;
       filed = refl;
       numbered = omega (arith, corrected-length (e .positions), l .few);

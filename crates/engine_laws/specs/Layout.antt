@@ -8,7 +8,7 @@ use lib.Dec.{eqb}
 use lib.ListN.{length, take, drop, length-append}
 use lib.Seq.{take-at, drop-at}
 use borrow.Author.Tests.{leb-true, ne-eqb}
-use Rattle.rules.specs.Text.{isText, every, run, bytes, number}
+use Rattle.rules.specs.Text.{isText, every, run, bytes, bigEndian}
 use Rattle.rules.specs.Engine.{Position, Reference, limit, goodPosition, goodReference, lastBank}
 use Rattle.rules.specs.Area.{zeros, padded, joined, referenceRecord, keyBytes, positionRecord, numberAt, untilZero, referenceIn, keyIn, positionIn, records, dateOffset, transferredOffset, detailedOffset, recordSize}
 use Rattle.laws.specs.Digits.{places-length}
@@ -26,7 +26,7 @@ pub part-at : (a p x q : List ℕ) (i w : ℕ) → length p ≡ i → length x �
 part-at a p x q i w h k e = rw (e, drop-at p (x ++ q) i h, take-at x q w k)
 
 pub number-at : (a p q : List ℕ) (i w v : ℕ) → length p ≡ i → v < 256 ^ w → a ≡ p ++ (bytes w v ++ q) → numberAt a i w ≡ v
-number-at a p q i w v h k e = ap number (part-at a p (bytes w v) q i w h (places-length 256 0 w v) e) ∙ number-bytes w v k
+number-at a p q i w v h k e = ap bigEndian (part-at a p (bytes w v) q i w h (places-length 256 0 w v) e) ∙ number-bytes w v k
 
 -- ---- records
 

@@ -2,7 +2,7 @@ pub mod Facts
 pub mod Limits
 pub mod Layout
 pub mod Several
-pub mod Held
+pub mod EngineIn
 pub mod Order
 pub mod Positions
 pub mod References

@@ -17,7 +17,7 @@ pub record Limits (e : Engine) : Type 0 where
   pub few : length (e .positions) ≤ 32
   pub good : goodPositions (e .day) (e .positions) ≡ true
   pub order : ordered earlier (e .positions) ≡ true
-  pub today : length (e .references) ≤ 64
+  pub references-few : length (e .references) ≤ 64
   pub forms : goodReferences (e .references) ≡ true
   pub filed : ordered precedes (e .references) ≡ true
   pub numbered : e .count ≤ 32 + 18 * length (e .references)
@@ -30,7 +30,7 @@ limits e h = record {
   few = leb-true _ _ (search (and-left, and-right) depth 10);
   good = search (and-left, and-right) depth 10;
   order = search (and-left, and-right) depth 10;
-  today = leb-true _ _ (search (and-left, and-right) depth 10);
+  references-few = leb-true _ _ (search (and-left, and-right) depth 10);
   forms = search (and-left, and-right) depth 10;
   filed = search (and-left, and-right) depth 10;
   numbered = leb-true _ _ (search (and-left, and-right) depth 10);
@@ -38,7 +38,7 @@ limits e h = record {
 
 pub limits-within : (e : Engine) → Limits e → within e ≡ true
 unfolding within
-limits-within e l = rw (l .register, l .day, le-leb _ _ (l .few), l .good, l .order, le-leb _ _ (l .today), l .forms, l .filed, le-leb _ _ (l .numbered))
+limits-within e l = rw (l .register, l .day, le-leb _ _ (l .few), l .good, l .order, le-leb _ _ (l .references-few), l .forms, l .filed, le-leb _ _ (l .numbered))
 
 -- a bank fits eight bytes
 pub bank-small : (n : ℕ) → isBank n ≡ true → n ≤ lastBank

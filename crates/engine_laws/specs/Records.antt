@@ -9,7 +9,7 @@ use lib.Dec.{leb, eqb, lit≤}
 use lib.ListN.{length, take, drop, length-drop}
 use lib.Seq.{drop-at, drop-drop, take-add, take-all, length-take-le}
 use borrow.Author.Tests.{leb-true, le-leb, eqb-true, not-true}
-use Rattle.rules.specs.Text.{isText, every, run, places, bytes, number}
+use Rattle.rules.specs.Text.{isText, every, run, places, bytes, bigEndian}
 use Rattle.rules.specs.Accounts.{isBic}
 use Rattle.rules.specs.Engine.{isBank, goodReference, slashed, lastBank}
 use Rattle.rules.specs.Area.{zeros, padded, numberAt, untilZero, referenceIn, keyIn, positionIn, referenceRecord, keyBytes, positionRecord, dateOffset, blockOffset, transferredOffset, detailedOffset, recordSize}
@@ -35,7 +35,7 @@ in-record a p i j h = cut-cut a p (p + recordSize) i j (omega arith)
 -- a number of a part of k bytes
 pub number-within : (a : List ℕ) (at k j w : ℕ) → j + w ≤ k → numberAt (take k (drop at a)) j w ≡ numberAt a (at + j) w
 number-within a at k j w h =
-    ap number (rw (← cut-is a at k, cut-drop a at (at + k) j, cut-take a (at + j) (at + k) w (omega arith)) (cut-is a (at + j) w))
+    ap bigEndian (rw (← cut-is a at k, cut-drop a at (at + k) j, cut-take a (at + j) (at + k) w (omega arith)) (cut-is a (at + j) w))
 
 -- ---- zeros
 

@@ -14,7 +14,7 @@ use Rattle.laws.specs.Standing.{Stands}
 use Rattle.engine_laws.specs.Limits.{Limits, limits}
 use Rattle.engine_laws.specs.Layout.{joined-length}
 use Rattle.engine_laws.specs.Several.{Texts, lengths-length}
-use Rattle.engine_laws.specs.Held.{Held, held-parts, positions-kept, references-kept, texts-few, texts-fit}
+use Rattle.engine_laws.specs.EngineIn.{EngineIn, engine-parts, positions-kept, references-kept, texts-few, texts-fit}
 
 -- the bytes of references, of positions and of texts in their sections
 unfoldable pub referencePart : List Reference → List ℕ
@@ -52,15 +52,15 @@ encode-sections e q w =
     let l : Limits e = limits e w in record {
       whole = simp append-assoc;
       head = header-length e;
-      references = padded-length referencesRoom _ (omega (arith, joined-length referenceRecord referenceIn (references-kept (e .references) (l .forms)), l .today));
+      references = padded-length referencesRoom _ (omega (arith, joined-length referenceRecord referenceIn (references-kept (e .references) (l .forms)), l .references-few));
       positions = padded-length positionsRoom _ (omega (arith, joined-length positionRecord positionIn (positions-kept (e .day) (e .positions) (l .good)), l .few));
       text = padded-length textsRoom _ (texts-fit e l);
     }
 
-pub held-sections : (a : List ℕ) (e : Engine) → Held a e → Of e (drop areaSize a) a
-held-sections a e h =
+pub engine-sections : (a : List ℕ) (e : Engine) → EngineIn a e → Of e (drop areaSize a) a
+engine-sections a e h =
     let s : Of e (drop areaSize a) (encode e ++ drop areaSize a) = encode-sections e (drop areaSize a) (h .good) in
-    record { whole = held-parts a e h ∙ s .whole; head = s .head; references = s .references; positions = s .positions; text = s .text }
+    record { whole = engine-parts a e h ∙ s .whole; head = s .head; references = s .references; positions = s .positions; text = s .text }
 
 -- ---- where each stands
 
@@ -79,10 +79,10 @@ pub lengths-apart : (n o l q : List ℕ) → n ++ (o ++ l) ++ q ≡ n ++ o ++ (l
 lengths-apart n o l q = simp append-assoc
 
 -- the texts of an engine stand in its area
-pub held-texts : (a : List ℕ) (e : Engine) → Held a e → Texts (textsOf e) a
+pub engine-texts : (a : List ℕ) (e : Engine) → EngineIn a e → Texts (textsOf e) a
 unfolding header textPart
-held-texts a e h =
-    let s : Of e (drop areaSize a) a = held-sections a e h in
+engine-texts a e h =
+    let s : Of e (drop areaSize a) a = engine-sections a e h in
     let N : List ℕ = mark ++ bytes 3 (e .day) ++ bytes 2 (e .count) ++ bytes 1 (length (e .positions)) ++ bytes 1 (length (e .references)) in
     let R : List ℕ = referencePart (e .references) ++ (positionPart (e .positions) ++ (textPart (textsOf e) ++ drop areaSize a)) in
     record {

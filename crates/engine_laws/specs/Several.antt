@@ -7,7 +7,7 @@ use Prim.Native.Nat.{ℕ, zero, suc, _+_, _-_, _*_, _≤_, _<_}
 use native.Mathlib.Omega.{arith}
 use lib.ListN.{length, getD, take, drop, length-append, length-drop, length-map}
 use lib.Seq.{take-at, drop-at, take-add, take-suc, take-length, drop-drop, length-take-le}
-use Rattle.rules.specs.Text.{every, number, bytes}
+use Rattle.rules.specs.Text.{every, bigEndian, bytes}
 use Rattle.rules.specs.Area.{zeros, padded, joined, lengthRecord, lengthsOf, lengthAt, textPlace, textAt, areaSize, lengthsPlace, lengthsRoom, referencesPlace, textsPlace, textsRoom}
 use Rattle.laws.specs.Digits.{places-length}
 use Rattle.laws.specs.Numbers.{Within, number-bytes}
@@ -102,7 +102,7 @@ module _ {ts : List (List ℕ)} {a : List ℕ} (s : Texts ts a) where
   pub length-back : (k : ℕ) → k < length ts → lengthAt a k ≡ length (getD ts k [])
   unfolding lengthsOf
   length-back k h =
-      ap number (stands-record lengthsRoom (s .lengths) (lengths-each ts) k (rw length-map h) ∙ length-record ts k h)
+      ap bigEndian (stands-record lengthsRoom (s .lengths) (lengths-each ts) k (rw length-map h) ∙ length-record ts k h)
       ∙ number-bytes 2 _ (omega (arith, text-short ts k h, s .fit))
 
   -- text k begins behind those before it

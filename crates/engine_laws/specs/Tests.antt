@@ -4,7 +4,7 @@ use mathlib.Core.List.{List}
 use Prim.Native.Nat.{ℕ, _+_, _-_, _*_}
 use lib.Dec.{leb, eqb}
 use lib.ListN.{length, take, drop}
-use Rattle.rules.specs.Text.{isText, every, run, equal, textBefore, number, isSome}
+use Rattle.rules.specs.Text.{isText, every, run, equal, textBefore, bigEndian, isSome}
 use Rattle.rules.specs.Dates.{exists}
 use Rattle.rules.specs.Accounts.{isBic}
 use Rattle.rules.specs.Register.{register}
@@ -29,8 +29,8 @@ textCount = 1
 unfoldable pub headerTest : List ℕ → Bool
 headerTest a =
     equal (cut a 0 dayPlace) mark
-    && (exists (number (cut a dayPlace countPlace))
-    && (countsTest (number (cut a countPlace manyPositionsPlace)) (number (cut a manyPositionsPlace manyReferencesPlace)) (number (cut a manyReferencesPlace currencyPlace))
+    && (exists (bigEndian (cut a dayPlace countPlace))
+    && (countsTest (bigEndian (cut a countPlace manyPositionsPlace)) (bigEndian (cut a manyPositionsPlace manyReferencesPlace)) (bigEndian (cut a manyReferencesPlace currencyPlace))
     && (every isZero (cut a currencyPlace lengthsPlace)
     && every isZero (cut a (lengthsPlace + 2 * textCount) referencesPlace))))
 
@@ -50,7 +50,7 @@ precedesBy sender text other later = not (leb other sender) || (eqb sender other
 
 -- it stands before the next one
 unfoldable pub filedTest : List ℕ → ℕ → Bool
-filedTest a p = precedesBy (number (cut a p (p + 8))) (cut a (p + 8) (p + 8 + 16)) (number (cut a (p + recordSize) (p + recordSize + 8))) (cut a (p + recordSize + 8) (p + recordSize + 8 + 16))
+filedTest a p = precedesBy (bigEndian (cut a p (p + 8))) (cut a (p + 8) (p + 8 + 16)) (bigEndian (cut a (p + recordSize) (p + recordSize + 8))) (cut a (p + recordSize + 8) (p + recordSize + 8 + 16))
 
 unfoldable pub referencesTest : List ℕ → ℕ → Bool
 referencesTest a n = walk (always (referenceTest a)) n referencesPlace && (walk (always (filedTest a)) (n - 1) referencesPlace && every isZero (cut a (referencesPlace + recordSize * n) positionsPlace))
@@ -106,6 +106,6 @@ unfoldable pub areaTest : List ℕ → Bool
 areaTest a =
     leb areaSize (length a)
     && (headerTest a
-    && (referencesTest a (number (cut a manyReferencesPlace currencyPlace))
-    && (positionsTest (number (cut a dayPlace countPlace)) a (number (cut a manyPositionsPlace manyReferencesPlace))
+    && (referencesTest a (bigEndian (cut a manyReferencesPlace currencyPlace))
+    && (positionsTest (bigEndian (cut a dayPlace countPlace)) a (bigEndian (cut a manyPositionsPlace manyReferencesPlace))
     && textsTest a)))

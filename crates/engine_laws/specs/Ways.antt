@@ -8,7 +8,7 @@ use lib.Dec.{leb, lit≤}
 use lib.ListN.{take, drop}
 use lib.Seq.{take-take}
 use borrow.Author.Tests.{le-leb, lt-leb, leb-true, eq-eqb, ne-eqb, not-true, not-false}
-use Rattle.rules.specs.Text.{every, textBefore, number, isSome}
+use Rattle.rules.specs.Text.{every, textBefore, bigEndian, isSome}
 use Rattle.rules.specs.Accounts.{isBic}
 use Rattle.rules.specs.Register.{register}
 use Rattle.rules.specs.Area.{blockOffset, transferredOffset, lengthAt, textAt, countPlace, manyPositionsPlace, manyReferencesPlace, currencyPlace, recordSize}
@@ -22,8 +22,8 @@ use Rattle.engine_laws.specs.Several.{TextRoom, first-room, next-room}
 
 -- ---- a limit, and the tests behind it
 
-pub limit-held : (a b : ℕ) (r x : Bool) → a ≤ b → r ≡ x → r ≡ (leb a b && x)
-limit-held a b r x h e = rw (le-leb a b h) e
+pub limit-holds : (a b : ℕ) (r x : Bool) → a ≤ b → r ≡ x → r ≡ (leb a b && x)
+limit-holds a b r x h e = rw (le-leb a b h) e
 
 pub limit-failed : (a b : ℕ) (x : Bool) → b < a → false ≡ (leb a b && x)
 limit-failed a b x h = rw (lt-leb a b h)
@@ -58,7 +58,7 @@ block-part a p t h =
 
 -- ---- senders and texts compared
 
-module _ (a : List ℕ) (p x y : ℕ) (e : x ≡ number (cut a p (p + 8))) (f : y ≡ number (cut a (p + recordSize) (p + recordSize + 8))) where
+module _ (a : List ℕ) (p x y : ℕ) (e : x ≡ bigEndian (cut a p (p + 8))) (f : y ≡ bigEndian (cut a (p + recordSize) (p + recordSize + 8))) where
   pub lower-sender : x < y → true ≡ filedTest a p
   unfolding filedTest precedesBy
   lower-sender h = rw (← e, ← f, lt-leb y x h)
@@ -74,17 +74,17 @@ module _ (a : List ℕ) (p x y : ℕ) (e : x ≡ number (cut a p (p + 8))) (f : 
 -- ---- the numbers of a header that passed
 
 module _ (a : List ℕ) (t : Bool) (u : t ≡ headerTest a) (h : not t ≡ false) where
-  counts : countsTest (number (cut a countPlace manyPositionsPlace)) (number (cut a manyPositionsPlace manyReferencesPlace)) (number (cut a manyReferencesPlace currencyPlace)) ≡ true
+  counts : countsTest (bigEndian (cut a countPlace manyPositionsPlace)) (bigEndian (cut a manyPositionsPlace manyReferencesPlace)) (bigEndian (cut a manyReferencesPlace currencyPlace)) ≡ true
   unfolding headerTest
   counts = let k : headerTest a ≡ true = sym u ∙ not-false t h in search (and-left, and-right)
 
-  pub few-references : number (cut a manyReferencesPlace currencyPlace) ≤ 64
+  pub few-references : bigEndian (cut a manyReferencesPlace currencyPlace) ≤ 64
   unfolding countsTest
   few-references = leb-true _ 64 (and-left _ _ counts)
 
-  pub few-positions : number (cut a manyPositionsPlace manyReferencesPlace) ≤ 32
+  pub few-positions : bigEndian (cut a manyPositionsPlace manyReferencesPlace) ≤ 32
   unfolding countsTest
-  few-positions = leb-true _ 32 (and-left _ _ (and-right (leb (number (cut a manyReferencesPlace currencyPlace)) 64) _ counts))
+  few-positions = leb-true _ 32 (and-left _ _ (and-right (leb (bigEndian (cut a manyReferencesPlace currencyPlace)) 64) _ counts))
 
 -- ---- texts
 
@@ -113,4 +113,4 @@ pub ruleset calling = (call-failed, call-passed, bar-met, bar-passed)
 
 pub ruleset lettering = (first-room, text-stands, register-long, register-short)
 
-pub ruleset limiting = (limit-held, limit-failed, call-failed, call-out, tests, walking, reading)
+pub ruleset limiting = (limit-holds, limit-failed, call-failed, call-out, tests, walking, reading)

@@ -13,7 +13,7 @@ use Rattle.rules.specs.Lines.{sender}
 use Rattle.rules.specs.Engine.{slashed}
 use Rattle.rules.specs.Calls.{badSum}
 use Rattle.laws.specs.Parts.{cut, cut-length, cut-take, cut-drop, cut-all, from, from-take}
-use Rattle.laws.specs.Tests.{not-held}
+use Rattle.laws.specs.Tests.{not-holds}
 use Rattle.laws.specs.Reading.{fits-length}
 use Rattle.laws.specs.Equal.{equal-true}
 use Rattle.forms.specs.Spans.{spanOf, SpanIn}
@@ -48,7 +48,7 @@ module _ (s : List ℕ) (p : Span) (k v : ℕ) (w : SpanIn s p) where
   unfolding badSum
   sum-short h =
       let l : length (take 3 (drop k (spanOf s p))) ≡ min 3 (p .end - (p .start + k)) = rw (length-take, cut-drop, cut-length s (p .start + k) (p .end) (w .room)) in
-      let e : false ≡ equal (take 3 (drop k (spanOf s p))) (ascii "BGN") = not-held _ (λ q. omega (arith, ap (λ (x : List ℕ). length x) (equal-true _ _ q))) in
+      let e : false ≡ equal (take 3 (drop k (spanOf s p))) (ascii "BGN") = not-holds _ (λ q. omega (arith, ap (λ (x : List ℕ). length x) (equal-true _ _ q))) in
       rw (← e)
 
   module _ (h : p .start + k + 3 ≤ p .end) (t : Bool) (u : t ≡ equal (cut s (p .start + k) (p .start + k + 3)) (cut (ascii "BGN") 0 3)) where
@@ -74,7 +74,7 @@ module _ (s : List ℕ) (p : Span) (w : SpanIn s p) where
   unfolding foreign passes ibanShape
   payer-short h =
       let l : length (take 22 (drop 6 (spanOf s p))) ≡ min 22 (p .end - (p .start + 6)) = rw (length-take, cut-drop, cut-length s (p .start + 6) (p .end) (w .room)) in
-      let e : false ≡ fits (ascii "BGnnaaaannnnnncccccccc") (take 22 (drop 6 (spanOf s p))) = not-held _ (λ q. omega (arith, fits-length _ _ q)) in
+      let e : false ≡ fits (ascii "BGnnaaaannnnnncccccccc") (take 22 (drop 6 (spanOf s p))) = not-holds _ (λ q. omega (arith, fits-length _ _ q)) in
       rw (← e)
 
   module _ (h : p .start + 6 + 22 ≤ p .end) (t : Bool) (u : t ≡ passes (cut s (p .start + 6) (p .start + 6 + 22))) where

@@ -15,9 +15,9 @@ use Rattle.rules.specs.Forms.{message20, transfer32A, transfer59, detail21, det
 use Rattle.rules.specs.Messages as M
 use Rattle.rules.specs.Messages.{mt103, field20, account103, field21, currency32B, referenceOf, detailsOf, past}
 use Rattle.rules.specs.Calls.{formStops, firstOf, holdsOf, badReference, badSum, badAmount, foreignPayer, badAccount, manyDates}
-use Rattle.forms.specs.Spans.{spanOf, noSpan, within-at, held-line}
-use Rattle.forms.specs.Details.{detailHeld}
-use Rattle.forms.specs.Transfers.{transferHeld}
+use Rattle.forms.specs.Spans.{spanOf, noSpan, within-at, span-line}
+use Rattle.forms.specs.Details.{detailIn}
+use Rattle.forms.specs.Transfers.{transferIn}
 use Rattle.forms.specs.declared.rows.Span.{Span}
 use Rattle.forms.specs.declared.detail.Detail.{Detail}
 use Rattle.forms.specs.declared.transfer.Transfer.{Transfer}
@@ -26,8 +26,8 @@ use Rattle.field_conditions.specs.Fields.{foreign}
 -- ---- a number picked by a test, as a call answered it
 
 module _ (b t : Bool) (x y r : ℕ) (u : t ≡ b) where
-  pub pick-held : t ≡ true → r ≡ x → r ≡ cond b x y
-  pick-held h e = rw (← u, h) e
+  pub pick-holds : t ≡ true → r ≡ x → r ≡ cond b x y
+  pick-holds h e = rw (← u, h) e
 
   pub pick-missed : t ≡ false → r ≡ y → r ≡ cond b x y
   pick-missed h e = rw (← u, h) e
@@ -61,10 +61,10 @@ not-picks true = refl
 not-picks false = refl
 
 -- they are the message's: it has no details
-pub transfer-stops : (s temporary : List ℕ) (t : Transfer) → transferStop s temporary t ≡ firstOf (formStops temporary (some (mt103 (transferHeld s t))))
+pub transfer-stops : (s temporary : List ℕ) (t : Transfer) → transferStop s temporary t ≡ firstOf (formStops temporary (some (mt103 (transferIn s t))))
 unfolding formStops firstOf holdsOf badReference badAmount badAccount manyDates referenceOf detailsOf any twice
 transfer-stops s temporary t =
-    rw (or-nothing (slashed (field20 (transferHeld s t .rows))), not-picks (equal (account103 (transferHeld s t .rows)) temporary), held-line s (t .spans) 23 message20 (omega arith), held-line s (t .spans) 23 transfer32A (omega arith), held-line s (t .spans) 23 transfer59 (omega arith))
+    rw (or-nothing (slashed (field20 (transferIn s t .rows))), not-picks (equal (account103 (transferIn s t .rows)) temporary), span-line s (t .spans) 23 message20 (omega arith), span-line s (t .spans) 23 transfer32A (omega arith), span-line s (t .spans) 23 transfer59 (omega arith))
 
 -- ---- a detail
 
@@ -87,8 +87,8 @@ detailStop s day d =
     (cond (foreign (sender s) (lineIn s (d .spans) detail50H)) 7
     (cond (not (eqb (d .date) day)) 8 noStop)))
 
-pub detail-lowest : (s : List ℕ) (day : ℕ) (d : Detail) → detailStop s day d ≡ lowest (sender s) day (detailHeld s d)
+pub detail-lowest : (s : List ℕ) (day : ℕ) (d : Detail) → detailStop s day d ≡ lowest (sender s) day (detailIn s d)
 unfolding lowest foreign foreignPayer
-detail-lowest s day d = rw (held-line s (d .spans) 17 detail21 (omega arith), held-line s (d .spans) 17 detail32B (omega arith), held-line s (d .spans) 17 detail50H (omega arith))
+detail-lowest s day d = rw (span-line s (d .spans) 17 detail21 (omega arith), span-line s (d .spans) 17 detail32B (omega arith), span-line s (d .spans) 17 detail50H (omega arith))
 
-pub ruleset stopping = (within-at, pick-held, pick-missed, pick-apart, pick-alike)
+pub ruleset stopping = (within-at, pick-holds, pick-missed, pick-apart, pick-alike)

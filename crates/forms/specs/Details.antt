@@ -13,19 +13,19 @@ use Rattle.rules.specs.Messages as M
 use Rattle.rules.specs.Messages.{TakenDetail, detailOf, takeDetail}
 use Rattle.laws.specs.Parts.{from}
 use Rattle.forms.specs.Table.{table, part}
-use Rattle.forms.specs.Spans.{SpansWithin, within-at, held, held-line}
+use Rattle.forms.specs.Spans.{SpansWithin, within-at, linesAt, span-line}
 use Rattle.forms.specs.Rows.{RowsAt}
 use Rattle.forms.specs.Three.{sumIn, dateIn, sum-small, three, three-on, no-first, no-second, no-third, all-three}
 use Rattle.forms.specs.declared.rows.Rows.{Rows}
 use Rattle.forms.specs.declared.detail.Detail.{Detail}
 
 -- the detail that an answer holds
-abbrev pub detailHeld : List ℕ → Detail → M.Detail
-detailHeld s r = record { rows = held s (r .spans) 17; date = r .date; amount = r .amount }
+abbrev pub detailIn : List ℕ → Detail → M.Detail
+detailIn s r = record { rows = linesAt s (r .spans) 17; date = r .date; amount = r .amount }
 
 -- and what stands behind it
 abbrev pub detailedOf : List ℕ → Detail → Option TakenDetail
-detailedOf s r = cond (r .ok) (some record { detail = detailHeld s r; others = from s (r .next) }) none
+detailedOf s r = cond (r .ok) (some record { detail = detailIn s r; others = from s (r .next) }) none
 
 -- it is the detail that begins at `at`
 pub record DetailAt (s : List ℕ) (at : ℕ) (r : Detail) : Type 0 where
@@ -44,14 +44,14 @@ module _ (s : List ℕ) (at : ℕ) (r : Rows) (w : RowsAt s at 23 17 r) where
   detail-none h = let e : none ≡ takeRows detailRows (from s at) = rw (h, detail-rows) at (w .same) in rw (← e)
 
   pub detail-three : r .ok ≡ true → takeDetail (from s at) ≡ three
-      (λ a d b. record { detail = record { rows = held s (r .spans) 17; date = d; amount = a }; others = from s (r .next) })
+      (λ a d b. record { detail = record { rows = linesAt s (r .spans) 17; date = d; amount = a }; others = from s (r .next) })
       (sumIn s (r .spans) detail32B 8)
       (dateIn s (r .spans) detailCentrb 10)
       (dateIn s (r .spans) detailBaeref 6)
   unfolding takeDetail detailOf three
   detail-three h =
-      let e : some record { rows = held s (r .spans) 17; others = from s (r .next) } ≡ takeRows detailRows (from s at) = rw (h, detail-rows) at (w .same) in
-      rw (← e, held-line s (r .spans) 17 detail32B (omega arith), held-line s (r .spans) 17 detailCentrb (omega arith), held-line s (r .spans) 17 detailBaeref (omega arith))
-      (three-on (λ d. record { detail = d; others = from s (r .next) }) (λ a d b. record { rows = held s (r .spans) 17; date = d; amount = a }) (sumIn s (r .spans) detail32B 8) (dateIn s (r .spans) detailCentrb 10) (dateIn s (r .spans) detailBaeref 6))
+      let e : some record { rows = linesAt s (r .spans) 17; others = from s (r .next) } ≡ takeRows detailRows (from s at) = rw (h, detail-rows) at (w .same) in
+      rw (← e, span-line s (r .spans) 17 detail32B (omega arith), span-line s (r .spans) 17 detailCentrb (omega arith), span-line s (r .spans) 17 detailBaeref (omega arith))
+      (three-on (λ d. record { detail = d; others = from s (r .next) }) (λ a d b. record { rows = linesAt s (r .spans) 17; date = d; amount = a }) (sumIn s (r .spans) detail32B 8) (dateIn s (r .spans) detailCentrb 10) (dateIn s (r .spans) detailBaeref 6))
 
 pub ruleset detailing = (no-first, no-second, no-third, all-three, within-at, detail-none, detail-three, sum-small)

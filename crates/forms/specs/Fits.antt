@@ -1,4 +1,4 @@
--- A line held against a row, one law for each way that the code goes.
+-- A line matched against a row, one law for each way that the code goes.
 use mathlib.Core.Path.{_≡_, sym, ap, _∙_}
 use mathlib.Core.Bool.{Bool, true, false, _&&_, and-true, and-false}
 use mathlib.Core.List.{List}
@@ -12,7 +12,7 @@ use Rattle.rules.specs.Text.{isText, run, fits}
 use Rattle.rules.specs.Forms.{textLine, fitsRest, fitsRow}
 use Rattle.laws.specs.Parts.{cut, cut-done, cut-length, cut-get, cut-take, cut-drop}
 use Rattle.laws.specs.Reading.{fits-length}
-use Rattle.laws.specs.Tests.{not-held}
+use Rattle.laws.specs.Tests.{not-holds}
 use Rattle.forms.specs.Table.{heads, heads-length, restOf, rowOf}
 use Rattle.forms.specs.declared.table.Rest.{Rest}
 use Rattle.forms.specs.declared.table.Row.{Row}
@@ -60,7 +60,7 @@ module _ (row : Row) (s : List ℕ) (a e : ℕ) (w : row .start + row .size ≤ 
   pub row-short : e - a < row .size → false ≡ fitsRow (rowOf row) (cut s a e)
   unfolding fitsRow
   row-short h =
-      let f : false ≡ fits (rowOf row .head) (take (length (rowOf row .head)) (cut s a e)) = not-held _ (λ x.
+      let f : false ≡ fits (rowOf row .head) (take (length (rowOf row .head)) (cut s a e)) = not-holds _ (λ x.
       let m : length (rowOf row .head) ≡ length (take (length (rowOf row .head)) (cut s a e)) = fits-length _ _ x in
       let n : length (take (length (rowOf row .head)) (cut s a e)) ≡ min (length (rowOf row .head)) (length (cut s a e)) = length-take _ _ in
       omega (arith, size, cut-length s a e k)) in

@@ -58,23 +58,23 @@ within-set s l k p w h = record { span = go l k (w .span) }
     go (q ∷ l) (suc k) f zero = f zero
     go (q ∷ l) (suc k) f (suc i) = go l k (λ j. f (suc j)) i
 
--- the lines that the first k of them hold
-unfoldable pub held : List ℕ → List Span → ℕ → List Line
-held s l k = map (spanOf s) (take k l)
+-- the lines at the first k of them
+unfoldable pub linesAt : List ℕ → List Span → ℕ → List Line
+linesAt s l k = map (spanOf s) (take k l)
 
-pub held-none : (s : List ℕ) (l : List Span) → held s l 0 ≡ []
-unfolding held
-held-none s l = refl
+pub span-none : (s : List ℕ) (l : List Span) → linesAt s l 0 ≡ []
+unfolding linesAt
+span-none s l = refl
 
 -- one more line
-pub held-more : (s : List ℕ) (l : List Span) (k : ℕ) (p : Span) → k < length l → held s (set l k p) (k + 1) ≡ held s l k ++ (spanOf s p ∷ [])
-unfolding held
-held-more s l k p h = rw (add-one k, take-suc-set l k p h) (map-append (spanOf s) (take k l) (p ∷ []))
+pub span-more : (s : List ℕ) (l : List Span) (k : ℕ) (p : Span) → k < length l → linesAt s (set l k p) (k + 1) ≡ linesAt s l k ++ (spanOf s p ∷ [])
+unfolding linesAt
+span-more s l k p h = rw (add-one k, take-suc-set l k p h) (map-append (spanOf s) (take k l) (p ∷ []))
 
 -- one of them
-pub held-line : (s : List ℕ) (l : List Span) (n k : ℕ) → k < n → getD (held s l n) k [] ≡ spanOf s (getD l k noSpan)
-unfolding held
-held-line s l zero k h = absurd (omega arith)
-held-line s [] (suc n) k h = sym (cut-done s 0 0 (omega arith) (omega arith))
-held-line s (p ∷ l) (suc n) zero h = refl
-held-line s (p ∷ l) (suc n) (suc k) h = held-line s l n k (omega arith)
+pub span-line : (s : List ℕ) (l : List Span) (n k : ℕ) → k < n → getD (linesAt s l n) k [] ≡ spanOf s (getD l k noSpan)
+unfolding linesAt
+span-line s l zero k h = absurd (omega arith)
+span-line s [] (suc n) k h = sym (cut-done s 0 0 (omega arith) (omega arith))
+span-line s (p ∷ l) (suc n) zero h = refl
+span-line s (p ∷ l) (suc n) (suc k) h = span-line s l n k (omega arith)

@@ -10,7 +10,7 @@ use lib.Dec.{leb, eqb}
 use lib.ListN.{length, getD, take, drop}
 use lib.Seq.{drop-cons}
 use borrow.Author.Tests.{leb-true, eqb-true}
-use Rattle.rules.specs.Text.{ascii, numberFrom, number, fitsSign, fits}
+use Rattle.rules.specs.Text.{ascii, numberFrom, bigEndian, fitsSign, fits}
 use Rattle.rules.specs.Forms as F
 use Rattle.rules.specs.Forms.{nothing, text, reference, account, name, sum, transferRows, detailRows}
 use Rattle.laws.specs.Parts.{cut}
@@ -135,7 +135,7 @@ heads-length = refl
 -- ---- the heads as numbers of four signs each
 
 unfoldable pub wordAt : ℕ → ℕ
-wordAt j = number (cut heads (j * 4) (j * 4 + 4))
+wordAt j = bigEndian (cut heads (j * 4) (j * 4 + 4))
 
 -- a sign in its number
 abbrev pub signIn : ℕ → ℕ → ℕ
@@ -152,18 +152,18 @@ all-agree = refl
 pub sign-told : (i w : ℕ) → i < 186 → w ≡ wordAt (i / 4) → signIn w (i % 4) ≡ getD heads i 0
 sign-told i w l e = rw e (eqb-true _ _ (below-at agrees 186 all-agree i l))
 
--- ---- bytes held against the heads, sign by sign
+-- ---- bytes matched against the heads, sign by sign
 
 module _ (b : ℕ) (s : List ℕ) (a n k : ℕ) (x : Bool) (inv : fits (cut heads (b + k) (b + n)) (cut s (a + k) (a + n)) ≡ x) where
   module _ (h : k < n) (l : b + n ≤ 186) (m : a + n ≤ length s) (v : ℕ) (e : v ≡ getD heads (b + k) 0) (q : Bool) (u : q ≡ fitsSign v (getD s (a + k) 0)) where
-    sign-held : q ≡ fitsSign (getD heads (b + k) 0) (getD s (a + k) 0)
-    sign-held = rw (← e) u
+    sign-holds : q ≡ fitsSign (getD heads (b + k) 0) (getD s (a + k) 0)
+    sign-holds = rw (← e) u
 
     pub head-more : q ≡ true → fits (cut heads (b + (k + 1)) (b + n)) (cut s (a + (k + 1)) (a + n)) ≡ x
-    head-more d = pairs-more fits fitsSign fits-pairs heads s b a n k x inv h (omega (arith, heads-length)) m q sign-held d
+    head-more d = pairs-more fits fitsSign fits-pairs heads s b a n k x inv h (omega (arith, heads-length)) m q sign-holds d
 
     pub head-bad : q ≡ false → eqb k n ≡ x
-    head-bad d = pairs-before fits fitsSign fits-pairs heads s b a n k x inv h (omega (arith, heads-length)) m q sign-held d
+    head-bad d = pairs-before fits fitsSign fits-pairs heads s b a n k x inv h (omega (arith, heads-length)) m q sign-holds d
 
   pub head-end : k ≤ n → n ≤ k → eqb k n ≡ x
   head-end = pairs-out fits fitsSign fits-pairs heads s b a n k x inv

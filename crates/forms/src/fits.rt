@@ -1,4 +1,4 @@
-// A line held against a row of a form.
+// A line matched against a row of a form.
 use crate::table::Rest;
 use crate::table::Row;
 use crate::table::head_fits;

@@ -1,4 +1,4 @@
-// The lines of a text held against some rows of the table, one behind the other.
+// The lines of a text matched against some rows of the table, one behind the other.
 use crate::fits::row_fits;
 use crate::table::row_at;
 use lines::Next;
@@ -7,7 +7,7 @@ use lines::take_line;
 ghost use Prim.Native.Nat.{_+_, _<_, _≤_};
 ghost use lib.ListN.{length};
 ghost use Rattle.forms.specs.Spans.{SpanIs};
-ghost use Rattle.forms.specs.Rows.{RowsAt, ToHold, HeldAt};
+ghost use Rattle.forms.specs.Rows.{RowsAt, ToMatch, MatchedAt};
 
 // A part of the message, from start up to end.
 pub struct Span {
@@ -35,34 +35,34 @@ fn part(a: usize, e: usize) -> Span
 }
 
 // What a row makes of the line at its place: does it fit, or may the row be left out; where the next row's line begins; the part of the line, an empty one for a row left out.
-pub struct Held {
+pub struct Matched {
     pub ok: bool,
     pub at: usize,
     pub span: Span,
 }
 
-// The line at `at` held against row k of the table.
-fn hold_line(s: &[u8], at: usize, line: Next, k: usize) -> Held
-    requires { ⌜ ToHold (now s) at k line ⌝ }
-    ensures { λ r. ⌜ HeldAt (now (s .entry)) at k r ⌝ }
+// The line at `at` matched against row k of the table.
+fn match_line(s: &[u8], at: usize, line: Next, k: usize) -> Matched
+    requires { ⌜ ToMatch (now s) at k line ⌝ }
+    ensures { λ r. ⌜ MatchedAt (now (s .entry)) at k r ⌝ }
 {
     let row = row_at(k);
     match line {
         Next::Line(e) => {
             if row_fits(s, at, e, row) {
-                return Held {
+                return Matched {
                     ok: true,
                     at: e + 2,
                     span: part(at, e),
                 };
             }
-            Held {
+            Matched {
                 ok: row.optional,
                 at,
                 span: Span { start: 0, end: 0 },
             }
         }
-        Next::Bad => Held {
+        Next::Bad => Matched {
             ok: false,
             at,
             span: Span { start: 0, end: 0 },
@@ -83,10 +83,10 @@ pub fn read_rows(s: &[u8], at: usize, first: usize, count: usize) -> Rows
     let mut i: usize = 0;
     while i < count {
         let line = take_line(r);
-        let held = hold_line(s, r.at, line, first + i);
-        if held.ok {
-            spans[i] = held.span;
-            r.at = held.at;
+        let matched = match_line(s, r.at, line, first + i);
+        if matched.ok {
+            spans[i] = matched.span;
+            r.at = matched.at;
             i += 1;
         } else {
             return Rows {

@@ -177,7 +177,7 @@ fn sign_at(i: u32) -> u8
 }
 
 // How many of the n bytes from a fit their signs, of the heads from b on: n where all do.
-fn signs_held(b: u32, s: &[u8], a: usize, n: u32) -> u32
+fn signs_fitting(b: u32, s: &[u8], a: usize, n: u32) -> u32
     requires { ⌜ b + n ≤ 186 ⌝ }
     requires { ⌜ a + n ≤ length (now s) ⌝ }
     ensures { λ r. ⌜ eqb r n ≡ fits (cut heads b (b + n)) (cut (now (s .entry)) a (a + n)) ⌝ }
@@ -199,5 +199,5 @@ pub fn head_fits(b: u32, s: &[u8], a: usize, n: u32) -> bool
     requires { ⌜ a + n ≤ length (now s) ⌝ }
     ensures { λ r. ⌜ r ≡ fits (cut heads b (b + n)) (cut (now (s .entry)) a (a + n)) ⌝ }
 {
-    signs_held(b, s, a, n) == n
+    signs_fitting(b, s, a, n) == n
 }

@@ -1,4 +1,4 @@
--- Two parts of n bytes held against each other from their last bytes on: behind k they are equal. A law for the start of the loop and for each way on and
+-- Two parts of n bytes compared with each other from their last bytes on: behind k they are equal. A law for the start of the loop and for each way on and
 -- out of it, over any length.
 use mathlib.Core.Path.{_≡_, sym, ap, _∙_}
 use mathlib.Core.Bool.{Bool, true, false}
@@ -11,7 +11,7 @@ use lib.ListN.{length, getD}
 use borrow.Author.Tests.{eq-eqb, ne-eqb}
 use Rattle.rules.specs.Text.{equal}
 use Rattle.laws.specs.Parts.{cut, cut-step, cut-done, cut-get}
-use Rattle.laws.specs.Tests.{not-held, never}
+use Rattle.laws.specs.Tests.{not-holds, never}
 use Rattle.laws.specs.Equal.{equal-true}
 
 pub back-start : (s t : List ℕ) (a b n : ℕ) → equal (cut s (a + n) (a + n)) (cut t (b + n) (b + n)) ≡ true
@@ -35,7 +35,7 @@ module _ (s t : List ℕ) (a b n k : ℕ) (h : 0 < k) (h' : k ≤ n) (l : a + n 
       let e : a + (k - 1) ≡ a + k - 1 = omega arith in
       let f : b + (k - 1) ≡ b + k - 1 = omega arith in
       ne-eqb k 0 (λ (z : k ≡ 0). omega arith)
-      ∙ not-held _ (λ w.
+      ∙ not-holds _ (λ w.
       let g : getD s (a + k - 1) 0 ≡ getD t (b + k - 1) 0 =
       sym (rw e at (cut-get s a (a + n) (k - 1) (omega arith))) ∙ ap (λ (x : List ℕ). getD x (k - 1) 0) (equal-true _ _ w) ∙ (rw f at (cut-get t b (b + n) (k - 1) (omega arith))) in
       never (sym d ∙ u ∙ eq-eqb _ _ g))

@@ -1,4 +1,4 @@
--- Two parts held against each other in byte order, byte by byte: what is left of both decides. A law for each way on and out of the loop.
+-- Two parts compared with each other in byte order, byte by byte: what is left of both decides. A law for each way on and out of the loop.
 use mathlib.Core.Path.{_≡_, refl, sym, _∙_}
 use mathlib.Core.Bool.{Bool, true, false}
 use mathlib.Core.List.{List, [], _∷_}

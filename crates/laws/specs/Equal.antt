@@ -9,7 +9,7 @@ use lib.Dec.{eqb}
 use borrow.Author.Tests.{eqb-true}
 use Rattle.rules.specs.Text.{equal}
 use Rattle.laws.specs.Parts.{cut, cut-length}
-use Rattle.laws.specs.Tests.{not-held, never}
+use Rattle.laws.specs.Tests.{not-holds, never}
 
 -- texts that are told equal are the same
 pub equal-true : (cs ds : List ℕ) → equal cs ds ≡ true → cs ≡ ds
@@ -26,7 +26,7 @@ equal-true (c ∷ cs) (d ∷ ds) h = go (eqb c d) refl (equal-true cs ds) h
 -- two parts: of different lengths, and of one length n
 module _ (s t : List ℕ) (a e b f : ℕ) where
   pub parts-differ : (e - a ≡ f - b → ⊥) → e ≤ length s → f ≤ length t → false ≡ equal (cut s a e) (cut t b f)
-  parts-differ h k l = not-held _ (λ q. h (sym (cut-length s a e k) ∙ ap (λ (x : List ℕ). length x) (equal-true _ _ q) ∙ cut-length t b f l))
+  parts-differ h k l = not-holds _ (λ q. h (sym (cut-length s a e k) ∙ ap (λ (x : List ℕ). length x) (equal-true _ _ q) ∙ cut-length t b f l))
 
   pub parts-alike : e - a ≡ f - b → a ≤ e → b ≤ f → (r : Bool) → r ≡ equal (cut s a (a + (e - a))) (cut t b (b + (e - a))) → r ≡ equal (cut s a e) (cut t b f)
   parts-alike h k l r q = let m : a + (e - a) ≡ e = omega arith in let n : b + (e - a) ≡ f = omega arith in q ∙ (rw (m, n))

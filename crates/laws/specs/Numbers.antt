@@ -11,7 +11,7 @@ use lib.Arith.{mod-mul, digits-div, digits-mod}
 use lib.Dec.{lit<, eqb}
 use lib.ListN.{length, getD, take, drop}
 use borrow.Author.Tests.{le-leb, eqb-true}
-use Rattle.rules.specs.Text.{ascii, isDigit, isLetter, isAlnum, fits, fitsSign, places, width, fixed, bytes, decimal, digits, digitsFrom, number, numberFrom}
+use Rattle.rules.specs.Text.{ascii, isDigit, isLetter, isAlnum, fits, fitsSign, places, width, fixed, bytes, decimal, digits, digitsFrom, bigEndian, numberFrom}
 use Rattle.rules.specs.Accounts.{isBic}
 use Rattle.laws.specs.Parts.{cut}
 use Rattle.laws.specs.Tests.{between-high, cond-right, cond-left, never, none-some}
@@ -89,13 +89,13 @@ pub bytes-within : (bs : List ℕ) → ((i : ℕ) → getD bs i 0 < 256) → Wit
 bytes-within [] h = no-place
 bytes-within (b ∷ bs) h = and-place {c = b} (omega arith) (omega (arith, h 0)) (bytes-within bs (λ i. h (suc i)))
 
-pub number-bytes : (k v : ℕ) → v < 256 ^ k → number (bytes k v) ≡ v
+pub number-bytes : (k v : ℕ) → v < 256 ^ k → bigEndian (bytes k v) ≡ v
 number-bytes k v h = number-value 0 (bytes k v) ∙ value-places 256 0 0 k v (lit< tt) ∙ rw (mod-eq-of-lt h) (omega arith)
 
-pub bytes-number : {bs : List ℕ} → Within 256 0 bs → bytes (length bs) (number bs) ≡ bs
+pub bytes-number : {bs : List ℕ} → Within 256 0 bs → bytes (length bs) (bigEndian bs) ≡ bs
 bytes-number {bs} s = ap (bytes (length bs)) (number-value 0 bs) ∙ places-value 0 s
 
-pub number-small : {bs : List ℕ} → Within 256 0 bs → number bs < 256 ^ length bs
+pub number-small : {bs : List ℕ} → Within 256 0 bs → bigEndian bs < 256 ^ length bs
 number-small {bs} s = let l : valueFrom 256 0 0 bs < 1 * 256 ^ length bs = value-small 0 s in rw number-value (omega arith)
 
 -- ---- digits
@@ -171,12 +171,12 @@ fits-within (c ∷ cs) (and-place {c = p} {cs = ps} k l s) h =
 -- a BIC is the bytes of its number
 bic-within : (cs : List ℕ) → isBic cs ≡ true → Within 256 0 cs
 unfolding isBic places numberFrom
-bic-within cs h = fits-within cs (places-within 256 0 8 (number (ascii "aaaaaacc")) (lit< tt)) h
+bic-within cs h = fits-within cs (places-within 256 0 8 (bigEndian (ascii "aaaaaacc")) (lit< tt)) h
 
-pub bic-number : (cs : List ℕ) → isBic cs ≡ true → bytes 8 (number cs) ≡ cs
+pub bic-number : (cs : List ℕ) → isBic cs ≡ true → bytes 8 (bigEndian cs) ≡ cs
 unfolding isBic
 bic-number cs h = rw (← fits-length (ascii "aaaaaacc") cs h) at (bytes-number (bic-within cs h))
 
-pub bic-small : (cs : List ℕ) → isBic cs ≡ true → number cs < 256 ^ 8
+pub bic-small : (cs : List ℕ) → isBic cs ≡ true → bigEndian cs < 256 ^ 8
 unfolding isBic
 bic-small cs h = rw (← fits-length (ascii "aaaaaacc") cs h) at (number-small (bic-within cs h))

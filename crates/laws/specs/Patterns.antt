@@ -8,7 +8,7 @@ use lib.ListN.{length, getD, replicate}
 use borrow.Author.Tests.{ne-eqb}
 use Rattle.rules.specs.Text.{isDigit, isLetter, isAlnum, every, fits, fitsSign}
 use Rattle.laws.specs.Parts.{cut, cut-step, cut-done}
-use Rattle.laws.specs.Tests.{and-held, and-off}
+use Rattle.laws.specs.Tests.{and-holds, and-off}
 use Rattle.laws.specs.Places.{Passed, passed-all}
 
 -- a sign that stands for a class
@@ -70,4 +70,4 @@ module _ (p : ℕ → Bool) (s : List ℕ) (a n r : ℕ) (b : Bool) (w : Passed 
   pub run-off : r < n → false ≡ (every p (cut s a (a + n)) && b)
   run-off h = rw (← w .whole, ne-eqb r n (λ (q : r ≡ n). omega arith))
 
-pub ruleset patterns = (run-on, run-off, and-held, and-off)
+pub ruleset patterns = (run-on, run-off, and-holds, and-off)

@@ -12,7 +12,7 @@ use lib.Dec.{eqb, lit<}
 use borrow.Author.Tests.{le-leb, lt-leb}
 use Rattle.rules.specs.Text.{isDigit, every, run, equal, fits, fitsSign, digitsFrom, numberFrom}
 use Rattle.laws.specs.Parts.{cut, cut-step, cut-done, cut-length, cut-size, cut-all}
-use Rattle.laws.specs.Tests.{between-low, between-high, cond-right, not-held, held-told, never}
+use Rattle.laws.specs.Tests.{between-low, between-high, cond-right, not-holds, holds-told, never}
 
 -- ---- any function of what is left: one byte on, and at the end
 
@@ -54,7 +54,7 @@ module _ (p : ℕ → Bool) (s : List ℕ) (a b low high : ℕ) (k : b ≤ lengt
     unfolding run
     run-each h r e = rw (cut-length s a b k, le-leb low (b - a) l, le-leb (b - a) high h) e
 
--- ---- two parts of one length held against each other
+-- ---- two parts of one length compared with each other
 
 -- a test of two texts, byte by byte, and its test of two bytes
 pub record Pairs (g : List ℕ → List ℕ → Bool) (p : ℕ → ℕ → Bool) : Type 0 where
@@ -97,7 +97,7 @@ fits-length (p ∷ ps) (c ∷ cs) h = ap suc (fits-length ps cs (cond-right (fit
 module _ (p s : List ℕ) (at : ℕ) where
   -- too few bytes are left
   pub fits-short : length s - at < length p → false ≡ fits p (cut s at (at + length p))
-  fits-short h = not-held _ (λ e. let l : length (cut s at (at + length p)) ≡ min (at + length p) (length s) - at = cut-size s at (at + length p) in let m : length p ≡ length (cut s at (at + length p)) = fits-length p _ e in omega arith)
+  fits-short h = not-holds _ (λ e. let l : length (cut s at (at + length p)) ≡ min (at + length p) (length s) - at = cut-size s at (at + length p) in let m : length p ≡ length (cut s at (at + length p)) = fits-length p _ e in omega arith)
 
   -- the whole pattern
   pub fits-whole : (r : Bool) → r ≡ fits (cut p 0 (0 + length p)) (cut s at (at + length p)) → r ≡ fits p (cut s at (at + length p))
@@ -166,4 +166,4 @@ module _ (s : List ℕ) (i e v x : ℕ) (inv : numberFrom v (cut s i e) ≡ x) w
   unfolding numberFrom
   number-end h k = left-done (numberFrom v) s i e x inv h k
 
-pub ruleset reading = (held-told, every-more, every-bad, every-end, run-short, run-long, run-each, equal-pairs, fits-pairs, pairs-more, pairs-bad, pairs-end, fits-short, fits-whole, power-start, power-step, power-room, digit-small, digits-more, digits-bad, digits-end, number-more, number-end, add-zero)
+pub ruleset reading = (holds-told, every-more, every-bad, every-end, run-short, run-long, run-each, equal-pairs, fits-pairs, pairs-more, pairs-bad, pairs-end, fits-short, fits-whole, power-start, power-step, power-room, digit-small, digits-more, digits-bad, digits-end, number-more, number-end, add-zero)

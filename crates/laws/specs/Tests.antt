@@ -42,17 +42,17 @@ module _ {A : Type 0} (t : Bool) (x : A) (o : Option A) (e : cond t (some x) non
   answer-not h = sym (rw h at e)
 
 -- a test that cannot hold
-pub not-held : (a : Bool) → (a ≡ true → ⊥) → false ≡ a
-not-held true h = absurd (h refl)
-not-held false h = refl
+pub not-holds : (a : Bool) → (a ≡ true → ⊥) → false ≡ a
+not-holds true h = absurd (h refl)
+not-holds false h = refl
 
 -- a test holds where a call answered so
-pub held-told : (t a : Bool) → t ≡ a → t ≡ true → a ≡ true
-held-told t a u h = sym u ∙ h
+pub holds-told : (t a : Bool) → t ≡ a → t ≡ true → a ≡ true
+holds-told t a u h = sym u ∙ h
 
--- the answer of `a && b` in code, t being what the first test answered: the second answer where it held, else t itself
-pub and-held : (a b t r : Bool) → t ≡ a → t ≡ true → r ≡ b → r ≡ (a && b)
-and-held a b t r u h e = rw (← u, h) e
+-- the answer of `a && b` in code, t being what the first test answered: the second answer where it holds, else t itself
+pub and-holds : (a b t r : Bool) → t ≡ a → t ≡ true → r ≡ b → r ≡ (a && b)
+and-holds a b t r u h e = rw (← u, h) e
 
 pub and-failed : (a b t : Bool) → t ≡ a → t ≡ false → t ≡ (a && b)
 and-failed a b t u h = rw (← u, h)
@@ -61,8 +61,8 @@ pub and-off : (a b t : Bool) → t ≡ a → t ≡ false → false ≡ (a && b)
 and-off a b t u h = rw (← u, h)
 
 -- the answer of `a || b` in code
-pub or-held : (a b t : Bool) → t ≡ a → t ≡ true → t ≡ (a || b)
-or-held a b t u h = rw (← u, h)
+pub or-holds : (a b t : Bool) → t ≡ a → t ≡ true → t ≡ (a || b)
+or-holds a b t u h = rw (← u, h)
 
 pub or-failed : (a b t r : Bool) → t ≡ a → t ≡ false → r ≡ b → r ≡ (a || b)
 or-failed a b t r u h e = rw (← u, h) e
@@ -89,4 +89,4 @@ between-low low high c h = leb-true low c (and-left _ _ h)
 pub between-high : (low high c : ℕ) → between low high c ≡ true → c ≤ high
 between-high low high c h = leb-true c high (and-right (leb low c) _ h)
 
-pub ruleset tests = (held-told, and-held, and-failed, or-held, or-failed, pick-equal, pick-other, between-in, between-out)
+pub ruleset tests = (holds-told, and-holds, and-failed, or-holds, or-failed, pick-equal, pick-other, between-in, between-out)

@@ -5,25 +5,25 @@ use mathlib.Core.Option.{none, some}
 use Prim.Native.Nat.{ℕ, _+_, _≤_, _<_}
 use lib.ListN.{length, getD}
 use denote.Ref.{RefT}
-use Rattle.rules.specs.Lines.{Taken, lead, line}
+use Rattle.rules.specs.Lines.{TakenLine, lead, takeLine}
 use Rattle.laws.specs.Parts.{cut, from}
 use Rattle.lines.specs.declared.line.Next.{Next}
 use Rattle.lines.specs.declared.reader.Reader.{Reader}
 use Rattle.lines.specs.declared.line.Next.the-variants.{Line, Bad}
 
 -- the line from `at` to `e`, and what stands behind its CR LF
-abbrev pub taken : List ℕ → ℕ → ℕ → Taken
+abbrev pub taken : List ℕ → ℕ → ℕ → TakenLine
 taken s at e = record { line = cut s at e; others = from s (e + 2) }
 
 -- the line that begins at `at` ends at `e`
 pub record LineEnd (s : List ℕ) (at e : ℕ) : Type 0 where
   pub start : at ≤ e
   pub room : e + 2 ≤ length s
-  pub same : line (from s at) ≡ some (taken s at e)
+  pub same : takeLine (from s at) ≡ some (taken s at e)
 
 -- there is no line at `at`
 pub record NoLine (s : List ℕ) (at : ℕ) : Type 0 where
-  pub same : line (from s at) ≡ none
+  pub same : takeLine (from s at) ≡ none
 
 abbrev Told : List ℕ → ℕ → Next → Type 0
 Told s at (Line e) = LineEnd s at e
@@ -44,7 +44,7 @@ module _ (s : List ℕ) (at : ℕ) (r : Next) (h : LineAt s at r) where
 -- of n bytes from `at` on, r stand before the first CR or LF: they begin the line, whatever goes on behind them
 pub record Plain (s : List ℕ) (at n r : ℕ) : Type 0 where
   pub few : r ≤ n
-  pub same : lead (cut s at (at + r)) (line (from s (at + r))) ≡ line (from s at)
+  pub same : lead (cut s at (at + r)) (takeLine (from s (at + r))) ≡ takeLine (from s at)
   pub stop : r < n → (getD s (at + r) 0 ≡ 13 → ⊥) → getD s (at + r) 0 ≡ 10
 
 -- the line reader over a text, at a place

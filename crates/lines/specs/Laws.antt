@@ -13,10 +13,10 @@ use lib.Seq.{drop-at, drop-drop}
 use lib.Dec.{leb}
 use borrow.Author.Tests.{le-leb, lt-leb, eq-eqb, ne-eqb}
 use Rattle.rules.specs.Text.{ascii, equal, fits}
-use Rattle.rules.specs.Lines.{Line, Taken, lead, line, lines, before, closes, inLines, closing, opening, framed}
+use Rattle.rules.specs.Lines.{Line, TakenLine, lead, takeLine, lines, before, closes, inLines, closing, opening, framed}
 use Rattle.laws.specs.Parts.{cut, from, cut-done, cut-snoc, cut-all, from-step, from-done, from-length, from-cut}
 use Rattle.laws.specs.Equal.{equal-true}
-use Rattle.laws.specs.Tests.{not-held, never, and-left, and-right, none-some}
+use Rattle.laws.specs.Tests.{not-holds, never, and-left, and-right, none-some}
 use Rattle.rule_laws.specs.Lines.{FirstLine, first-line, line-taken, Lined, Lined.end, Lined.next, lines-cases, lines-before}
 use Rattle.lines.specs.Answers.{taken, LineEnd, NoLine, Plain}
 
@@ -26,60 +26,60 @@ lead-none : (p : List ℕ) → lead p none ≡ none
 unfolding lead
 lead-none p = refl
 
-lead-nil : (o : Option Taken) → lead [] o ≡ o
+lead-nil : (o : Option TakenLine) → lead [] o ≡ o
 unfolding lead
 lead-nil none = refl
 lead-nil (some t) = refl
 
-lead-more : (p : List ℕ) (c : ℕ) (o : Option Taken) → lead (p ++ (c ∷ [])) o ≡ lead p (lead (c ∷ []) o)
+lead-more : (p : List ℕ) (c : ℕ) (o : Option TakenLine) → lead (p ++ (c ∷ [])) o ≡ lead p (lead (c ∷ []) o)
 unfolding lead
 lead-more p c none = refl
-lead-more p c (some t) = ap {B = Option Taken} (λ (l : List ℕ). some record { line = l; others = t .others }) (append-assoc p (c ∷ []) (t .line))
+lead-more p c (some t) = ap {B = Option TakenLine} (λ (l : List ℕ). some record { line = l; others = t .others }) (append-assoc p (c ∷ []) (t .line))
 
 lead-ended : (p cs : List ℕ) → lead p (some record { line = []; others = cs }) ≡ some record { line = p; others = cs }
 unfolding lead
-lead-ended p cs = ap {B = Option Taken} (λ (l : List ℕ). some record { line = l; others = cs }) (append-nil p)
+lead-ended p cs = ap {B = Option TakenLine} (λ (l : List ℕ). some record { line = l; others = cs }) (append-nil p)
 
 -- ---- the first two bytes of a text
 
 module _ (c d : ℕ) (cs : List ℕ) where
-  byte-on : (c ≡ 13 → ⊥) → (c ≡ 10 → ⊥) → line (c ∷ d ∷ cs) ≡ lead (c ∷ []) (line (d ∷ cs))
-  unfolding line
+  byte-on : (c ≡ 13 → ⊥) → (c ≡ 10 → ⊥) → takeLine (c ∷ d ∷ cs) ≡ lead (c ∷ []) (takeLine (d ∷ cs))
+  unfolding takeLine
   byte-on h k = rw (ne-eqb _ _ h, ne-eqb _ _ k)
 
-  byte-ends : c ≡ 13 → d ≡ 10 → line (c ∷ d ∷ cs) ≡ some record { line = []; others = cs }
-  unfolding line
+  byte-ends : c ≡ 13 → d ≡ 10 → takeLine (c ∷ d ∷ cs) ≡ some record { line = []; others = cs }
+  unfolding takeLine
   byte-ends h k = rw (eq-eqb _ _ h, eq-eqb _ _ k)
 
-  byte-cr : c ≡ 13 → (d ≡ 10 → ⊥) → line (c ∷ d ∷ cs) ≡ none
-  unfolding line
+  byte-cr : c ≡ 13 → (d ≡ 10 → ⊥) → takeLine (c ∷ d ∷ cs) ≡ none
+  unfolding takeLine
   byte-cr h k = rw (eq-eqb _ _ h, ne-eqb _ _ k)
 
-  byte-lf : (c ≡ 13 → ⊥) → c ≡ 10 → line (c ∷ d ∷ cs) ≡ none
-  unfolding line
+  byte-lf : (c ≡ 13 → ⊥) → c ≡ 10 → takeLine (c ∷ d ∷ cs) ≡ none
+  unfolding takeLine
   byte-lf h k = rw (ne-eqb _ _ h, eq-eqb _ _ k)
 
 -- fewer than two bytes hold no line
-few : (s : List ℕ) (i : ℕ) → length s ≤ i + 1 → line (from s i) ≡ none
-unfolding line
+few : (s : List ℕ) (i : ℕ) → length s ≤ i + 1 → takeLine (from s i) ≡ none
+unfolding takeLine
 few s i h = go (from s i) (from-length s i)
   where
-    go : (cs : List ℕ) → length cs ≡ length s - i → line cs ≡ none
+    go : (cs : List ℕ) → length cs ≡ length s - i → takeLine cs ≡ none
     go [] e = refl
     go (c ∷ []) e = refl
     go (c ∷ d ∷ cs) e = absurd (omega arith)
 
 -- ---- the loop to the line's end: the bytes from `at` to `i` stand before what is left
 
-pub line-starts : (s : List ℕ) (at : ℕ) → lead (cut s at at) (line (from s at)) ≡ line (from s at)
+pub line-starts : (s : List ℕ) (at : ℕ) → lead (cut s at at) (takeLine (from s at)) ≡ takeLine (from s at)
 line-starts s at = rw (cut-done s at at (omega arith) (omega arith)) (lead-nil _)
 
-module _ (s : List ℕ) (at i : ℕ) (x : Option Taken) (inv : lead (cut s at i) (line (from s i)) ≡ x) where
+module _ (s : List ℕ) (at i : ℕ) (x : Option TakenLine) (inv : lead (cut s at i) (takeLine (from s i)) ≡ x) where
   pub line-out : length s ≤ i + 1 → x ≡ none
   line-out h = sym (rw (few s i h, lead-none) at inv)
 
   module _ (h : i + 1 < length s) where
-    two : lead (cut s at i) (line (getD s i 0 ∷ getD s (i + 1) 0 ∷ from s (i + 1 + 1))) ≡ x
+    two : lead (cut s at i) (takeLine (getD s i 0 ∷ getD s (i + 1) 0 ∷ from s (i + 1 + 1))) ≡ x
     two = rw (← from-step s (i + 1) h, ← from-step s i (omega arith)) inv
 
     pub line-ends : getD s i 0 ≡ 13 → getD s (i + 1) 0 ≡ 10 → x ≡ some (taken s at i)
@@ -92,24 +92,24 @@ module _ (s : List ℕ) (at i : ℕ) (x : Option Taken) (inv : lead (cut s at i)
       pub line-lf : getD s i 0 ≡ 10 → x ≡ none
       line-lf d = sym (rw (byte-lf _ _ _ c d, lead-none) at two)
 
-      pub line-on : (getD s i 0 ≡ 10 → ⊥) → at ≤ i → lead (cut s at (i + 1)) (line (from s (i + 1))) ≡ x
+      pub line-on : (getD s i 0 ≡ 10 → ⊥) → at ≤ i → lead (cut s at (i + 1)) (takeLine (from s (i + 1))) ≡ x
       line-on d k = rw (cut-snoc s at i k (omega arith), lead-more, from-step s (i + 1) h, ← byte-on _ _ (from s (i + 1 + 1)) c d) two
 
 -- ---- the bytes before the first CR or LF, counted from `at` on
 
-pub plain-starts : (s : List ℕ) (at : ℕ) → lead (cut s at (at + 0)) (line (from s (at + 0))) ≡ line (from s at)
+pub plain-starts : (s : List ℕ) (at : ℕ) → lead (cut s at (at + 0)) (takeLine (from s (at + 0))) ≡ takeLine (from s at)
 plain-starts s at = rw add-zero (line-starts s at)
 
-module _ (s : List ℕ) (at n k : ℕ) (inv : lead (cut s at (at + k)) (line (from s (at + k))) ≡ line (from s at)) where
+module _ (s : List ℕ) (at n k : ℕ) (inv : lead (cut s at (at + k)) (takeLine (from s (at + k))) ≡ takeLine (from s at)) where
   module _ (h : k < n) (l : at + n ≤ length s) where
-    pub plain-on : (getD s (at + k) 0 ≡ 13 → ⊥) → (getD s (at + k) 0 ≡ 10 → ⊥) → lead (cut s at (at + (k + 1))) (line (from s (at + (k + 1)))) ≡ line (from s at)
+    pub plain-on : (getD s (at + k) 0 ≡ 13 → ⊥) → (getD s (at + k) 0 ≡ 10 → ⊥) → lead (cut s at (at + (k + 1))) (takeLine (from s (at + (k + 1)))) ≡ takeLine (from s at)
     plain-on c d = let e : at + (k + 1) ≡ at + k + 1 = omega arith in rw e (go (eq-or-lt-of-le (omega arith)))
       where
-        go : (at + k + 1 ≡ length s) ⊎ (at + k + 1 < length s) → lead (cut s at (at + k + 1)) (line (from s (at + k + 1))) ≡ line (from s at)
+        go : (at + k + 1 ≡ length s) ⊎ (at + k + 1 < length s) → lead (cut s at (at + k + 1)) (takeLine (from s (at + k + 1))) ≡ takeLine (from s at)
         go (inl q) = rw (few s (at + k + 1) (omega arith), lead-none) (sym (line-out s at (at + k) _ inv (omega arith)))
         go (inr q) = line-on s at (at + k) _ inv q c d (omega arith)
 
-    pub plain-far : 14 ≤ getD s (at + k) 0 → lead (cut s at (at + (k + 1))) (line (from s (at + (k + 1)))) ≡ line (from s at)
+    pub plain-far : 14 ≤ getD s (at + k) 0 → lead (cut s at (at + (k + 1))) (takeLine (from s (at + (k + 1)))) ≡ takeLine (from s at)
     plain-far c = plain-on (λ d. omega arith) (λ d. omega arith)
 
     pub plain-cr : getD s (at + k) 0 ≡ 13 → Plain s at n k
@@ -122,7 +122,7 @@ module _ (s : List ℕ) (at n k : ℕ) (inv : lead (cut s at (at + k)) (line (fr
   plain-end h l = record { few = h; same = inv; stop = λ j d. absurd (omega arith) }
 
 -- no CR at the first of them: LF
-pub plain-bad : (s : List ℕ) (at n k : ℕ) → Plain s at n k → at + k + 1 < length s → at + n ≡ length s → (getD s (at + k) 0 ≡ 13 → ⊥) → line (from s at) ≡ none
+pub plain-bad : (s : List ℕ) (at n k : ℕ) → Plain s at n k → at + k + 1 < length s → at + n ≡ length s → (getD s (at + k) 0 ≡ 13 → ⊥) → takeLine (from s at) ≡ none
 plain-bad s at n k p h e c = line-lf s at (at + k) _ (p .same) h c (p .stop (omega arith) c)
 
 -- ---- the closing line
@@ -137,30 +137,30 @@ unfolding closing equal closes
 closes-behind l cs h = lines-cases (λ (o : Option (List Line)). inLines o ≡ inLines (Option·map (before l) o)) cs refl (λ ls r. same r h)
   where
     same : {cs : List ℕ} {ls : List Line} → Lined cs ls → closing (l ++ 13 ∷ 10 ∷ cs) ≡ false → closes ls ≡ closes (l ∷ ls)
-    same end h = not-held _ (λ e. let z : _≡_ {A = ℕ} 1 0 = (rw (equal-true l (ascii "-") e) at (ap (λ (b : Bool). cond {A = ℕ} b 1 0) h)) in omega arith)
+    same end h = not-holds _ (λ e. let z : _≡_ {A = ℕ} 1 0 = (rw (equal-true l (ascii "-") e) at (ap (λ (b : Bool). cond {A = ℕ} b 1 0) h)) in omega arith)
     same (next p r) h = refl
 
 -- nothing stands behind the closing line
-closing-last : (cs : List ℕ) (t : Taken) → line cs ≡ some t → closing cs ≡ true → t .others ≡ []
-unfolding closing line lead
+closing-last : (cs : List ℕ) (t : TakenLine) → takeLine cs ≡ some t → closing cs ≡ true → t .others ≡ []
+unfolding closing takeLine lead
 closing-last cs t e h =
-    let f : line (ascii "-\r\n") ≡ some t = ap (λ (x : List ℕ). line x) (sym (equal-true cs (ascii "-\r\n") h)) ∙ e in
+    let f : takeLine (ascii "-\r\n") ≡ some t = ap (λ (x : List ℕ). takeLine x) (sym (equal-true cs (ascii "-\r\n") h)) ∙ e in
     let u : record { line = 45 ∷ []; others = [] } ≡ t = cc in
     rw (← u)
 
 -- so a line with others behind it is not the closing line
 pub closing-later : (s : List ℕ) (at e : ℕ) → LineEnd s at e → e + 2 < length s → closing (from s at) ≡ false
-closing-later s at e l h = sym (not-held _ (λ c. let z : length (from s (e + 2)) ≡ 0 = ap (λ (x : List ℕ). length x) (closing-last (from s at) _ (l .same) c) in omega (arith, from-length s (e + 2))))
+closing-later s at e l h = sym (not-holds _ (λ c. let z : length (from s (e + 2)) ≡ 0 = ap (λ (x : List ℕ). length x) (closing-last (from s at) _ (l .same) c) in omega (arith, from-length s (e + 2))))
 
 -- a text with a first line, and one without
-lines-taken : (cs : List ℕ) (t : Taken) → line cs ≡ some t → lines cs ≡ Option·map (before (t .line)) (lines (t .others))
+lines-taken : (cs : List ℕ) (t : TakenLine) → takeLine cs ≡ some t → lines cs ≡ Option·map (before (t .line)) (lines (t .others))
 lines-taken cs t e = let f : FirstLine cs t = first-line cs t e in ap lines (f .text) ∙ lines-before (t .line) (t .others) (f .plain)
 
-none-closes : (cs : List ℕ) → line cs ≡ none → inLines (lines cs) ≡ false
+none-closes : (cs : List ℕ) → takeLine cs ≡ none → inLines (lines cs) ≡ false
 unfolding closes
 none-closes cs e = lines-cases (λ (o : Option (List Line)). inLines o ≡ false) cs refl (λ ls r. lineless r e)
   where
-    lineless : {cs : List ℕ} {ls : List Line} → Lined cs ls → line cs ≡ none → closes ls ≡ false
+    lineless : {cs : List ℕ} {ls : List Line} → Lined cs ls → takeLine cs ≡ none → closes ls ≡ false
     lineless end e = refl
     lineless (next {cs = cs} {l = l} p r) e = none-some (sym e ∙ line-taken l cs p)
 
@@ -185,7 +185,7 @@ module _ (s : List ℕ) (at : ℕ) (x : Bool) (inv : inLines (lines (from s at))
 module _ (s : List ℕ) (at : ℕ) where
   pub closing-long : (length s - at ≡ 3 → ⊥) → false ≡ closing (from s at)
   unfolding closing
-  closing-long h = not-held _ (λ e. h (sym (from-length s at) ∙ ap (λ (l : List ℕ). length l) (equal-true (from s at) (ascii "-\r\n") e)))
+  closing-long h = not-holds _ (λ e. h (sym (from-length s at) ∙ ap (λ (l : List ℕ). length l) (equal-true (from s at) (ascii "-\r\n") e)))
 
   pub closing-part : at ≤ length s → length s - at ≡ 3 → (r : Bool) → r ≡ equal (cut s at (at + 3)) (cut (ascii "-\r\n") 0 3) → r ≡ closing (from s at)
   unfolding closing
@@ -227,7 +227,7 @@ module _ (s : List ℕ) where
 
   pub framed-open : (b : Bool) → b ≡ closing (from s (length s - 3)) → b ≡ false → false ≡ framed s
   unfolding framed
-  framed-open b u k = not-held _ (λ x. never (sym k ∙ u ∙ ends s (and-right (leb (length s) 4096) (inLines (lines s)) (and-left (leb (length s) 4096 && inLines (lines s)) (opening s) x))))
+  framed-open b u k = not-holds _ (λ x. never (sym k ∙ u ∙ ends s (and-right (leb (length s) 4096) (inLines (lines s)) (and-left (leb (length s) 4096 && inLines (lines s)) (opening s) x))))
 
   module _ (h : length s ≤ 4096) (b : Bool) (u : b ≡ inLines (lines s)) where
     pub framed-not : b ≡ false → false ≡ framed s

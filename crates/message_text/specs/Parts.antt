@@ -14,7 +14,7 @@ use Rattle.rules.specs.Written.{firstLine, field, reference, linked, position79
 use Rattle.laws.specs.Writing.{Wrote, Left, left-turn, left-none, left-length, furthest}
 use Rattle.laws.specs.Pieces.{wrote-4, left-all}
 use Rattle.details.specs.Kept.{LinesIn}
-use Rattle.detail_lines.specs.Returned.{returnedAt, DetailsPassed, RowsPut}
+use Rattle.detail_lines.specs.Returned.{returnedAt, DetailsSkipped, RowsPut}
 use Rattle.detail_lines.specs.declared.returned.Place.{Place}
 use Rattle.outgoing_number.specs.declared.Numbered.{Numbered}
 use Rattle.outgoing_number.specs.declared.Outgoing.{Outgoing}
@@ -47,8 +47,8 @@ partAt parts t = parts - t .left + 1
 pub record PartDue (r : Reference) (parts : ℕ) (s places : List ℕ) (n : ℕ) (t : Parting) : Type 0 where
   pub lines : LinesIn s places n
   pub some : 0 < t .left
-  pub few : t .left ≤ parts
-  pub small : parts ≤ 4096
+  pub left-few : t .left ≤ parts
+  pub parts-few : parts ≤ 4096
   pub within : t .detail ≤ n
   pub numbered : partAt parts t ≤ r .number
   pub kept : 2 ≤ partAt parts t → t .first + partAt parts t ≡ r .number + 1
@@ -78,7 +78,7 @@ module _ {r : Reference} {parts : ℕ} {s places : List ℕ} {n : ℕ} {t : Part
 -- it was written, and t' is where the parts then stand
 pub record PartPut (r : Reference) (p : Position) (parts : ℕ) (s verdicts : List ℕ) (n : ℕ) (t : Parting) (out : List ℕ) (t' : Parting) (out' : List ℕ) : Type 0 where
   pub wrote : Wrote (mt199 (r .day) (r .number - partAt parts t) p (partAt parts t) parts (take 14 (returnedAt s verdicts (t .detail) (n - t .detail)))) (t .out) out (t' .out) out'
-  pub passed : DetailsPassed s verdicts (t .detail) n 14 (t' .detail)
+  pub skipped : DetailsSkipped s verdicts (t .detail) n 14 (t' .detail)
   pub fewer : t' .left ≡ t .left - 1
   pub first : t' .first + partAt parts t ≡ r .number + 1
 
@@ -89,7 +89,7 @@ module _ (r : Reference) (p : Position) (parts : ℕ) (s verdicts : List ℕ) (n
   part-wrote u v w x =
       let i : first - 1 ≡ r .number - partAt parts t = omega (arith, first-is d f, d .numbered) in
       let j : r .number - partAt parts t + partAt parts t ≡ r .number = omega (arith, d .numbered) in
-      record { wrote = rw j (wrote-4 (rw i at u) v (w .wrote) x); passed = w .passed; fewer = refl; first = first-is d f }
+      record { wrote = rw j (wrote-4 (rw i at u) v (w .wrote) x); skipped = w .skipped; fewer = refl; first = first-is d f }
 
 -- ---- part by part, those of the returned from detail q on being left
 
@@ -105,7 +105,7 @@ parts-step s verdicts day m p left part parts q k h = go left h
 pub record PartsDue (count parts : ℕ) (s places : List ℕ) (n : ℕ) : Type 0 where
   pub lines : LinesIn s places n
   pub low : count ≤ 65535
-  pub small : parts ≤ 4096
+  pub parts-few : parts ≤ 4096
 
 -- the text of all of them
 abbrev pub allParts : ℕ → ℕ → Position → ℕ → List ℕ → List ℕ → ℕ → List ℕ
@@ -121,7 +121,7 @@ pub record PartsLeft (day count : ℕ) (p : Position) (parts : ℕ) (s places ve
   pub due : PartsDue count parts s places n
   pub on-day : o .day ≡ day
   pub kept : o .count + t .left ≡ count + parts
-  pub few : t .left ≤ parts
+  pub left-few : t .left ≤ parts
   pub within : t .detail ≤ n
   pub first : t .left < parts → t .first ≡ count + 1
   pub text : Left (mt199s (t .left) day count p (partAt parts t) parts (returnedAt s verdicts (t .detail) (n - t .detail))) (t .out) out (allParts day count p parts s verdicts n) at start
@@ -130,11 +130,11 @@ pub parts-start : (day count : ℕ) (p : Position) (parts : ℕ) (s places verdi
     → PartsLeft day count p parts s places verdicts n at start (record { day = day; count = count }) (record { out = at; detail = 0; left = parts; first = 0 }) start
 parts-start day count p parts s places verdicts n at start d h =
     let e : parts - parts + 1 ≡ 1 = omega arith in
-    record { due = d; on-day = refl; kept = refl; few = omega arith; within = omega arith; first = λ k. absurd (omega arith); text = rw (e, sub-zero n) (left-all _ h) }
+    record { due = d; on-day = refl; kept = refl; left-few = omega arith; within = omega arith; first = λ k. absurd (omega arith); text = rw (e, sub-zero n) (left-all _ h) }
 
 module _ {day count : ℕ} {p : Position} {parts : ℕ} {s places verdicts : List ℕ} {n at : ℕ} {start : List ℕ} {o : Outgoing} {t : Parting} {out : List ℕ} (l : PartsLeft day count p parts s places verdicts n at start o t out) where
   pub parts-room : o .count + 1 < 4294967296
-  parts-room = omega (arith, l .kept, l .due .small, l .due .low)
+  parts-room = omega (arith, l .kept, l .due .parts-few, l .due .low)
 
   pub parts-long : length out ≡ length start
   parts-long = left-length (l .text)
@@ -147,26 +147,26 @@ module _ {day count : ℕ} {p : Position} {parts : ℕ} {s places verdicts : Lis
     part-due = record {
       lines = l .due .lines;
       some = h;
-      few = l .few;
-      small = l .due .small;
+      left-few = l .left-few;
+      parts-few = l .due .parts-few;
       within = l .within;
-      numbered = omega (arith, number-is, l .kept, l .few);
-      kept = λ k. let f : t .first ≡ count + 1 = l .first (omega arith) in omega (arith, number-is, l .kept, l .few);
+      numbered = omega (arith, number-is, l .kept, l .left-few);
+      kept = λ k. let f : t .first ≡ count + 1 = l .first (omega arith) in omega (arith, number-is, l .kept, l .left-few);
     }
 
     pub parts-turn : {t' : Parting} {out' : List ℕ} → PartPut r p parts s verdicts n t out t' out' → PartsLeft day count p parts s places verdicts n at start o' t' out'
     parts-turn {t'} {out'} w =
-        let e : r .number - partAt parts t ≡ count = omega (arith, number-is, l .kept, l .few) in
+        let e : r .number - partAt parts t ≡ count = omega (arith, number-is, l .kept, l .left-few) in
         let f : r .day ≡ day = ap (λ (z : Reference). z .day) (i .reference) ∙ l .on-day in
-        let g : partAt parts t' ≡ partAt parts t + 1 = omega (arith, w .fewer, l .few) in
+        let g : partAt parts t' ≡ partAt parts t + 1 = omega (arith, w .fewer, l .left-few) in
         rw (i .kept) record {
           due = l .due;
           on-day = l .on-day;
           kept = omega (arith, l .kept, w .fewer);
-          few = omega (arith, l .few, w .fewer);
-          within = w .passed .within;
-          first = λ k. omega (arith, w .first, number-is, l .kept, l .few);
-          text = rw (g, w .fewer) (left-turn (rw (w .passed .same) (rw (parts-step s verdicts day count p (t .left) (partAt parts t) parts (t .detail) (n - t .detail) h) at (l .text))) (rw (e, f) at (w .wrote)));
+          left-few = omega (arith, l .left-few, w .fewer);
+          within = w .skipped .within;
+          first = λ k. omega (arith, w .first, number-is, l .kept, l .left-few);
+          text = rw (g, w .fewer) (left-turn (rw (w .skipped .same) (rw (parts-step s verdicts day count p (t .left) (partAt parts t) parts (t .detail) (n - t .detail) h) at (l .text))) (rw (e, f) at (w .wrote)));
         }
 
   pub parts-end : t .left ≤ 0 → PartsPut day count p parts s verdicts n at start (record { at = t .out; count = o .count }) out

@@ -14,7 +14,7 @@ ghost use mathlib.Core.Path.{_≡_};
 ghost use mathlib.Core.Bool.{true};
 ghost use Prim.Native.Nat.{_*_, _^_, _≤_, _<_};
 ghost use Rattle.rules.specs.Text.{isSome};
-ghost use Rattle.rules.specs.Calls.{after};
+ghost use Rattle.rules.specs.Calls.{positionAfter};
 ghost use Rattle.rules.specs.Area.{decode, holds};
 ghost use Rattle.details.specs.Message.{messageIn};
 ghost use Rattle.conditions.specs.Books.{Books};
@@ -48,7 +48,7 @@ fn has_verdict(b: Booking, p: Position) -> bool
 }
 
 // How many messages the message makes the card write, so many of its details being returned: the parts of its MT199.
-pub fn message_writes(b: Booking, p: Position, returned: u32) -> u32
+pub fn messages_written(b: Booking, p: Position, returned: u32) -> u32
     requires { ⌜ returned ≤ 16 ⌝ }
     ensures { λ r. ⌜ WritesOf b p returned r ⌝ }
 {
@@ -74,7 +74,7 @@ pub fn put_message_text(
     requires { ⌜ isSome (holds (now area)) ≡ true ⌝ }
     requires { ⌜ Books (now s) (messageIn (now s)) b ⌝ }
     requires { ⌜ JudgedIn (decode (now area) .register) (now s) (now amounts) (now places) (now verdicts) (b .count) ⌝ }
-    requires { ⌜ positionValue p ≡ after (decode (now area)) (messageIn (now s)) ⌝ }
+    requires { ⌜ positionValue p ≡ positionAfter (decode (now area)) (messageIn (now s)) ⌝ }
     requires { ⌜ Writes (decode (now area)) (messageIn (now s)) parts ⌝ }
     ensures { λ r. ⌜ TextPut (decode (now (area .entry))) (messageIn (now (s .entry))) at (now (out .entry)) r (now (out .exit)) ⌝ }
 {

@@ -12,7 +12,7 @@ use borrow.Author.Tests.{leb-true, le-leb, lt-leb, eq-eqb, ne-eqb}
 use Rattle.rules.specs.Text.{isDigit}
 use Rattle.rules.specs.Amounts.{decimals, levs, amount}
 use Rattle.laws.specs.Parts.{cut, cut-step, cut-done, cut-get, cut-length}
-use Rattle.laws.specs.Tests.{held-told, none-some}
+use Rattle.laws.specs.Tests.{holds-told, none-some}
 use Rattle.laws.specs.Reading.{digit-small}
 use Rattle.laws.specs.Places.{Passed}
 use Rattle.laws.specs.Values.{Valued, TakesDigits, behind-digits}
@@ -182,5 +182,5 @@ pub ruleset sums = (
   amount-empty,
   amount-head,
   amount-levs,
-  held-told,
+  holds-told,
 )

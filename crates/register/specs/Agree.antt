@@ -102,9 +102,9 @@ module _ (s : List ℕ) (i : ℕ) {l : Line} {ls : List Line} {a : Account} (h :
   unfolding lineOn
   it = stands accountForm s (place i) account-inside l ls h (and-left _ _ (and-left _ _ (on .test)))
 
-  line-held : lineIn s i ≡ true
+  line-holds : lineIn s i ≡ true
   unfolding endsAt
-  line-held = sym (line-in s i) ∙ rw (← it .same, on .test) (it .ended)
+  line-holds = sym (line-in s i) ∙ rw (← it .same, on .test) (it .ended)
 
   account-same : a ≡ accountIn s i
   account-same = sym (on .is) ∙ ap accountOn (it .same) ∙ account-in s i
@@ -122,7 +122,7 @@ unfolding counted every
 listed s i h none = record { good = refl; same = refl }
 listed s i h (more e r) =
     let m = listed s (i + 1) (next-lines s i h e) r in record {
-      good = rw (line-held s i h e) (m .good);
+      good = rw (line-holds s i h e) (m .good);
       same = rw (account-same s i h e) (ap (λ (more : List Account). accountIn s i ∷ more) (m .same));
     }
 
@@ -240,26 +240,26 @@ module _ (s : List ℕ) (r : Register) (h : register s ≡ some r) where
   unfolding registerIn
   register-is = λ i. record { temporary = first .same i; accounts = accounts-are i }
 
-  sound-held : (passes (cut s 0 22) && leb (count s) 40 && not (againIn s (count s))) ≡ true
-  sound-held = sym (sound-in s) ∙ ap sound (sym register-is) ∙ its .good
+  sound-holds : (passes (cut s 0 22) && leb (count s) 40 && not (againIn s (count s))) ≡ true
+  sound-holds = sym (sound-in s) ∙ ap sound (sym register-is) ∙ its .good
 
-  size-held : eqb (length s) (place (count s)) ≡ true
-  size-held = eq-eqb (length s) (place (count s)) (register-size s r h ∙ rw counts)
+  size-holds : eqb (length s) (place (count s)) ≡ true
+  size-holds = eq-eqb (length s) (place (count s)) (register-size s r h ∙ rw counts)
 
-  lines-held : every (lineIn s) (upto 0 (count s)) ≡ true
-  lines-held = rw (upto-0, ← counts) (all .good)
+  lines-holds : every (lineIn s) (upto 0 (count s)) ≡ true
+  lines-holds = rw (upto-0, ← counts) (all .good)
 
-  register-held : passesIn s (count s) ≡ true
+  register-holds : passesIn s (count s) ≡ true
   unfolding passesIn lengthIn firstIn linesIn endsAt
-  register-held =
-      let k = and-left (passes (cut s 0 22) && leb (count s) 40) _ sound-held in
+  register-holds =
+      let k = and-left (passes (cut s 0 22) && leb (count s) 40) _ sound-holds in
       rw (
-        size-held,
+        size-holds,
         and-right (passes (cut s 0 22)) _ k,
         and-left (passes (cut s 0 22)) _ k,
         first .ended,
-        lines-held,
-        and-right (passes (cut s 0 22) && leb (count s) 40) _ sound-held,
+        lines-holds,
+        and-right (passes (cut s 0 22) && leb (count s) 40) _ sound-holds,
       )
 
 -- the register of a text, by its places
@@ -269,4 +269,4 @@ in-places s = go (passesIn s (count s)) refl (register s) refl
     go : (t : Bool) → passesIn s (count s) ≡ t → (o : Option Register) → register s ≡ o → o ≡ given t (registerIn s)
     go true e o f = sym f ∙ in-register s e
     go false e none f = refl
-    go false e (some r) f = never (sym e ∙ register-held s r f)
+    go false e (some r) f = never (sym e ∙ register-holds s r f)

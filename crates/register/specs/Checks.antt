@@ -50,8 +50,8 @@ module _ (s : List ℕ) (t : Bool) (u : t ≡ passes (cut s 0 22)) where
   first-fails d = rw (← u, d)
 
 -- a test that a call answered
-pub call-held : (a t : Bool) → t ≡ a → not t ≡ false → a ≡ true
-call-held a t u d = sym u ∙ not-false t d
+pub call-holds : (a t : Bool) → t ≡ a → not t ≡ false → a ≡ true
+call-holds a t u d = sym u ∙ not-false t d
 
 -- an account line: IBAN, bounds, end, order
 module _ (s : List ℕ) (i : ℕ) (l : 24 + 38 * i + 38 ≤ length s) (t : Bool) (u : t ≡ passes (cut s (24 + 38 * i) (24 + 38 * i + 22))) where

@@ -32,15 +32,15 @@ open-clear size text day h = record {
 
 -- ---- a message
 
-module _ (room : ℕ) (held : Option Engine) (s : List ℕ) (h : firstOf (messageStops room held s) ≡ 0) where
+module _ (room : ℕ) (engine : Option Engine) (s : List ℕ) (h : firstOf (messageStops room engine s) ≡ 0) where
   -- there are an engine and a message
-  pub message-engine : isSome held ≡ true
+  pub message-engine : isSome engine ≡ true
   unfolding messageStops inputStops formStops stateStops limitStops roomStops numbered conditionOf
-  message-engine = not-false _ (none-holds 10 (messageStops room held s) refl h)
+  message-engine = not-false _ (none-holds 10 (messageStops room engine s) refl h)
 
   pub message-read : isSome (read s) ≡ true
   unfolding messageStops inputStops formStops stateStops limitStops roomStops numbered conditionOf
-  message-read = not-false _ (none-holds 3 (messageStops room held s) refl h)
+  message-read = not-false _ (none-holds 3 (messageStops room engine s) refl h)
 
 -- none of 1 to 16 holds of a message, its bytes s and what it was read as
 pub record Clear (room : ℕ) (e : Engine) (s : List ℕ) (m : Message) : Type 0 where
@@ -94,9 +94,9 @@ limit-clear e m h =
 
 -- ---- a turn
 
-pub turn-engine : (room : ℕ) (held : Option Engine) (day : ℕ) → firstOf (turnStops room held day) ≡ 0 → isSome held ≡ true
+pub turn-engine : (room : ℕ) (engine : Option Engine) (day : ℕ) → firstOf (turnStops room engine day) ≡ 0 → isSome engine ≡ true
 unfolding turnStops numbered conditionOf
-turn-engine room held day h = not-false _ (none-holds 10 (turnStops room held day) refl h)
+turn-engine room engine day h = not-false _ (none-holds 10 (turnStops room engine day) refl h)
 
 -- none of 3, 11 and 16 holds
 pub record TurnClear (room : ℕ) (e : Engine) (day : ℕ) : Type 0 where

@@ -84,17 +84,17 @@ first-earlier (s ∷ a) b k e n = go (s .holds) e (λ z. first-earlier a b k z n
 
 -- ---- a call
 
-module _ (ss : List Stop) (held : Option Engine) (a : Answer) where
-  pub answered-refused : (k : ℕ) → firstOf ss ≡ k → eqb k 0 ≡ false → answered ss held a ≡ refused k held
+module _ (ss : List Stop) (engine : Option Engine) (a : Answer) where
+  pub answered-refused : (k : ℕ) → firstOf ss ≡ k → eqb k 0 ≡ false → answered ss engine a ≡ refused k engine
   unfolding answered
   answered-refused k e n = rw (e, n)
 
-  pub answered-accepted : firstOf ss ≡ 0 → answered ss held a ≡ a
+  pub answered-accepted : firstOf ss ≡ 0 → answered ss engine a ≡ a
   unfolding answered
   answered-accepted e = rw e
 
   -- an answer of 0 is an acceptance
-  pub answered-zero : answered ss held a .number ≡ 0 → firstOf ss ≡ 0
+  pub answered-zero : answered ss engine a .number ≡ 0 → firstOf ss ≡ 0
   unfolding answered
   answered-zero h = go (eqb (firstOf ss) 0) refl
     where

@@ -1,4 +1,4 @@
--- The lines of a text, taken apart: a text in lines is its lines, each with its CR LF, and a line holds no CR or LF. The first line alone, `line`, and all of them, `lines`.
+-- The lines of a text, taken apart: a text in lines is its lines, each with its CR LF, and a line holds no CR or LF. The first line alone, `takeLine`, and all of them, `lines`.
 use mathlib.Core.Path.{_≡_, refl, sym, ap, _∙_}
 use mathlib.Core.Bool.{Bool, true, false, _&&_, not}
 use mathlib.Core.List.{List, [], _∷_, _++_, append-assoc}
@@ -9,7 +9,7 @@ use lib.Dec.{eqb}
 use lib.ListN.{length, length-append}
 use borrow.Author.Tests.{eqb-true, not-true}
 use Rattle.rules.specs.Text.{every}
-use Rattle.rules.specs.Lines.{Line, Taken, lead, line, before, begun, lines, body}
+use Rattle.rules.specs.Lines.{Line, TakenLine, lead, takeLine, before, begun, lines, body}
 use Rattle.laws.specs.Parts.{from}
 use Rattle.laws.specs.Tests.{and-left, and-right, cond-left, cond-right, none-some}
 use Rattle.rule_laws.specs.Options.{some-is, Mapped, mapped}
@@ -24,10 +24,10 @@ inLine c = not (eqb c 13) && not (eqb c 10)
 pub data Begins : ℕ → ℕ → Type 0 where
   ends : Begins 13 10
   goes : {c d : ℕ} → inLine c ≡ true → Begins c d
-  breaks : {c d : ℕ} → ((cs : List ℕ) → line (c ∷ d ∷ cs) ≡ none) → ((cs : List ℕ) → lines (c ∷ d ∷ cs) ≡ none) → Begins c d
+  breaks : {c d : ℕ} → ((cs : List ℕ) → takeLine (c ∷ d ∷ cs) ≡ none) → ((cs : List ℕ) → lines (c ∷ d ∷ cs) ≡ none) → Begins c d
 
 pub begins : (c d : ℕ) → Begins c d
-unfolding line lines inLine
+unfolding takeLine lines inLine
 begins c d = go (eqb c 13) refl (eqb d 10) refl (eqb c 10) refl
   where
     go : (x : Bool) → eqb c 13 ≡ x → (y : Bool) → eqb d 10 ≡ y → (z : Bool) → eqb c 10 ≡ z → Begins c d
@@ -37,8 +37,8 @@ begins c d = go (eqb c 13) refl (eqb d 10) refl (eqb c 10) refl
     go false e y f false g = goes {c = c} (rw (e, g))
 
 -- a byte of a line before others
-pub line-goes : (c : ℕ) (cs : List ℕ) → inLine c ≡ true → line (c ∷ cs) ≡ lead (c ∷ []) (line cs)
-unfolding line lead inLine
+pub line-goes : (c : ℕ) (cs : List ℕ) → inLine c ≡ true → takeLine (c ∷ cs) ≡ lead (c ∷ []) (takeLine cs)
+unfolding takeLine lead inLine
 line-goes c [] h = refl
 line-goes c (d ∷ cs) h = rw (not-true (eqb c 13) (and-left _ _ h), not-true (eqb c 10) (and-right (not (eqb c 13)) _ h))
 
@@ -49,34 +49,34 @@ lines-go c d cs h = rw (not-true (eqb c 13) (and-left _ _ h), not-true (eqb c 10
 -- ---- the first line
 
 -- a line taken off a text
-pub record FirstLine (cs : List ℕ) (t : Taken) : Type 0 where
+pub record FirstLine (cs : List ℕ) (t : TakenLine) : Type 0 where
   pub text : cs ≡ t .line ++ 13 ∷ 10 ∷ t .others
   pub plain : every inLine (t .line) ≡ true
 
-first-byte : (c : ℕ) (cs : List ℕ) (o : Option Taken) (t : Taken) → inLine c ≡ true → ((u : Taken) → o ≡ some u → FirstLine cs u) → lead (c ∷ []) o ≡ some t → FirstLine (c ∷ cs) t
+first-byte : (c : ℕ) (cs : List ℕ) (o : Option TakenLine) (t : TakenLine) → inLine c ≡ true → ((u : TakenLine) → o ≡ some u → FirstLine cs u) → lead (c ∷ []) o ≡ some t → FirstLine (c ∷ cs) t
 unfolding lead every
 first-byte c cs none t h f e = none-some e
 first-byte c cs (some u) t h f e =
     let r : FirstLine cs u = f u refl in
     rw (← some-is e) record { text = ap (λ (l : List ℕ). c ∷ l) (r .text); plain = rw h (r .plain) }
 
-pub first-line : (cs : List ℕ) (t : Taken) → line cs ≡ some t → FirstLine cs t
-unfolding line every
+pub first-line : (cs : List ℕ) (t : TakenLine) → takeLine cs ≡ some t → FirstLine cs t
+unfolding takeLine every
 first-line [] t h = none-some h
 first-line (c ∷ []) t h = none-some h
 first-line (c ∷ d ∷ cs) t h = go (begins c d) (first-line (d ∷ cs)) h
   where
-    go : {c d : ℕ} → Begins c d → ((u : Taken) → line (d ∷ cs) ≡ some u → FirstLine (d ∷ cs) u) → line (c ∷ d ∷ cs) ≡ some t → FirstLine (c ∷ d ∷ cs) t
+    go : {c d : ℕ} → Begins c d → ((u : TakenLine) → takeLine (d ∷ cs) ≡ some u → FirstLine (d ∷ cs) u) → takeLine (c ∷ d ∷ cs) ≡ some t → FirstLine (c ∷ d ∷ cs) t
     go ends f k = rw (← some-is k) record { text = refl; plain = refl }
-    go {c} {d} (goes e) f k = first-byte c (d ∷ cs) (line (d ∷ cs)) t e f (rw (line-goes c (d ∷ cs) e) at k)
+    go {c} {d} (goes e) f k = first-byte c (d ∷ cs) (takeLine (d ∷ cs)) t e f (rw (line-goes c (d ∷ cs) e) at k)
     go (breaks e _) f k = none-some (sym (e cs) ∙ k)
 
-pub first-length : (cs : List ℕ) (t : Taken) → line cs ≡ some t → length cs ≡ length (t .line) + 2 + length (t .others)
+pub first-length : (cs : List ℕ) (t : TakenLine) → takeLine cs ≡ some t → length cs ≡ length (t .line) + 2 + length (t .others)
 first-length cs t h = ap length (first-line cs t h .text) ∙ length-append (t .line) (13 ∷ 10 ∷ t .others) ∙ omega arith
 
 -- and back: a line with its CR LF before others is taken off
-pub line-taken : (l cs : List ℕ) → every inLine l ≡ true → line (l ++ 13 ∷ 10 ∷ cs) ≡ some record { line = l; others = cs }
-unfolding line lead every
+pub line-taken : (l cs : List ℕ) → every inLine l ≡ true → takeLine (l ++ 13 ∷ 10 ∷ cs) ≡ some record { line = l; others = cs }
+unfolding takeLine lead every
 line-taken [] cs h = refl
 line-taken (c ∷ l) cs h = line-goes c (l ++ 13 ∷ 10 ∷ cs) (cond-left _ _ h) ∙ rw (line-taken l cs (cond-right (inLine c) _ h))
 

@@ -9,7 +9,7 @@ use lib.ListN.{length, getD}
 use Rattle.rules.specs.Text.{ascii, every, equal}
 use Rattle.rules.specs.Dates.{date}
 use Rattle.rules.specs.Amounts.{amount}
-use Rattle.rules.specs.Lines.{Line, Taken, line, closing, type, sender, body}
+use Rattle.rules.specs.Lines.{Line, TakenLine, takeLine, closing, type, sender, body}
 use Rattle.rules.specs.Forms.{Row, TakenRows, fitsRow, leadRows, takeRows, transferRows, orderRows, detailRows}
 use Rattle.rules.specs.Messages.{Message, mt103, mt101, Transfer, Order, Detail, TakenDetail, lineOf, date32A, amount32A, baerefDate103, amount32B, dateCentrb, dateBaeref, transferOf, detailOf, takeDetail, details, readTransfer, readOrder, read}
 use Rattle.laws.specs.Tests.{never, none-some}
@@ -32,13 +32,13 @@ rows-read : (rs : List Row) (cs : List ℕ) (x : TakenRows) → takeRows rs cs �
 unfolding takeRows leadRows
 rows-read [] cs x h = rw (← some-is h) end
 rows-read (r ∷ rs) cs x h =
-    let t : Came (line cs) _ x = came _ _ h in go (t .value) (fitsRow r (t .value .line)) (r .optional) refl refl (first-line cs (t .value) (t .is) .plain) (rows-read rs) (t .gives)
+    let t : Came (takeLine cs) _ x = came _ _ h in go (t .value) (fitsRow r (t .value .line)) (r .optional) refl refl (first-line cs (t .value) (t .is) .plain) (rows-read rs) (t .gives)
   where
     first : {l : Line} (o : Option TakenRows) → RowStands r l → ((y : TakenRows) → o ≡ some y → RowsRead rs (y .rows)) → leadRows (l ∷ []) o ≡ some x → RowsRead (r ∷ rs) (x .rows)
     first none s f k = none-some k
     first (some y) s f k = rw (← some-is k) (row s (f y refl))
 
-    go : (t : Taken) (b c : Bool) → fitsRow r (t .line) ≡ b → r .optional ≡ c → every inLine (t .line) ≡ true → ((ds : List ℕ) (y : TakenRows) → takeRows rs ds ≡ some y → RowsRead rs (y .rows))
+    go : (t : TakenLine) (b c : Bool) → fitsRow r (t .line) ≡ b → r .optional ≡ c → every inLine (t .line) ≡ true → ((ds : List ℕ) (y : TakenRows) → takeRows rs ds ≡ some y → RowsRead rs (y .rows))
         → cond b (leadRows (t .line ∷ []) (takeRows rs (t .others))) (cond c (leadRows ([] ∷ []) (takeRows rs cs)) none) ≡ some x → RowsRead (r ∷ rs) (x .rows)
     go t true c e f p g k = first (takeRows rs (t .others)) (here e p) (g (t .others)) k
     go t false true e f p g k = first (takeRows rs cs) (out f) (g cs) k

@@ -6,7 +6,7 @@ use Prim.Native.Nat.{ℕ, zero, suc, _+_, _-_, _*_}
 use lib.Dec.{leb, eqb}
 use lib.IntN.{ℤ, pos}
 use lib.ListN.{length, take, drop, replicate}
-use Rattle.rules.specs.Text.{ascii, equal, bytes, number, given, over}
+use Rattle.rules.specs.Text.{ascii, equal, bytes, bigEndian, given, over}
 use Rattle.rules.specs.Engine.{Key, Position, Reference, Engine, within}
 use Rattle.rules.specs.Calls.{Answer, openCall, messageCall, turnCall}
 
@@ -136,7 +136,7 @@ encode e =
 
 -- the number in w bytes from i
 abbrev pub numberAt : List ℕ → ℕ → ℕ → ℕ
-numberAt a i w = number (take w (drop i a))
+numberAt a i w = bigEndian (take w (drop i a))
 
 -- the bytes before the first zero
 unfoldable pub untilZero : List ℕ → List ℕ

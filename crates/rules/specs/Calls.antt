@@ -6,7 +6,7 @@ use Prim.Native.Nat.{ℕ, _+_, _-_}
 use lib.Dec.{leb, eqb}
 use lib.IntN.{ℤ, pos, subℕ}
 use lib.ListN.{length, take, drop}
-use Rattle.rules.specs.Text.{ascii, equal, number, isSome, any, twice}
+use Rattle.rules.specs.Text.{ascii, equal, bigEndian, isSome, any, twice}
 use Rattle.rules.specs.Dates.{exists}
 use Rattle.rules.specs.Accounts.{passes}
 use Rattle.rules.specs.Lines.{framed, type, receiver}
@@ -41,11 +41,11 @@ pub record Answer : Type 0 where
 
 -- a refusal: "difference, bytes and all else 0", and the engine stays
 abbrev pub refused : ℕ → Option Engine → Answer
-refused k held = record { number = k; text = []; difference = pos 0; next = held }
+refused k engine = record { number = k; text = []; difference = pos 0; next = engine }
 
 -- a call: accepted where no condition holds, and else refused by the first
 unfoldable pub answered : List Stop → Option Engine → Answer → Answer
-answered stops held accepted = let k = firstOf stops in cond (eqb k 0) accepted (refused k held)
+answered stops engine accepted = let k = firstOf stops in cond (eqb k 0) accepted (refused k engine)
 
 -- a test on what is there
 unfoldable pub holdsOf : {A : Type 0} → (A → Bool) → Option A → Bool
@@ -72,7 +72,7 @@ acceptedOpening text day = record { number = 0; text = []; difference = pos 0; n
 
 -- an opening of an area that is lent with a size
 unfoldable pub openCall : ℕ → Option Engine → List ℕ → ℕ → Answer
-openCall size held text day = answered (openStops size text day) held (acceptedOpening text day)
+openCall size engine text day = answered (openStops size text day) engine (acceptedOpening text day)
 
 -- ---- message: conditions
 
@@ -116,7 +116,7 @@ misdated day (mt101 o) = not (leb (firstDate (o .details)) day)
 
 -- the bank that sends
 abbrev pub bankOf : Message → ℕ
-bankOf m = number (senderOf m)
+bankOf m = bigEndian (senderOf m)
 
 -- "this sender's field 20"
 abbrev pub ownReference : Message → Reference
@@ -127,12 +127,12 @@ abbrev pub keyOf : Message → Key
 keyOf m = record { bank = bankOf m; date = dateOf m }
 
 -- what the message adds to its position
-abbrev pub added : Message → Position
-added m = record { key = keyOf m; transferred = transferredBy m; detailed = detailedBy m }
+abbrev pub addition : Message → Position
+addition m = record { key = keyOf m; transferred = transferredBy m; detailed = detailedBy m }
 
 -- its position as it then is
-unfoldable pub after : Engine → Message → Position
-after e m =
+unfoldable pub positionAfter : Engine → Message → Position
+positionAfter e m =
     let p = positionOf (keyOf m) (e .positions) in
     record { key = keyOf m; transferred = p .transferred + transferredBy m; detailed = p .detailed + detailedBy m }
 
@@ -142,7 +142,7 @@ noRoom e m = leb 32 (length (e .positions)) && not (isOpen (keyOf m) (e .positio
 
 -- 15: "a total over its limit"
 unfoldable pub overLimit : Engine → Message → Bool
-overLimit e m = not (leb (after e m .transferred) limit) || not (leb (after e m .detailed) limit)
+overLimit e m = not (leb (positionAfter e m .transferred) limit) || not (leb (positionAfter e m .detailed) limit)
 
 -- ---- message: what is written
 
@@ -176,14 +176,14 @@ hasVerdict (mt103 t) p = hasDetails p
 hasVerdict (mt101 o) p = true
 
 -- how many messages are written
-unfoldable pub writes : Engine → Message → ℕ
-writes e m = cond (hasVerdict m (after e m)) (partsOf (length (returnedOf (registerOf (e .register)) (detailsOf m)))) 0
+unfoldable pub messagesWritten : Engine → Message → ℕ
+messagesWritten e m = cond (hasVerdict m (positionAfter e m)) (partsOf (length (returnedOf (registerOf (e .register)) (detailsOf m)))) 0
 
 -- all that an accepted message makes the card write: posting lines, then the parts of the MT199
 unfoldable pub messageText : Engine → Message → List ℕ
 messageText e m =
     let r = registerOf (e .register) in
-    let p = after e m in
+    let p = positionAfter e m in
     let b : Book = record { day = e .day; temporary = r .temporary; bank = bankOf m; date = dateOf m } in
     postings r b m ++ cond (hasVerdict m p) (verdicts (e .day) (e .count) p (returnedOf r (detailsOf m))) []
 
@@ -192,9 +192,9 @@ unfoldable pub afterMessage : Engine → Message → Engine
 afterMessage e m = record {
   register = e .register;
   day = e .day;
-  positions = booked (added m) (e .positions);
+  positions = booked (addition m) (e .positions);
   references = filed (ownReference m) (e .references);
-  count = e .count + writes e m;
+  count = e .count + messagesWritten e m;
 }
 
 -- 3 to 8, of what was read of a message
@@ -230,11 +230,11 @@ roomStops room e m = stop 16 (holdsOf (λ m. not (leb (length (messageText e m))
 unfoldable pub stateStops : ℕ → Engine → Option Message → List Stop
 stateStops room e m = limitStops e m ++ roomStops room e m
 
--- "10, tested before all others"; behind it, where no engine is held, nothing is tested of any
+-- "10, tested before all others"; behind it, where there is no engine, nothing is tested of any
 unfoldable pub messageStops : ℕ → Option Engine → List ℕ → List Stop
-messageStops room held s =
-    let e = Option·getD held (opened [] 0) in
-    (stop 10 (not (isSome held)) ∷ [])
+messageStops room engine s =
+    let e = Option·getD engine (opened [] 0) in
+    (stop 10 (not (isSome engine)) ∷ [])
     ++ inputStops (registerOf (e .register) .temporary) s
     ++ stateStops room e (read s)
 
@@ -243,7 +243,7 @@ unfoldable pub acceptedMessage : Engine → Message → Answer
 acceptedMessage e m = record {
   number = 0;
   text = messageText e m;
-  difference = subℕ (after e m .transferred) (after e m .detailed);
+  difference = subℕ (positionAfter e m .transferred) (positionAfter e m .detailed);
   next = some (afterMessage e m);
 }
 
@@ -255,7 +255,7 @@ bothOf (some e) (some m) = acceptedMessage e m
 
 -- a message
 unfoldable pub messageCall : ℕ → Option Engine → List ℕ → Answer
-messageCall room held s = answered (messageStops room held s) held (bothOf held (read s))
+messageCall room engine s = answered (messageStops room engine s) engine (bothOf engine (read s))
 
 -- ---- turn: "A turn tests 10, 3, 11, then 16"
 
@@ -267,9 +267,9 @@ turnText e day =
 
 -- 3 "a date that doesn't exist"; 11 "turn to no later day"; 16 "output shorter than this call's bytes"
 unfoldable pub turnStops : ℕ → Option Engine → ℕ → List Stop
-turnStops room held day =
-    let e = Option·getD held (opened [] 0) in
-    stop 10 (not (isSome held))
+turnStops room engine day =
+    let e = Option·getD engine (opened [] 0) in
+    stop 10 (not (isSome engine))
     ∷ stop 3 (not (exists day))
     ∷ stop 11 (leb day (e .day))
     ∷ stop 16 (not (leb (length (turnText e day)) room))
@@ -307,4 +307,4 @@ acceptedTurn (some e) day = record {
 
 -- a turn to a day
 unfoldable pub turnCall : ℕ → Option Engine → ℕ → Answer
-turnCall room held day = answered (turnStops room held day) held (acceptedTurn held day)
+turnCall room engine day = answered (turnStops room engine day) engine (acceptedTurn engine day)

@@ -8,7 +8,7 @@ use Prim.Native.String.{String}
 use lib.Dec.{eqb}
 use lib.ListN.{length, getD, take, drop}
 use Rattle.rules.specs.Text.{ascii, isText, isAlnum, run, fits, then}
-use Rattle.rules.specs.Lines.{Line, line}
+use Rattle.rules.specs.Lines.{Line, takeLine}
 
 -- what stands behind a row's head: nothing; T; a reference R; the bytes behind an account line's slash; N; an amount, which is read with the message's parts
 pub data Rest : Type 0 where
@@ -152,11 +152,11 @@ unfoldable pub leadRows : List Line → Option TakenRows → Option TakenRows
 leadRows ls none = none
 leadRows ls (some r) = some record { rows = ls ++ r .rows; others = r .others }
 
--- "Fields stand in this order, none left out.": the lines of a text held against the rows
+-- "Fields stand in this order, none left out.": the lines of a text matched against the rows
 unfoldable pub takeRows : List Row → List ℕ → Option TakenRows
 takeRows [] cs = some record { rows = []; others = cs }
 takeRows (r ∷ rs) cs =
-    then (line cs) (λ t.
+    then (takeLine cs) (λ t.
     let with = leadRows (t .line ∷ []) (takeRows rs (t .others)) in
     let without = leadRows ([] ∷ []) (takeRows rs cs) in
     cond (fitsRow r (t .line)) with (cond (r .optional) without none))

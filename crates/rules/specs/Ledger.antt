@@ -11,7 +11,7 @@ use Rattle.rules.specs.Accounts.{isBic, ibanShape}
 use Rattle.rules.specs.Lines.{Line, lines}
 use Rattle.rules.specs.Messages.{Message, mt103, mt101, read, dateOf, transferredBy}
 use Rattle.rules.specs.Engine.{Position, alike, raised, kept, bic}
-use Rattle.rules.specs.Calls.{added, bankOf}
+use Rattle.rules.specs.Calls.{addition, bankOf}
 
 -- what a call was handed: its message or day
 pub data Fed : Type 0 where
@@ -34,7 +34,7 @@ entered q (p ∷ ps) = let on = p ∷ entered q ps in cond (alike p q) (raised p
 -- "An accepted MT103 adds its amount to transferred in the entry of its sender and date, an accepted MT101 all its 32B amounts to detailed."
 unfoldable pub enteredBy : Option Message → List Position → List Position
 enteredBy none ledger = ledger
-enteredBy (some m) ledger = entered (added m) ledger
+enteredBy (some m) ledger = entered (addition m) ledger
 
 -- "An accepted turn removes each entry with detailed above 0."
 unfoldable pub fedWith : Fed → List Position → List Position

@@ -12,21 +12,21 @@ abbrev pub Line : Type 0
 Line = List ℕ
 
 -- a line taken off a text, and what stands behind its CR LF
-pub record Taken : Type 0 where
+pub record TakenLine : Type 0 where
   pub line : Line
   pub others : List ℕ
 
 -- the bytes p before the line
-unfoldable pub lead : List ℕ → Option Taken → Option Taken
+unfoldable pub lead : List ℕ → Option TakenLine → Option TakenLine
 lead p none = none
 lead p (some t) = some record { line = p ++ t .line; others = t .others }
 
 -- "A line reader made over the message hands out one line after another.": lines are "ended by CR LF", and "CR and LF stand nowhere else"
-unfoldable pub line : List ℕ → Option Taken
-line [] = none
-line (c ∷ []) = none
-line (c ∷ d ∷ cs) =
-    let on = lead (c ∷ []) (line (d ∷ cs)) in
+unfoldable pub takeLine : List ℕ → Option TakenLine
+takeLine [] = none
+takeLine (c ∷ []) = none
+takeLine (c ∷ d ∷ cs) =
+    let on = lead (c ∷ []) (takeLine (d ∷ cs)) in
     cond (eqb c 13) (cond (eqb d 10) (some record { line = []; others = cs }) none) (cond (eqb c 10) none on)
 
 -- a byte before the first of some lines

@@ -7,7 +7,7 @@ use lib.Dec.{leb}
 use lib.IntN.{ℤ, pos, negsuc}
 use lib.ListN.{length, take, drop}
 use Rattle.rules.specs.Text.{ascii, digits, decimal, fits, equal, then, given}
-use Rattle.rules.specs.Lines.{line}
+use Rattle.rules.specs.Lines.{takeLine}
 use Rattle.rules.specs.Engine.{Engine}
 use Rattle.rules.specs.Calls.{Answer, openCall, messageCall, turnCall}
 
@@ -45,7 +45,7 @@ commandOf l cs =
 
 -- "command lines end in CR LF"
 unfoldable pub command : List ℕ → Option Commanded
-command cs = then (line cs) (λ t. commandOf (t .line) (t .others))
+command cs = then (takeLine cs) (λ t. commandOf (t .line) (t .others))
 
 -- "the difference", with its sign where it is below 0
 unfoldable pub signed : ℤ → List ℕ
@@ -58,9 +58,9 @@ printed a = decimal (a .number) ++ ascii "," ++ signed (a .difference) ++ ascii 
 
 -- the call that a command makes
 unfoldable pub called : ℕ → Option Engine → Command → Answer
-called room held (opens day text) = openCall 6144 held text day
-called room held (sends s) = messageCall room held s
-called room held (turns day) = turnCall room held day
+called room engine (opens day text) = openCall 6144 engine text day
+called room engine (sends s) = messageCall room engine s
+called room engine (turns day) = turnCall room engine day
 
 -- what follows from a command, nothing where there is none
 unfoldable pub onward : Option Commanded → (Commanded → List ℕ) → List ℕ
@@ -69,9 +69,9 @@ onward (some c) f = f c
 
 -- the commands one after the other, at most k; "input outside this form .. ends it"
 unfoldable pub replayFrom : ℕ → ℕ → Option Engine → List ℕ → List ℕ
-replayFrom zero room held cs = []
-replayFrom (suc k) room held cs =
-    onward (command cs) (λ c. let a = called room held (c .command) in printed a ++ replayFrom k room (a .next) (c .others))
+replayFrom zero room engine cs = []
+replayFrom (suc k) room engine cs =
+    onward (command cs) (λ c. let a = called room engine (c .command) in printed a ++ replayFrom k room (a .next) (c .others))
 
 -- with another room than 32,768; "the area begins as zeros", which hold no engine
 unfoldable pub replayIn : ℕ → List ℕ → List ℕ

@@ -138,8 +138,8 @@ numberFrom n [] = n
 numberFrom n (b ∷ bs) = numberFrom (n * 256 + b) bs
 
 -- the number of some bytes; a bank is the number of its BIC, so that banks in byte order are numbers in order
-abbrev pub number : List ℕ → ℕ
-number bs = numberFrom 0 bs
+abbrev pub bigEndian : List ℕ → ℕ
+bigEndian bs = numberFrom 0 bs
 
 -- ---- written texts
 

@@ -9,15 +9,15 @@ use borrow.Author.Tests.{le-leb, lt-leb}
 use lib.Dec.{leb, eqb}
 use Rattle.rules.specs.Text.{any}
 use Rattle.rules.specs.Engine.{Key, Position, limit, sameReference}
-use Rattle.rules.specs.Calls.{limitStops, firstOf, holdsOf, misdated, ownReference, noRoom, overLimit, after}
+use Rattle.rules.specs.Calls.{limitStops, firstOf, holdsOf, misdated, ownReference, noRoom, overLimit, positionAfter}
 use Rattle.rules.specs.Area.{decode}
 use Rattle.laws.specs.Parts.{cut}
-use Rattle.laws.specs.Tests.{held-told}
+use Rattle.laws.specs.Tests.{holds-told}
 use Rattle.position.specs.Values.{keyValue}
 use Rattle.position.specs.declared.Position as P
 use Rattle.engine.specs.Totals.{TotalsOf}
 use Rattle.engine.specs.References.{ofBank}
-use Rattle.engine.specs.declared.held.Totals.{Totals}
+use Rattle.engine.specs.declared.lookup.Totals.{Totals}
 use Rattle.engine.specs.Header.{HeaderOf}
 use Rattle.engine.specs.declared.header.Header.{Header}
 use Rattle.details.specs.Message.{messageIn}
@@ -139,8 +139,8 @@ module _ (s area : List ℕ) (b : Booking) (k : Books s (messageIn s) b) (x : He
         state-full l = rw (day-is, ← u, d, ← v, w, ← n .references, le-leb _ _ l) refl
 
         pub state-rest : x .references < 64 → (y : Totals) → TotalsOf (decode area .positions) (keyValue (b .key)) y → {r : ℕ} → r ≡ restNumber (x .positions) y b → r ≡ firstOf (limitStops (decode area) (some (messageIn s)))
-        unfolding firstOf limitStops holdsOf restNumber noRoom overLimit overBy after
+        unfolding firstOf limitStops holdsOf restNumber noRoom overLimit overBy positionAfter
         state-rest l y g e =
             e ∙ rw (day-is, ← u, d, ← v, w, ← n .references, lt-leb _ _ l, ← k .key, ← g .opens, ← g .transferred, ← g .detailed, ← n .positions, k .transferred, k .detailed) refl
 
-pub ruleset stops = (held-told, misdated-transfer, misdated-before, misdated-after, total-within, total-above, amount-own, amount-none, sum-none, sum-own, added-small, summed-small, over-first, over-second, rest-open-over, rest-open, rest-full, rest-over, rest-none, used-is, state-day, state-used, state-full, state-rest)
+pub ruleset stops = (holds-told, misdated-transfer, misdated-before, misdated-after, total-within, total-above, amount-own, amount-none, sum-none, sum-own, added-small, summed-small, over-first, over-second, rest-open-over, rest-open, rest-full, rest-over, rest-none, used-is, state-day, state-used, state-full, state-rest)

@@ -1,4 +1,4 @@
-// Two parts of one length held against each other: equal bytes, and bytes against a pattern.
+// Two parts of one length compared with each other: equal bytes, and bytes against a pattern.
 use crate::classes::is_alnum;
 use crate::classes::is_digit;
 use crate::classes::is_letter;

@@ -1,4 +1,4 @@
-// Bytes and texts: classes of bytes, runs of a class, parts held against each other, numbers.
+// Bytes and texts: classes of bytes, runs of a class, parts compared with each other, numbers.
 mod against;
 mod classes;
 mod numbers;

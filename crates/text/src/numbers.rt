@@ -4,7 +4,7 @@ ghost use mathlib.Core.Path.{_≡_};
 ghost use mathlib.Core.Bool.{true};
 ghost use Prim.Native.Nat.{_+_, _-_, _<_, _≤_};
 ghost use lib.ListN.{length};
-ghost use Rattle.rules.specs.Text.{isDigit, every, digits, number};
+ghost use Rattle.rules.specs.Text.{isDigit, every, digits, bigEndian};
 ghost use Rattle.laws.specs.Parts.{cut};
 ghost use Rattle.laws.specs.Reading.{power, Placed};
 ghost use Rattle.laws.specs.Values.{Valued};
@@ -109,7 +109,7 @@ pub fn read_be(s: &[u8], a: usize, b: usize) -> u64
     requires { ⌜ a ≤ b ⌝ }
     requires { ⌜ b ≤ length (now s) ⌝ }
     requires { ⌜ b - a ≤ 8 ⌝ }
-    ensures { λ r. ⌜ r ≡ number (cut (now (s .entry)) a b) ⌝ }
+    ensures { λ r. ⌜ r ≡ bigEndian (cut (now (s .entry)) a b) ⌝ }
 {
     let mut v: u64 = 0;
     let mut i = a;

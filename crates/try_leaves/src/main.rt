@@ -15,9 +15,9 @@ fn say_number(r: Num) {
     }
 }
 
-// A word that says whether a test held.
-fn say(held: bool, yes: &[u8], no: &[u8]) {
-    if held {
+// A word that says whether a test holds.
+fn say(holds: bool, yes: &[u8], no: &[u8]) {
+    if holds {
         io::write_all(1, yes);
     } else {
         io::write_all(1, no);

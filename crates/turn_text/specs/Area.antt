@@ -11,7 +11,7 @@ use Rattle.laws.specs.Writing.{Wrote, wrote-then}
 use Rattle.engine.specs.Header.{HeaderOf}
 use Rattle.engine.specs.declared.header.Header.{Header}
 use Rattle.engine.specs.Positions.{positionsFrom}
-use Rattle.engine.specs.Held.{positions-are}
+use Rattle.engine.specs.Lookup.{positions-are}
 use Rattle.outgoing_number.specs.declared.Numbered.{Numbered}
 use Rattle.turn_text.specs.declared.turn.Correcting.{Correcting}
 use Rattle.turn_text.specs.Turn.{temporaryAt, NextFound, CorrectionsPut}

@@ -15,7 +15,7 @@ use Rattle.position.specs.declared.Position as P
 use Rattle.turn_text.specs.declared.sums.Sums.{Sums}
 use Rattle.engine.specs.Header.{HeaderOf}
 use Rattle.engine.specs.declared.header.Header.{Header}
-use Rattle.engine.specs.Held.{positions-are}
+use Rattle.engine.specs.Lookup.{positions-are}
 use Rattle.engine.specs.Positions.{positionsFrom, positions-next, positions-none, PositionAt}
 
 -- what a position with details has of one total above the other
@@ -125,7 +125,7 @@ module _ (area : List ℕ) (i k n : ℕ) (s : Sums) (l : SumsLeft area i k n s) 
       }
 
 -- the positions of the engine that the area holds
-pub sums-held : (area : List ℕ) (x : Header) (s : Sums) → isSome (holds area) ≡ true → HeaderOf area x → SumsOf (positionsFrom area 0 (x .positions)) s → SumsOf (decode area .positions) s
-sums-held area x s h n t = subst (λ (ps : List Position). SumsOf ps s) (sym (positions-are area h x n)) t
+pub sums-decoded : (area : List ℕ) (x : Header) (s : Sums) → isSome (holds area) ≡ true → HeaderOf area x → SumsOf (positionsFrom area 0 (x .positions)) s → SumsOf (decode area .positions) s
+sums-decoded area x s h n t = subst (λ (ps : List Position). SumsOf ps s) (sym (positions-are area h x n)) t
 
-pub ruleset summing = (adds-nothing, adds-some, sums-all, sums-more, sums-end, sums-held, decoded-room)
+pub ruleset summing = (adds-nothing, adds-some, sums-all, sums-more, sums-end, sums-decoded, decoded-room)

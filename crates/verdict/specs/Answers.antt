@@ -73,8 +73,8 @@ pub record Listed (text : List ℕ) (v : Verdict) : Type 0 where
 pub listed : (text cs : List ℕ) (v : Verdict) → verdictOf v ≡ verdict (registerOf text) cs → Listed text v
 listed text cs v h = record {
   line = λ i e.
-    let f : AccountFound (take 22 cs) 0 i (registerOf text .accounts) = credited-to (registerOf text) cs i (sym h ∙ ap verdictOf e) .line in
-    omega (arith, f .index, f .listed);
+      let f : AccountFound (take 22 cs) 0 i (registerOf text .accounts) = credited-to (registerOf text) cs i (sym h ∙ ap verdictOf e) .line in
+      omega (arith, f .index, f .listed);
 }
 
 pub listed-line : (text : List ℕ) (v : Verdict) (i : ℕ) → Listed text v → v ≡ Credited i → i < length (registerOf text .accounts)

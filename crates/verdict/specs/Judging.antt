@@ -13,7 +13,7 @@ use Rattle.rules.specs.Accounts.{ibanShape, control}
 use Rattle.rules.specs.Register.{Account, Register}
 use Rattle.rules.specs.Verdict.{found, accountAt, shaped, inBounds, judged, verdict, wrongShape, wrongControl, notInRegister, outOfBounds, credited, returned}
 use Rattle.laws.specs.Parts.{cut, cut-take, cut-drop, cut-done, cut-length}
-use Rattle.laws.specs.Tests.{and-left, and-right, not-held}
+use Rattle.laws.specs.Tests.{and-left, and-right, not-holds}
 use Rattle.laws.specs.Reading.{fits-length}
 use Rattle.laws.specs.Equal.{equal-true}
 use Rattle.rule_laws.specs.Verdicts.{AccountFound, account-found}
@@ -56,7 +56,7 @@ module _ (s : List ℕ) (a b : ℕ) (h : a ≤ b) (k : b ≤ length s) where
   shape-alone e t u = rw (cut-take s a b 22 (omega arith), cut-drop s a b 22, cut-done s (a + 22) b (omega arith) (omega arith), u, and-true)
 
   pub shape-other : (b - a ≡ 22 → ⊥) → (b - a ≡ 31 → ⊥) → false ≡ shaped (cut s a b)
-  shape-other e f = not-held (shaped (cut s a b)) (λ w. go (shaped-length (cut s a b) w))
+  shape-other e f = not-holds (shaped (cut s a b)) (λ w. go (shaped-length (cut s a b) w))
     where
       go : (length (cut s a b) ≡ 22) ⊎ (length (cut s a b) ≡ 31) → ⊥
       go (inl g) = e (sym size ∙ g)

@@ -1,4 +1,4 @@
--- `calendar::exists` meets its contract: year, month and day are held to their bounds in the order of the definition.
+-- `calendar::exists` meets its contract: year, month and day are compared with their bounds in the order of the definition.
 use Rattle.calendar.specs.Days.{days}
 use borrow.Author.Needs.{needs}
 use Rattle.calendar.proofs.exists.Statement.{statement}

@@ -20,7 +20,13 @@ position-after-requires : tie.Need-position-after-requires
 position-after-requires c κs = search (sending, needs)
 
 send-message-requires : tie.Need-send-message-requires
-send-message-requires c κs = let p = (c .before .before .before .before .before .before .before .before .before .before .before .before .before .pre) in (p .0, (p .1, (state-none _ _ _ (c .before .before .before .before .before .before .state-number .ensures) (c .before .before .before .before .before .if1 .left), leaves-told _ _ _ (p .1 .books) _ (c .before .before .before .before .before .before .before .before .totals-of .ensures) _ (c .before .before .before .before .position-after .ensures))))
+send-message-requires c κs =
+    let at-position-after = c .before .before .before .before in
+    let at-if1 = at-position-after .before in
+    let at-state-number = at-if1 .before in
+    let at-totals-of = at-state-number .before .before in
+    let entry = at-totals-of .before .before .before .before .before in
+    let p = (entry .pre) in (p .0, (p .1, (state-none _ _ _ (at-state-number .state-number .ensures) (at-if1 .if1 .left), leaves-told _ _ _ (p .1 .books) _ (at-totals-of .totals-of .ensures) _ (at-position-after .position-after .ensures))))
 
 same-length-2 : tie.Need-same-length-2
 same-length-2 c = search (sending, needs)

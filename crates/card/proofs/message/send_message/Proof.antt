@@ -15,8 +15,8 @@ judge-in-requires c κs = search (sending, needs)
 count-returned-requires : tie.Need-count-returned-requires
 count-returned-requires c κs = search (sending, needs)
 
-message-writes-requires : tie.Need-message-writes-requires
-message-writes-requires c κs = search (sending, needs)
+messages-written-requires : tie.Need-messages-written-requires
+messages-written-requires c κs = search (sending, needs)
 
 message-size-requires : tie.Need-message-size-requires
 message-size-requires c κs = search (sending, needs)
@@ -28,7 +28,14 @@ returns : tie.Need-returns
 returns c = search (sending, needs)
 
 accept-message-requires : tie.Need-accept-message-requires
-accept-message-requires c κs = let p = (c .before .before .before .before .before .before .before .before .before .before .before .before .before .before .before .before .before .before .before .pre) in (ready _ _ (p .0) _ (p .1 .0) _ (p .1 .1 .1) (p .1 .1 .0) (c .before .before .before .before .before .before .before .before .before .before .before .before .judge-in .ensures) (c .before .before .before .before .before .before .before .before .before .before .count-returned .ensures) (c .before .before .before .before .before .before .before .before .before .message-writes .ensures), text-fits (now ((c .before .before .before .before .before .before .before .before .before .before .before .before .before .before .before .before .before .before .before .args .output))) (c .before .before .before .before .before .before .message-size .ensures) (c .before .before .before .before .before .if1 .left) (omega (arith, (c .before .before .before .before .before .before .before .before .before .before .before .before .before .before .before .before .before .before .before .good))))
+accept-message-requires c κs =
+    let at-if1 = c .before .before .before .before .before in
+    let at-message-size = at-if1 .before in
+    let at-messages-written = at-message-size .before .before .before in
+    let at-count-returned = at-messages-written .before in
+    let at-judge-in = at-count-returned .before .before in
+    let entry = at-judge-in .before .before .before .before .before .before .before in
+    let p = (entry .pre) in (ready _ _ (p .0) _ (p .1 .0) _ (p .1 .1 .1) (p .1 .1 .0) (at-judge-in .judge-in .ensures) (at-count-returned .count-returned .ensures) (at-messages-written .messages-written .ensures), text-fits (now ((entry .args .output))) (at-message-size .message-size .ensures) (at-if1 .if1 .left) (omega (arith, (entry .good))))
 
 same-length-2 : tie.Need-same-length-2
 same-length-2 c = search (sending, needs)
@@ -37,7 +44,12 @@ same-length-3 : tie.Need-same-length-3
 same-length-3 c = search (sending, needs)
 
 returns-2 : tie.Need-returns-2
-returns-2 c = let p = (c .before .before .before .before .before .before .before .before .before .before .before .before .before .before .before .before .before .before .before .before .before .before .before .before .pre) in sent-made _ _ (p .0) _ (p .1 .0) (now ((c .before .before .before .before .before .before .before .before .before .before .before .before .before .before .before .before .before .before .before .before .before .before .before .before .args .output))) (p .1 .1 .0) (c .before .before .before .before .before .before .before .before .before .before .before .message-size .ensures) (c .before .before .before .before .before .before .before .before .before .before .if1 .left) (omega (arith, (c .before .before .before .before .before .before .before .before .before .before .before .before .before .before .before .before .before .before .before .before .before .before .before .before .good))) (c .before .before .before .before .accept-message .ensures)
+returns-2 c =
+    let at-accept-message = c .before .before .before .before in
+    let at-if1 = at-accept-message .before .before .before .before .before .before in
+    let at-message-size = at-if1 .before in
+    let entry = at-message-size .before .before .before .before .before .before .before .before .before .before .before .before .before in
+    let p = (entry .pre) in sent-made _ _ (p .0) _ (p .1 .0) (now ((entry .args .output))) (p .1 .1 .0) (at-message-size .message-size .ensures) (at-if1 .if1 .left) (omega (arith, (entry .good))) (at-accept-message .accept-message .ensures)
 
 pub send-message-spec : {M : Type 1} → statement M
 send-message-spec =
@@ -46,7 +58,7 @@ send-message-spec =
     cast-n
     judge-in-requires
     count-returned-requires
-    message-writes-requires
+    messages-written-requires
     message-size-requires
     same-length
     returns

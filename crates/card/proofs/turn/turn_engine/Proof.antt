@@ -28,7 +28,15 @@ returns-2 : tie.Need-returns-2
 returns-2 c = search (turning, needs)
 
 accept-turn-requires : tie.Need-accept-turn-requires
-accept-turn-requires c κs = ((c .before .before .before .before .before .before .before .before .before .before .before .before .before .before .before .pre), turn-fits _ _ (now (c .before .before .before .before .before .before .before .before .before .before .before .before .before .before .before .args .output)) (c .before .before .before .before .before .before .before .before .before .before .before .before .before .before .before .pre) _ (c .before .before .before .before .before .before .before .before .before .before .before .before .exists .ensures) (c .before .before .before .before .before .before .before .before .before .before .before .if1 .taken) _ (c .before .before .before .before .before .before .before .before .before .header-of .ensures) (c .before .before .before .before .before .before .before .if2 .left) (c .before .before .before .before .before .turn-size .ensures) (c .before .before .before .before .if3 .left) (omega arith))
+accept-turn-requires c κs =
+    let at-if3 = c .before .before .before .before in
+    let at-turn-size = at-if3 .before in
+    let at-if2 = at-turn-size .before .before in
+    let at-header-of = at-if2 .before .before in
+    let at-if1 = at-header-of .before .before in
+    let at-exists = at-if1 .before in
+    let entry = at-exists .before .before .before in
+    ((entry .pre), turn-fits _ _ (now (entry .args .output)) (entry .pre) _ (at-exists .exists .ensures) (at-if1 .if1 .taken) _ (at-header-of .header-of .ensures) (at-if2 .if2 .left) (at-turn-size .turn-size .ensures) (at-if3 .if3 .left) (omega arith))
 
 same-length-3 : tie.Need-same-length-3
 same-length-3 c = search (turning, needs)
@@ -37,7 +45,16 @@ same-length-4 : tie.Need-same-length-4
 same-length-4 c = search (turning, needs)
 
 returns-3 : tie.Need-returns-3
-returns-3 c = turn-made _ _ _ (c .before .before .before .before .before .before .before .before .before .before .before .before .before .before .before .before .before .before .before .before .pre) _ (c .before .before .before .before .before .before .before .before .before .before .before .before .before .before .before .before .before .exists .ensures) (c .before .before .before .before .before .before .before .before .before .before .before .before .before .before .before .before .if1 .taken) _ (c .before .before .before .before .before .before .before .before .before .before .before .before .before .before .header-of .ensures) (c .before .before .before .before .before .before .before .before .before .before .before .before .if2 .left) (c .before .before .before .before .before .before .before .before .before .before .turn-size .ensures) (c .before .before .before .before .before .before .before .before .before .if3 .left) (omega arith) (c .before .before .before .before .accept-turn .ensures)
+returns-3 c =
+    let at-accept-turn = c .before .before .before .before in
+    let at-if3 = at-accept-turn .before .before .before .before .before in
+    let at-turn-size = at-if3 .before in
+    let at-if2 = at-turn-size .before .before in
+    let at-header-of = at-if2 .before .before in
+    let at-if1 = at-header-of .before .before in
+    let at-exists = at-if1 .before in
+    let entry = at-exists .before .before .before in
+    turn-made _ _ _ (entry .pre) _ (at-exists .exists .ensures) (at-if1 .if1 .taken) _ (at-header-of .header-of .ensures) (at-if2 .if2 .left) (at-turn-size .turn-size .ensures) (at-if3 .if3 .left) (omega arith) (at-accept-turn .accept-turn .ensures)
 
 returns-4 : tie.Need-returns-4
 returns-4 c = search (turning, needs)

@@ -4,13 +4,13 @@ use Prim.Native.Nat.{_+_, _-_, _≤_, _<_}
 use Rattle.rules.specs.Text.{any, equal}
 use Rattle.forms.specs.Spans.{spanOf}
 use Rattle.details.specs.Lines.{lineAt}
-use Rattle.conditions.specs.Walk.{heldFrom, walking}
+use Rattle.conditions.specs.Walk.{fieldsFrom, walking}
 use borrow.Author.Needs.{needs}
 use Rattle.conditions.proofs.walk.again.Statement.{statement}
 use Rattle.conditions.proofs.walk.again.Tie as tie
 
 abbrev Inv-loop : tie.InvT-loop
-Inv-loop s fields i n p j₀ j = (i < j) × (j ≤ n) × (any (equal (spanOf s p)) (heldFrom s fields j (n - j)) ≡ any (equal (spanOf s (lineAt fields i))) (heldFrom s fields (i + 1) (n - (i + 1))))
+Inv-loop s fields i n p j₀ j = (i < j) × (j ≤ n) × (any (equal (spanOf s p)) (fieldsFrom s fields j (n - j)) ≡ any (equal (spanOf s (lineAt fields i))) (fieldsFrom s fields (i + 1) (n - (i + 1))))
 
 abbrev μ-loop : tie.MeasureT-loop
 μ-loop s fields i n p j₀ j = n - j

@@ -2,13 +2,13 @@
 use mathlib.Core.Path.{_≡_}
 use Prim.Native.Nat.{_-_, _≤_}
 use Rattle.rules.specs.Text.{twice, equal}
-use Rattle.conditions.specs.Walk.{heldFrom, walking}
+use Rattle.conditions.specs.Walk.{fieldsFrom, walking}
 use borrow.Author.Needs.{needs}
 use Rattle.conditions.proofs.walk.appears_twice.Statement.{statement}
 use Rattle.conditions.proofs.walk.appears_twice.Tie as tie
 
 abbrev Inv-loop : tie.InvT-loop
-Inv-loop s fields n i₀ i = (i ≤ n) × (twice equal (heldFrom s fields i (n - i)) ≡ twice equal (heldFrom s fields 0 n))
+Inv-loop s fields n i₀ i = (i ≤ n) × (twice equal (fieldsFrom s fields i (n - i)) ≡ twice equal (fieldsFrom s fields 0 n))
 
 abbrev μ-loop : tie.MeasureT-loop
 μ-loop s fields n i₀ i = n - i

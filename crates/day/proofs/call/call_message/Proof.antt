@@ -24,7 +24,10 @@ same-length-2 : tie.Need-same-length-2
 same-length-2 c = search (replaying, needs)
 
 returns : tie.Need-returns
-returns c = told-message _ (c .before .before .before .before .before .before .before .before .before .before .before .before .before .pre .1 .1) _ _ _ _ (c .before .before .before .before .before .before .before .before .before .before .before .before .before .pre .0) (c .before .before .before .before .card-message .ensures)
+returns c =
+    let at-card-message = c .before .before .before .before in
+    let entry = at-card-message .before .before .before .before .before .before .before .before .before in
+    told-message _ (entry .pre .1 .1) _ _ _ _ (entry .pre .0) (at-card-message .card-message .ensures)
 
 pub call-message-spec : {M : Type 1} → statement M
 call-message-spec =

@@ -21,7 +21,10 @@ same-length : tie.Need-same-length
 same-length c = search (telling, needs)
 
 returns : tie.Need-returns
-returns c = told-open _ (c .before .before .before .before .before .before .before .before .before .before .pre .1 .1) _ _ _ _ _ (c .before .before .before .before .before .before .before .before .before .before .pre .0) (c .before .before .card-open .ensures)
+returns c =
+    let at-card-open = c .before .before in
+    let entry = at-card-open .before .before .before .before .before .before .before .before in
+    told-open _ (entry .pre .1 .1) _ _ _ _ _ (entry .pre .0) (at-card-open .card-open .ensures)
 
 pub call-open-spec : {M : Type 1} → statement M
 call-open-spec =

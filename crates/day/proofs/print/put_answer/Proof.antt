@@ -27,7 +27,14 @@ same-length : tie.Need-same-length
 same-length c = search (telling, needs)
 
 returns : tie.Need-returns
-returns c = answer-wrote ((c .before .before .before .before .before .before .before .before .before .before .before .before .before .before .before .before .before .before .before .before .before .before .before .before .args .a)) _ (c .before .before .before .before .before .before .before .before .before .before .before .before .before .before .before .before .before .before .before .before .before .before .before .before .pre .1) (c .before .before .before .before .before .before .before .before .before .before .before .before .before .before .before .before .before .before .before .put-decimal .ensures) (c .before .before .before .before .before .before .before .before .before .before .before .before .before .before .before .put-byte .ensures) (c .before .before .before .before .before .before .before .before .before .before .put-signed .ensures) (c .before .before .before .before .before .before .put-end .ensures) (c .before .before .put-part .ensures)
+returns c =
+    let at-put-part = c .before .before in
+    let at-put-end = at-put-part .before .before .before .before in
+    let at-put-signed = at-put-end .before .before .before .before in
+    let at-put-byte = at-put-signed .before .before .before .before .before in
+    let at-put-decimal = at-put-byte .before .before .before .before in
+    let entry = at-put-decimal .before .before .before .before .before in
+    answer-wrote ((entry .args .a)) _ (entry .pre .1) (at-put-decimal .put-decimal .ensures) (at-put-byte .put-byte .ensures) (at-put-signed .put-signed .ensures) (at-put-end .put-end .ensures) (at-put-part .put-part .ensures)
 
 pub put-answer-spec : {M : Type 1} → statement M
 put-answer-spec =

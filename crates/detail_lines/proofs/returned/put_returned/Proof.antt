@@ -5,19 +5,19 @@ use native.Mathlib.Omega.{arith}
 use Rattle.rules.specs.Written.{allReturned}
 use Rattle.laws.specs.Pieces.{left-all}
 use Rattle.laws.specs.Writing.{Left}
-use Rattle.detail_lines.specs.Returned.{returnedAt, DetailsPassing, passing-start, passing-more, passing-on, rows-more, rows-pass, returning}
+use Rattle.detail_lines.specs.Returned.{returnedAt, DetailsSkipping, skip-start, skip-more, skip-on, rows-more, rows-pass, returning}
 use borrow.Author.Needs.{needs}
 use Rattle.detail_lines.proofs.returned.put_returned.Statement.{statement}
 use Rattle.detail_lines.proofs.returned.put_returned.Tie as tie
 
 abbrev Inv-loop : tie.InvT-loop
-Inv-loop out₀ at s amounts places verdicts first n most o₀ i₀ m₀ out o i m = (i ≤ n) × DetailsPassing s verdicts first n most i m × Left (allReturned (take m (returnedAt s verdicts i (n - i)))) o out (allReturned (take most (returnedAt s verdicts first (n - first)))) at out₀
+Inv-loop out₀ at s amounts places verdicts first n most o₀ i₀ m₀ out o i m = (i ≤ n) × DetailsSkipping s verdicts first n most i m × Left (allReturned (take m (returnedAt s verdicts i (n - i)))) o out (allReturned (take most (returnedAt s verdicts first (n - first)))) at out₀
 
 abbrev μ-loop : tie.MeasureT-loop
 μ-loop out₀ at s amounts places verdicts first n most o₀ i₀ m₀ out o i m = n - i
 
 loop-holds : tie.Need-loop-holds Inv-loop μ-loop
-loop-holds c = (omega arith, passing-start _ _ _ _ _ (omega arith), left-all _ (omega arith))
+loop-holds c = (omega arith, skip-start _ _ _ _ _ (omega arith), left-all _ (omega arith))
 
 same-length : tie.Need-same-length Inv-loop μ-loop
 same-length c = search (returning, needs)
@@ -53,7 +53,7 @@ loop-again c =
     let test = first .before in
     let turn = test .before in
     let start = turn .before .before .before in
-    (search needs, passing-more _ _ _ _ _ _ _ (turn .loop .inv .1) _ _ (test .loop-test .taken) _ (judged .judged-at .ensures) _ (returned .is-returned .ensures) (second .if2 .taken) (first .if1 .left), rows-more _ _ _ _ _ (turn .loop .inv .2) _ _ (start .pre .0) (test .loop-test .taken) _ (judged .judged-at .ensures) _ (returned .is-returned .ensures) (second .if2 .taken) (first .if1 .left) (rows .put-returned-rows .ensures))
+    (search needs, skip-more _ _ _ _ _ _ _ (turn .loop .inv .1) _ _ (test .loop-test .taken) _ (judged .judged-at .ensures) _ (returned .is-returned .ensures) (second .if2 .taken) (first .if1 .left), rows-more _ _ _ _ _ (turn .loop .inv .2) _ _ (start .pre .0) (test .loop-test .taken) _ (judged .judged-at .ensures) _ (returned .is-returned .ensures) (second .if2 .taken) (first .if1 .left) (rows .put-returned-rows .ensures))
 
 add-i-2 : tie.Need-add-i-2 Inv-loop μ-loop
 add-i-2 c = search (returning, needs)
@@ -68,7 +68,7 @@ loop-again-2 c =
     let test = judged .before .before in
     let turn = test .before in
     let start = turn .before .before .before in
-    (search needs, passing-on _ _ _ _ _ _ _ (turn .loop .inv .1) _ _ (test .loop-test .taken) _ (judged .judged-at .ensures) _ (returned .is-returned .ensures) (c .if2 .left), rows-pass _ _ _ _ (turn .loop .m) (turn .loop .inv .2) _ _ (start .pre .0) (test .loop-test .taken) _ (judged .judged-at .ensures) _ (returned .is-returned .ensures) (c .if2 .left))
+    (search needs, skip-on _ _ _ _ _ _ _ (turn .loop .inv .1) _ _ (test .loop-test .taken) _ (judged .judged-at .ensures) _ (returned .is-returned .ensures) (c .if2 .left), rows-pass _ _ _ _ (turn .loop .m) (turn .loop .inv .2) _ _ (start .pre .0) (test .loop-test .taken) _ (judged .judged-at .ensures) _ (returned .is-returned .ensures) (c .if2 .left))
 
 same-length-2 : tie.Need-same-length-2 Inv-loop μ-loop
 same-length-2 c = search (returning, needs)

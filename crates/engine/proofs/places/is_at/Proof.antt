@@ -1,4 +1,4 @@
--- `engine::places::is_at` meets its contract: the key there is held against the other.
+-- `engine::places::is_at` meets its contract: the key there is compared with the other.
 use Rattle.engine.specs.Records.{placing}
 use borrow.Author.Needs.{needs}
 use Rattle.engine.proofs.places.is_at.Statement.{statement}

@@ -3,13 +3,13 @@ use borrow.Author.Needs.{needs}
 use Prim.Native.Nat.{_-_}
 use Rattle.rules.specs.Area.{decode}
 use Rattle.position.specs.Values.{keyValue}
-use Rattle.engine.specs.Places.{KeyPassed}
+use Rattle.engine.specs.Places.{KeysBefore}
 use Rattle.engine.specs.Records.{placing}
 use Rattle.engine.proofs.places.place_of.Statement.{statement}
 use Rattle.engine.proofs.places.place_of.Tie as tie
 
 abbrev Inv-loop : tie.InvT-loop
-Inv-loop area n k i₀ i = KeyPassed (keyValue k) (decode area .positions) i
+Inv-loop area n k i₀ i = KeysBefore (keyValue k) (decode area .positions) i
 
 abbrev μ-loop : tie.MeasureT-loop
 μ-loop area n k i₀ i = n - i

@@ -1,4 +1,4 @@
--- Bytes held against each other from the last on: behind k they are equal.
+-- Bytes compared with each other from the last on: behind k they are equal.
 use mathlib.Core.Path.{_≡_}
 use mathlib.Core.Bool.{true}
 use Prim.Native.Nat.{_≤_, _+_}

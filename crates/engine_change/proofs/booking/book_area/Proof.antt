@@ -27,7 +27,14 @@ same-length : tie.Need-same-length
 same-length c = search (booking, needs)
 
 returns : tie.Need-returns
-returns c = let p = (c .before .before .before .before .before .before .before .before .before .before .before .before .before .before .before .before .before .before .pre) in book-done _ _ _ _ _ _ _ _ (p .0) (c .before .before .before .before .before .before .before .before .before .before .before .before .before .before .header-of .ensures) (p .1 .0) (c .before .before .before .before .before .before .before .before .before .before .before .before .reference-place .ensures) (c .before .before .before .before .before .before .before .before .before .before .book-position .ensures) (p .1 .1 .1 .0) (p .1 .1 .1 .1 .0) (c .before .before .before .before .before .before .file-reference .ensures) (c .before .before .put-numbers .ensures)
+returns c =
+    let at-put-numbers = c .before .before in
+    let at-file-reference = at-put-numbers .before .before .before .before in
+    let at-book-position = at-file-reference .before .before .before .before in
+    let at-reference-place = at-book-position .before .before in
+    let at-header-of = at-reference-place .before .before in
+    let entry = at-header-of .before .before .before .before in
+    let p = (entry .pre) in book-done _ _ _ _ _ _ _ _ (p .0) (at-header-of .header-of .ensures) (p .1 .0) (at-reference-place .reference-place .ensures) (at-book-position .book-position .ensures) (p .1 .1 .1 .0) (p .1 .1 .1 .1 .0) (at-file-reference .file-reference .ensures) (at-put-numbers .put-numbers .ensures)
 
 pub book-area-spec : {M : Type 1} → statement M
 book-area-spec =

@@ -15,7 +15,12 @@ is-at-requires : tie.Need-is-at-requires
 is-at-requires c κs = search (booking, needs)
 
 raise-requires : tie.Need-raise-requires
-raise-requires c κs = let p = (c .before .before .before .before .before .before .before .before .pre) in raise-fits _ _ _ _ (p .1 .0) (c .before .before .before .before .before .place-of .ensures) _ (c .before .before .before .before .position-place .ensures) _ (c .before .before .is-at .ensures) (search needs) (p .1 .1)
+raise-requires c κs =
+    let at-is-at = c .before .before in
+    let at-position-place = at-is-at .before .before in
+    let at-place-of = at-position-place .before in
+    let entry = at-place-of .before .before .before in
+    let p = (entry .pre) in raise-fits _ _ _ _ (p .1 .0) (at-place-of .place-of .ensures) _ (at-position-place .position-place .ensures) _ (at-is-at .is-at .ensures) (search needs) (p .1 .1)
 
 same-length : tie.Need-same-length
 same-length c = search (booking, needs)
@@ -36,7 +41,14 @@ same-length-2 : tie.Need-same-length-2
 same-length-2 c = search (booking, needs)
 
 returns-2 : tie.Need-returns-2
-returns-2 c = let p = (c .before .before .before .before .before .before .before .before .before .before .before .before .before .before .before .pre) in insert-done _ _ _ _ (p .1 .0) (c .before .before .before .before .before .before .before .before .before .before .before .before .place-of .ensures) _ (c .before .before .before .before .before .before .before .before .before .before .before .position-place .ensures) _ (c .before .before .before .before .before .before .before .before .before .is-at .ensures) (search needs) (p .0) (p .1 .1) (c .before .before .before .before .before .before .open-record .ensures) (c .before .before .put-position .ensures)
+returns-2 c =
+    let at-put-position = c .before .before in
+    let at-open-record = at-put-position .before .before .before .before in
+    let at-is-at = at-open-record .before .before .before in
+    let at-position-place = at-is-at .before .before in
+    let at-place-of = at-position-place .before in
+    let entry = at-place-of .before .before .before in
+    let p = (entry .pre) in insert-done _ _ _ _ (p .1 .0) (at-place-of .place-of .ensures) _ (at-position-place .position-place .ensures) _ (at-is-at .is-at .ensures) (search needs) (p .0) (p .1 .1) (at-open-record .open-record .ensures) (at-put-position .put-position .ensures)
 
 pub book-position-spec : {M : Type 1} → statement M
 book-position-spec =

@@ -42,7 +42,11 @@ loop-less : tie.Need-loop-less Inv-loop μ-loop
 loop-less c = search (turning, needs)
 
 loop-again : tie.Need-loop-again Inv-loop μ-loop
-loop-again c = keeping-keep (c .before .before .before .before .before .before .before .before .loop .inv) (search needs) (c .before .before .before .before .before .stays-at .ensures) (search needs) (c .before .before .keep-record .ensures)
+loop-again c =
+    let at-keep-record = c .before .before in
+    let at-stays-at = at-keep-record .before .before .before in
+    let at-loop = at-stays-at .before .before .before in
+    keeping-keep (at-loop .loop .inv) (search needs) (at-stays-at .stays-at .ensures) (search needs) (at-keep-record .keep-record .ensures)
 
 add-i-2 : tie.Need-add-i-2 Inv-loop μ-loop
 add-i-2 c = search (turning, needs)

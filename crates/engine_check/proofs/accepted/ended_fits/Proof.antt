@@ -1,6 +1,6 @@
 -- `engine_check::accepted::ended_fits` meets its contract: the tests of a text by its end, in their order.
 use borrow.Author.Needs.{needs}
-use Rattle.engine_laws.specs.Ways.{limit-held, limit-failed, calling}
+use Rattle.engine_laws.specs.Ways.{limit-holds, limit-failed, calling}
 use Rattle.engine_laws.specs.Texts.{endedFits}
 use Rattle.engine_laws.specs.Ways.{limiting}
 use Rattle.engine_check.proofs.accepted.ended_fits.Statement.{statement}
@@ -8,7 +8,7 @@ use Rattle.engine_check.proofs.accepted.ended_fits.Tie as tie
 
 returns : tie.Need-returns
 unfolding endedFits
-returns c = search (limit-held, limit-failed, calling, needs)
+returns c = search (limit-holds, limit-failed, calling, needs)
 
 add-end : tie.Need-add-end
 add-end c = search (limiting, needs)
@@ -18,7 +18,7 @@ is-slashed-requires c κs = search (limiting, needs)
 
 returns-2 : tie.Need-returns-2
 unfolding endedFits
-returns-2 c = search (limit-held, limit-failed, calling, needs)
+returns-2 c = search (limit-holds, limit-failed, calling, needs)
 
 sub-zeros-at : tie.Need-sub-zeros-at
 sub-zeros-at c = search (limiting, needs)
@@ -31,7 +31,7 @@ sub-result c = search (limiting, needs)
 
 returns-3 : tie.Need-returns-3
 unfolding endedFits
-returns-3 c = search (limit-held, limit-failed, calling, needs)
+returns-3 c = search (limit-holds, limit-failed, calling, needs)
 
 pub ended-fits-spec : {M : Type 1} → statement M
 ended-fits-spec =

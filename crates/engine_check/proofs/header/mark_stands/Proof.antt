@@ -1,4 +1,4 @@
--- `engine_check::header::mark_stands` meets its contract: the two bytes held against are the mark.
+-- `engine_check::header::mark_stands` meets its contract: the two bytes compared with it are the mark.
 use borrow.Author.Needs.{needs}
 use Rattle.laws.specs.Parts.{cut}
 use Rattle.engine_laws.specs.Ways.{limiting}

@@ -1,4 +1,4 @@
--- `forms::detail::read_detail` meets its contract: where the rows are held, the detail is what the amount and the two dates make of them.
+-- `forms::detail::read_detail` meets its contract: where the rows are matched, the detail is what the amount and the two dates make of them.
 use Rattle.forms.specs.Details.{detail-three}
 use Rattle.forms.specs.Details.{detailing}
 use borrow.Author.Needs.{needs}
@@ -38,9 +38,9 @@ enum-told c = search (detailing, needs)
 returns : tie.Need-returns
 returns c =
     let k = (
-    let held = c .before .before .before .before .before .before .before .before .before .before .before .before .before .before in
-    let rows = held .before .before in
-    detail-three _ _ _ (rows .read-rows .ensures) (held .if1 .taken)) in
+    let matched = c .before .before .before .before .before .before .before .before .before .before .before .before .before .before in
+    let rows = matched .before .before in
+    detail-three _ _ _ (rows .read-rows .ensures) (matched .if1 .taken)) in
     search (detailing, needs)
 
 enum-told-2 : tie.Need-enum-told-2
@@ -55,25 +55,25 @@ enum-told-4 c = search (detailing, needs)
 returns-2 : tie.Need-returns-2
 returns-2 c =
     let k = (
-    let held = c .before .before .before .before .before .before .before .before .before .before .before .before .before .before in
-    let rows = held .before .before in
-    detail-three _ _ _ (rows .read-rows .ensures) (held .if1 .taken)) in
+    let matched = c .before .before .before .before .before .before .before .before .before .before .before .before .before .before in
+    let rows = matched .before .before in
+    detail-three _ _ _ (rows .read-rows .ensures) (matched .if1 .taken)) in
     search (detailing, needs)
 
 returns-3 : tie.Need-returns-3
 returns-3 c =
     let k = (
-    let held = c .before .before .before .before .before .before .before .before .before in
-    let rows = held .before .before in
-    detail-three _ _ _ (rows .read-rows .ensures) (held .if1 .taken)) in
+    let matched = c .before .before .before .before .before .before .before .before .before in
+    let rows = matched .before .before in
+    detail-three _ _ _ (rows .read-rows .ensures) (matched .if1 .taken)) in
     search (detailing, needs)
 
 returns-4 : tie.Need-returns-4
 returns-4 c =
     let k = (
-    let held = c .before .before .before .before in
-    let rows = held .before .before in
-    detail-three _ _ _ (rows .read-rows .ensures) (held .if1 .taken)) in
+    let matched = c .before .before .before .before in
+    let rows = matched .before .before in
+    detail-three _ _ _ (rows .read-rows .ensures) (matched .if1 .taken)) in
     search (detailing, needs)
 
 returns-5 : tie.Need-returns-5

@@ -1,4 +1,4 @@
--- `forms::rows::read_rows` meets its contract, by a walk of its code with a loop in it. Before each turn the reader stands where the next row's line begins; a turn hands a copy of it to `take_line`, the line to `hold_line`, and either ends the walk
+-- `forms::rows::read_rows` meets its contract, by a walk of its code with a loop in it. Before each turn the reader stands where the next row's line begins; a turn hands a copy of it to `take_line`, the line to `match_line`, and either ends the walk
 -- or keeps the line's part and moves the reader. What the text owns is kept, and lent to each call.
 use mathlib.Core.Path.{_≡_, refl, ap, _∙_}
 use mathlib.Core.Bool.{Bool, true, false}
@@ -60,21 +60,21 @@ use Rattle.lines.proofs.take_line as taken
 use Rattle.lines.proofs.take_line.Symbol as taken-def
 use Rattle.lines.proofs.take_line.Symbol.{name as #take-line}
 use Rattle.lines.proofs.take_line.Met as taken-thm
-use Rattle.forms.specs.Rows.{HeldAt, Rowing, rows-start, rows-on, rows-stop, rows-done}
+use Rattle.forms.specs.Rows.{MatchedAt, Rowing, rows-start, rows-on, rows-stop, rows-done}
 use Rattle.forms.specs.Spans.{noSpan}
-use Rattle.forms.specs.declared.rows.Held.{Held}
+use Rattle.forms.specs.declared.rows.Matched.{Matched}
 use Rattle.forms.specs.declared.rows.Rows.{Rows}
 use Rattle.forms.specs.declared.rows.Span.{Span}
 use Rattle.forms.proofs.rows.Span as S
 use Rattle.forms.proofs.rows.Span.Laws as S′
-use Rattle.forms.proofs.rows.Held as D
-use Rattle.forms.proofs.rows.Held.Laws as D′
+use Rattle.forms.proofs.rows.Matched as D
+use Rattle.forms.proofs.rows.Matched.Laws as D′
 use Rattle.forms.proofs.rows.Rows as R
 use Rattle.forms.proofs.rows.Rows.Laws as R′
-use Rattle.forms.proofs.rows.hold_line as hold
-use Rattle.forms.proofs.rows.hold_line.Symbol as hold-def
-use Rattle.forms.proofs.rows.hold_line.Symbol.{name as #hold-line}
-use Rattle.forms.proofs.rows.hold_line.Met as hold-thm
+use Rattle.forms.proofs.rows.match_line as hold
+use Rattle.forms.proofs.rows.match_line.Symbol as hold-def
+use Rattle.forms.proofs.rows.match_line.Symbol.{name as #match-line}
+use Rattle.forms.proofs.rows.match_line.Met as hold-thm
 use Rattle.forms.proofs.rows.read_rows.Key.{name as #read-rows}
 use Rattle.forms.proofs.rows.read_rows as f
 use Rattle.forms.proofs.rows.read_rows.Statement as stated
@@ -120,7 +120,7 @@ none-are : Parts (replicate 23 noSpan) (replicate 23 noVal)
 none-are = each-alike (F .row .Denot) (F .row .own) (F .into) noSpan noVal none-is 23
 
 module _ {M : Type 1} (𝓤 : URA M) (H : Heap 𝓤) (A : Atoms 𝓤) (W : Given 𝓤 H A) (mem : Memory → SProp 𝓤) (run : Routine → Fun 𝓤) (𝓣 : Tables 𝓤 H) (known-made : Triple 𝓤 (𝓣 .C #reader-over) (Promise 𝓤 H A made.ended (made.clauses 𝓤 H A mem run)))
-    (known-taken : Triple 𝓤 (𝓣 .C #take-line) (Promise 𝓤 H A taken.ended (taken.clauses 𝓤 H A mem run))) (known-hold : Triple 𝓤 (𝓣 .C #hold-line) (Promise 𝓤 H A hold.ended (hold.clauses 𝓤 H A mem run))) where
+    (known-taken : Triple 𝓤 (𝓣 .C #take-line) (Promise 𝓤 H A taken.ended (taken.clauses 𝓤 H A mem run))) (known-hold : Triple 𝓤 (𝓣 .C #match-line) (Promise 𝓤 H A hold.ended (hold.clauses 𝓤 H A mem run))) where
   spans-typed : (l : List Span) (us : List Val) → length l ≡ 23 → Parts l us → Holds (hasTy parts (arrayVal us)) × WT (arrayVal us)
   spans-typed l us size are = R′.the-laws .1 .1 .0 .lawful 𝓤 H A W .typed (map (F .into) l) (arrayVal us ∷ []) (spans-are l us size are) .0
 
@@ -158,7 +158,7 @@ module _ {M : Type 1} (𝓤 : URA M) (H : Heap 𝓤) (A : Atoms 𝓤) (W : Given
     line-at w t n k = owns (usize ∷ N.the-row ∷ usize ∷ []) (n, (t, (k, tt))) (vint w64 n ∷ [], (w ∷ [], (vint w64 k ∷ [], tt)))
 
     module _ (p : Is (ShrSlice (named 0) κ u8) s (textVal κ s ∷ [])) (at-room : at ≤ length (now s)) (short : length (now s) ≤ 4096) (rows : start + count ≤ 40) (few : count ≤ 23) where
-      -- before a turn: the place, the rows held and their parts, with what is known of them. The measure is the rows to come
+      -- before a turn: the place, the rows matched and their parts, with what is known of them. The measure is the rows to come
       pub record Before : Type 0 where
         pub place : ℕ
         pub i : ℕ
@@ -173,8 +173,8 @@ module _ {M : Type 1} (𝓤 : URA M) (H : Heap 𝓤) (A : Atoms 𝓤) (W : Given
       closer-wf : WellFounded Closer
       closer-wf = InvImage·wf (λ (x : Before). count - x .i) (Nat·lt-wfRel .wf)
 
-      -- with one line more held
-      abbrev next : (x : Before) (d : Held) → Is (F .row) (F .into (d .span)) (S′.lowered (d .span) ∷ []) → Rowing (now s) at start count (set (x .spans) (x .i) (d .span)) (d .at) (x .i + 1) → Before
+      -- with one line more matched
+      abbrev next : (x : Before) (d : Matched) → Is (F .row) (F .into (d .span)) (S′.lowered (d .span) ∷ []) → Rowing (now s) at start count (set (x .spans) (x .i) (d .span)) (d .at) (x .i + 1) → Before
       next x d is h = record {
         place = d .at;
         i = x .i + 1;
@@ -235,14 +235,14 @@ module _ {M : Type 1} (𝓤 : URA M) (H : Heap 𝓤) (A : Atoms 𝓤) (W : Given
             land ! (from ! (stop !)) (init ! 28 refl (EL.lawful N.the-type N′.the-laws 𝓤 H A W tt .typed t _ is .0)) $
             assigns ! (of-opd ! (load ! (from ! (fld ! refl (stop !))) (look-in ! 32 (sub ! 1 refl (whole !))))) (from ! (stop !)) (init ! 18 refl (tt, record { fits = fits })) $
             assigns ! (bin ! (load ! (from ! (stop !)) (look ! 38 refl)) (load ! (from ! (stop !)) (look ! 30 refl)) (record { fits = row-fits })) (from ! (stop !)) (init ! 16 refl (tt, record { fits = row-fits })) $
-            -- the line is held against the row
+            -- the line is matched against the row
             nothing ! $ owned ! usize (Is usize) (uint-makes 𝓤 H A W w64) k (vint w64 k ∷ []) (refl, row-fits) $ fjoin ! $ move ! (2 ∷ 0 ∷ []) $ fjoin ! $
             owned ! usize (Is usize) (uint-makes 𝓤 H A W w64) n (vint w64 n ∷ []) (refl, fits) $ fjoin ! $ move ! (3 ∷ 0 ∷ []) $
             use2 W (‵ Own ⊛ ‵ (fsep Own (line-at w t n k))) (lends-text κ s 𝓤 H A W (line-at w t n k)) $ split ! $ move ! (2 ∷ 1 ∷ []) $
             calls {𝓤 = 𝓤} {H = H} {A = A} {C = 𝓣 .C} ! (fmOf 𝓤 H (W .laws) 𝓣) hold.ended (hold.clauses 𝓤 H A mem run) known-hold (to-hold w t n k) (factI 𝓤 _ (emp 𝓤) (record { place = in-text; short = short; row = omega arith; told = told }))
             (and-then ! (load ! (from ! (stop !)) (look ! 41 refl)) (and-then ! (load ! (from ! (stop !)) (look ! 17 refl)) (and-then ! (load ! (from ! (stop !)) (look ! 27 refl)) (and-then ! (load ! (from ! (stop !)) (look ! 15 refl)) (no-more !)))))
-            (λ d _. HeldAt (now s) n k d) (λ d ws′. id⊢ 𝓤 _) (λ u d ws′ held is′.
-            -- [the token; what is owned of the line held; true; what the text owns; true; _20; …]: local i stands at 2 · (20 − i) + 5
+            (λ d _. MatchedAt (now s) n k d) (λ d ws′. id⊢ 𝓤 _) (λ u d ws′ matched is′.
+            -- [the token; what is owned of the line matched; true; what the text owns; true; _20; …]: local i stands at 2 · (20 − i) + 5
             let owes = LL.owed D.the-type D′.the-laws d _ is′ in
             land ! (from ! (stop !)) (init ! 27 refl (LL.lawful D.the-type D′.the-laws 𝓤 H A W .typed d _ is′ .0)) $ rewrite ! 27 (λ (z : Val). ‵ (fat fullShare D′.mir l₉ 0 z)) (ap only (LL.tells D.the-type D′.the-laws d _ is′)) refl $
             assigns ! (of-opd ! (load ! (from ! (fld ! refl (stop !))) (look-in ! 27 (sub ! 0 refl (whole !))))) (from ! (stop !)) (store ! 23 refl (tt, tt)) $
@@ -257,7 +257,7 @@ module _ {M : Type 1} (𝓤 : URA M) (H : Heap 𝓤) (A : Atoms 𝓤) (W : Given
             assigns-last ! (bin ! (load ! (from ! (stop !)) (look ! 31 refl)) (lit ! tt) (record { fits = one-more })) (from ! (stop !)) (store ! 31 refl (tt, record { fits = one-more })) $
             forget ! 11 refl $ forget ! 13 refl $ forget ! 15 refl $ forget ! 17 refl $ forget ! 19 refl $ forget ! 21 refl $ forget ! 23 refl $ forget ! 27 refl $ forget ! 29 refl $
             move ! (1 ∷ 2 ∷ 4 ∷ []) $ drop ! $ drop ! $ drop ! $
-            again ! Closer At x (next x d (owes .1 .1 .0) (rows-on _ _ _ _ _ _ _ (x .rowing) rows less d held (told-true _ ok) few)) (omega arith))
+            again ! Closer At x (next x d (owes .1 .1 .0) (rows-on _ _ _ _ _ _ _ (x .rowing) rows less d matched (told-true _ ok) few)) (omega arith))
             -- the row makes nothing of the text
             (λ no.
             assigns ! (of-opd ! (load ! (from ! (stop !)) (look ! 35 refl))) (from ! (stop !)) (init ! 9 refl (spans-typed (x .spans) (x .vals) (x .rowing .size) (x .are))) $
@@ -266,7 +266,7 @@ module _ {M : Type 1} (𝓤 : URA M) (H : Heap 𝓤) (A : Atoms 𝓤) (W : Given
             returns-within ! Post refl (look ! 45 refl) $
             gone ! 45 refl refl $ gone ! 43 refl refl $ gone ! 41 refl refl $ gone ! 39 refl refl $ gone ! 37 refl refl $ gone ! 35 refl refl $ gone ! 33 refl refl $ gone ! 31 refl refl $ gone ! 29 refl refl $ gone ! 27 refl refl $ move ! (25 ∷ 26 ∷ []) $ free1 ! $ gone ! 23 refl refl $ gone ! 21 refl refl $ gone ! 19 refl refl $ gone ! 17 refl refl $ move ! (15 ∷ 16 ∷ []) $ free1 ! $ move ! (13 ∷ 14 ∷ []) $ free1 ! $ move ! (11 ∷ 12 ∷ []) $ free1 ! $ gone ! 9 refl refl $ move ! (7 ∷ 8 ∷ []) $ free1 ! $ move ! (5 ∷ 6 ∷ []) $ free1 ! $ free0 ! $
             owned ! R.the-row (Is R.the-row) (LL.makes R.the-type R′.the-plain 𝓤 H A) (answer x false at) _ (answer-is x false at at-fits) $ keep ! (1 ∷ 0 ∷ []) $
-            by ! (ends 𝓤 H A W f.ended (f.clauses 𝓤 H A mem run) passed (rowsVal false at (x .vals)) (answer x false at) (tt, (tt, (tt, (tt, tt)))) (factI 𝓤 _ (emp 𝓤) (rows-stop _ _ _ _ _ _ _ (x .rowing) rows less d held (told-false _ no) at-room)) (id⊢ 𝓤 _)))))
+            by ! (ends 𝓤 H A W f.ended (f.clauses 𝓤 H A mem run) passed (rowsVal false at (x .vals)) (answer x false at) (tt, (tt, (tt, (tt, tt)))) (factI 𝓤 _ (emp 𝓤) (rows-stop _ _ _ _ _ _ _ (x .rowing) rows less d matched (told-false _ no) at-room)) (id⊢ 𝓤 _)))))
         turn x false e =
             let in-text : x .place ≤ length (now s) = x .rowing .place in
             let fits : x .place < 2 ^ 64 = omega arith in
@@ -329,4 +329,4 @@ read-rows-spec 𝓤 H 𝓜 𝓖 𝓡 =
     (meets 𝓤 H (𝓖 .A) (givenOf 𝓤 H 𝓜 𝓖) (𝓜 .mem) (𝓡 .run) (tablesOf 𝓤 H 𝓜 (tables 𝓤 H 𝓜 𝓡 code.env))
     (cited 𝓤 H (tripleOf 𝓤 H (𝓖 .A) made.signature (made.spec 𝓤 H (𝓖 .A) (𝓜 .mem) (𝓡 .run))) 𝓜 𝓡 code.env #reader-over made-def.routine code.calls-lines·reader-over (made-thm.met 𝓤 H 𝓜 𝓖 𝓡))
     (cited 𝓤 H (tripleOf 𝓤 H (𝓖 .A) taken.signature (taken.spec 𝓤 H (𝓖 .A) (𝓜 .mem) (𝓡 .run))) 𝓜 𝓡 code.env #take-line taken-def.routine code.calls-lines·take-line (taken-thm.met 𝓤 H 𝓜 𝓖 𝓡))
-    (cited 𝓤 H (tripleOf 𝓤 H (𝓖 .A) hold.signature (hold.spec 𝓤 H (𝓖 .A) (𝓜 .mem) (𝓡 .run))) 𝓜 𝓡 code.env #hold-line hold-def.routine code.calls-forms·rows·hold-line (hold-thm.met 𝓤 H 𝓜 𝓖 𝓡)))
+    (cited 𝓤 H (tripleOf 𝓤 H (𝓖 .A) hold.signature (hold.spec 𝓤 H (𝓖 .A) (𝓜 .mem) (𝓡 .run))) 𝓜 𝓡 code.env #match-line hold-def.routine code.calls-forms·rows·match-line (hold-thm.met 𝓤 H 𝓜 𝓖 𝓡)))

@@ -1,4 +1,4 @@
--- `forms::transfer::read_transfer` meets its contract: where the rows are held and the closing line follows, the transfer is what the amount and the two dates make of them.
+-- `forms::transfer::read_transfer` meets its contract: where the rows are matched and the closing line follows, the transfer is what the amount and the two dates make of them.
 --
 use Rattle.forms.specs.Transfers.{transfer-three}
 use Rattle.forms.specs.Transfers.{transferring}
@@ -44,9 +44,9 @@ returns c =
     let k = (
     let closed = c .before .before .before .before .before .before .before .before .before .before .before .before .before .before in
     let closing = closed .before in
-    let held = closing .before in
-    let rows = held .before .before in
-    transfer-three _ _ (rows .read-rows .ensures) (held .if1 .taken) _ (closing .closes-at .ensures) (closed .if2 .taken)) in
+    let matched = closing .before in
+    let rows = matched .before .before in
+    transfer-three _ _ (rows .read-rows .ensures) (matched .if1 .taken) _ (closing .closes-at .ensures) (closed .if2 .taken)) in
     search (transferring, needs)
 
 enum-told-2 : tie.Need-enum-told-2
@@ -63,9 +63,9 @@ returns-2 c =
     let k = (
     let closed = c .before .before .before .before .before .before .before .before .before .before .before .before .before .before in
     let closing = closed .before in
-    let held = closing .before in
-    let rows = held .before .before in
-    transfer-three _ _ (rows .read-rows .ensures) (held .if1 .taken) _ (closing .closes-at .ensures) (closed .if2 .taken)) in
+    let matched = closing .before in
+    let rows = matched .before .before in
+    transfer-three _ _ (rows .read-rows .ensures) (matched .if1 .taken) _ (closing .closes-at .ensures) (closed .if2 .taken)) in
     search (transferring, needs)
 
 returns-3 : tie.Need-returns-3
@@ -73,9 +73,9 @@ returns-3 c =
     let k = (
     let closed = c .before .before .before .before .before .before .before .before .before in
     let closing = closed .before in
-    let held = closing .before in
-    let rows = held .before .before in
-    transfer-three _ _ (rows .read-rows .ensures) (held .if1 .taken) _ (closing .closes-at .ensures) (closed .if2 .taken)) in
+    let matched = closing .before in
+    let rows = matched .before .before in
+    transfer-three _ _ (rows .read-rows .ensures) (matched .if1 .taken) _ (closing .closes-at .ensures) (closed .if2 .taken)) in
     search (transferring, needs)
 
 returns-4 : tie.Need-returns-4
@@ -83,9 +83,9 @@ returns-4 c =
     let k = (
     let closed = c .before .before .before .before in
     let closing = closed .before in
-    let held = closing .before in
-    let rows = held .before .before in
-    transfer-three _ _ (rows .read-rows .ensures) (held .if1 .taken) _ (closing .closes-at .ensures) (closed .if2 .taken)) in
+    let matched = closing .before in
+    let rows = matched .before .before in
+    transfer-three _ _ (rows .read-rows .ensures) (matched .if1 .taken) _ (closing .closes-at .ensures) (closed .if2 .taken)) in
     search (transferring, needs)
 
 returns-5 : tie.Need-returns-5

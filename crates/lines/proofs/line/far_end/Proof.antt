@@ -1,5 +1,5 @@
 -- `lines::line::far_end` meets its contract. The loop's invariant: the bytes passed, before the first line of what is left, are the line.
-use Rattle.rules.specs.Lines.{lead, line}
+use Rattle.rules.specs.Lines.{lead, takeLine}
 use Rattle.laws.specs.Parts.{cut, from}
 use lib.ListN.{length}
 use Prim.Native.Nat.{_≤_, _-_}
@@ -10,7 +10,7 @@ use Rattle.lines.proofs.line.far_end.Statement.{statement}
 use Rattle.lines.proofs.line.far_end.Tie as tie
 
 abbrev Inv-loop : tie.InvT-loop
-Inv-loop s at i₀ i = (at ≤ i) × (i ≤ length s) × (lead (cut s at i) (line (from s i)) ≡ line (from s at))
+Inv-loop s at i₀ i = (at ≤ i) × (i ≤ length s) × (lead (cut s at i) (takeLine (from s i)) ≡ takeLine (from s at))
 
 abbrev μ-loop : tie.MeasureT-loop
 μ-loop s at i₀ i = length s - i

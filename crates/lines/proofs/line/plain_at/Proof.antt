@@ -2,14 +2,14 @@
 use mathlib.Core.Path.{_≡_}
 use Prim.Native.Nat.{_≤_, _-_, _+_}
 use borrow.Author.Needs.{needs}
-use Rattle.rules.specs.Lines.{lead, line}
+use Rattle.rules.specs.Lines.{lead, takeLine}
 use Rattle.laws.specs.Parts.{cut, from}
 use Rattle.lines.specs.Laws.{framing}
 use Rattle.lines.proofs.line.plain_at.Statement.{statement}
 use Rattle.lines.proofs.line.plain_at.Tie as tie
 
 abbrev Inv-loop : tie.InvT-loop
-Inv-loop s at n k₀ k = (k ≤ n) × (lead (cut s at (at + k)) (line (from s (at + k))) ≡ line (from s at))
+Inv-loop s at n k₀ k = (k ≤ n) × (lead (cut s at (at + k)) (takeLine (from s (at + k))) ≡ takeLine (from s at))
 
 abbrev μ-loop : tie.MeasureT-loop
 μ-loop s at n k₀ k = n - k

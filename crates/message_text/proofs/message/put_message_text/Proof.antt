@@ -21,7 +21,7 @@ put-parts-requires : tie.Need-put-parts-requires
 put-parts-requires c κs =
     let header = c .before .before .before .before .before .before .before in
     let start = header .before .before .before .before in
-    record { lines = start .pre .1 .1 .0 .lines-kept; low = omega (arith, (header .header-of .ensures .small)); small = start .pre .1 .1 .1 .1 .few }
+    record { lines = start .pre .1 .1 .0 .lines-kept; low = omega (arith, (header .header-of .ensures .count-small)); parts-few = start .pre .1 .1 .1 .1 .few }
 
 same-length : tie.Need-same-length
 same-length c = search (messages, needs)

@@ -1,6 +1,6 @@
 -- `register::lines::account_line_passes` meets its contract: where the IBAN passes, the bounds tell the line's form.
 use borrow.Author.Needs.{needs}
-use Rattle.register.specs.Checks.{call-held, line-unpassed, line-unbounded, line-unended, line-ordered}
+use Rattle.register.specs.Checks.{call-holds, line-unpassed, line-unbounded, line-unended, line-ordered}
 use Rattle.register.specs.Sets.{registers}
 use Rattle.register.proofs.lines.account_line_passes.Statement.{statement}
 use Rattle.register.proofs.lines.account_line_passes.Tie as tie
@@ -42,7 +42,7 @@ add-in-order : tie.Need-add-in-order
 add-in-order c = search (registers, needs)
 
 in-order-requires : tie.Need-in-order-requires
-in-order-requires c κs = (search needs, call-held _ _ (c .before .before .before .bounds-at .ensures) (c .before .before .if2 .left))
+in-order-requires c κs = (search needs, call-holds _ _ (c .before .before .before .bounds-at .ensures) (c .before .before .if2 .left))
 
 returns-4 : tie.Need-returns-4
 returns-4 c = search (line-ordered, needs)

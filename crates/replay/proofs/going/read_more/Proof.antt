@@ -37,7 +37,10 @@ same-length : tie.Need-same-length
 same-length c = search (going, needs)
 
 returns : tie.Need-returns
-returns c = more-read (c .before .before .before .before .before .before .before .before .args .input .now) (c .before .before .before .before .before .read .last .1 .0) (c .before .before .before .before .before .before .before .before .args .n) (c .count .result) (length (c .before .before .before .before .before .before .before .before .args .input .now) - c .before .before .before .before .before .before .before .before .args .n) (c .before .before .before .before .before .before .before .before .pre) (same-length c) (c .count .ensures .0 .0)
+returns c =
+    let at-read = c .before .before .before .before .before in
+    let entry = at-read .before .before .before in
+    more-read (entry .args .input .now) (at-read .read .last .1 .0) (entry .args .n) (c .count .result) (length (entry .args .input .now) - entry .args .n) (entry .pre) (same-length c) (c .count .ensures .0 .0)
 
 pub read-more-spec : {M : Type 1} → statement M
 read-more-spec =

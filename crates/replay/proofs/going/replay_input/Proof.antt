@@ -53,13 +53,21 @@ loop-less : tie.Need-loop-less Inv-loop μ-loop
 loop-less c = search (going, needs)
 
 loop-again : tie.Need-loop-again Inv-loop μ-loop
-loop-again c = going-answered ((c .before .before .before .before .before .before .before .before .before .before .before .before .before .before .before .before .before .before .before .before .before .loop .inv)) ((c .before .before .before .before .before .before .before .before .before .before .before .before .before .before .before .go-on .ensures)) _ _ ((c .before .before .before .before .before .next .given .1))
+loop-again c =
+    let at-next = c .before .before .before .before .before in
+    let at-go-on = at-next .before .before .before .before .before .before .before .before .before .before in
+    let at-loop = at-go-on .before .before .before .before .before .before in
+    going-answered ((at-loop .loop .inv)) ((at-go-on .go-on .ensures)) _ _ ((at-next .next .given .1))
 
 enum-known-left : tie.Need-enum-known-left Inv-loop μ-loop
 enum-known-left c = search (going, needs)
 
 read-more-requires : tie.Need-read-more-requires Inv-loop μ-loop
-read-more-requires c κs = read-fits ((c .before .before .before .before .before .before .before .before .before .before .before .before .before .before .before .before .before .before .loop .inv)) ((c .before .before .before .before .before .before .before .before .before .before .before .before .go-on .ensures)) _ ((c .before .before .left .given .1))
+read-more-requires c κs =
+    let at-left = c .before .before in
+    let at-go-on = at-left .before .before .before .before .before .before .before .before .before .before in
+    let at-loop = at-go-on .before .before .before .before .before .before in
+    read-fits ((at-loop .loop .inv)) ((at-go-on .go-on .ensures)) _ ((at-left .left .given .1))
 
 same-length-5 : tie.Need-same-length-5 Inv-loop μ-loop
 same-length-5 c = search (going, needs)
@@ -83,7 +91,12 @@ loop-less-2 : tie.Need-loop-less-2 Inv-loop μ-loop
 loop-less-2 c = search (going, needs)
 
 loop-again-2 : tie.Need-loop-again-2 Inv-loop μ-loop
-loop-again-2 c = going-read ((c .before .before .before .before .before .before .before .before .before .before .before .before .before .before .before .before .before .before .before .before .before .before .loop .inv)) ((c .before .before .before .before .before .before .before .before .before .before .before .before .before .before .before .before .go-on .ensures)) _ ((c .before .before .before .before .before .before .left .given .1)) ((c .before .before .before .read-more .ensures))
+loop-again-2 c =
+    let at-read-more = c .before .before .before in
+    let at-left = at-read-more .before .before .before in
+    let at-go-on = at-left .before .before .before .before .before .before .before .before .before .before in
+    let at-loop = at-go-on .before .before .before .before .before .before in
+    going-read ((at-loop .loop .inv)) ((at-go-on .go-on .ensures)) _ ((at-left .left .given .1)) ((at-read-more .read-more .ensures))
 
 enum-told : tie.Need-enum-told Inv-loop μ-loop
 enum-told c = search (going, needs)

@@ -3,14 +3,14 @@
 use mathlib.Core.Path.{_≡_}
 use Prim.Native.Nat.{_≤_, _<_, _-_}
 use borrow.Author.Needs.{needs}
-use Rattle.rules.specs.Text.{number, numberFrom}
+use Rattle.rules.specs.Text.{bigEndian, numberFrom}
 use Rattle.laws.specs.Reading.{power, reading}
 use Rattle.laws.specs.Parts.{cut}
 use Rattle.text.proofs.numbers.read_be.Statement.{statement}
 use Rattle.text.proofs.numbers.read_be.Tie as tie
 
 abbrev Inv-loop : tie.InvT-loop
-Inv-loop s a b v₀ i₀ v i = (a ≤ i) × (i ≤ b) × (v < power 256 (i - a)) × (numberFrom v (cut s i b) ≡ number (cut s a b))
+Inv-loop s a b v₀ i₀ v i = (a ≤ i) × (i ≤ b) × (v < power 256 (i - a)) × (numberFrom v (cut s i b) ≡ bigEndian (cut s a b))
 
 abbrev μ-loop : tie.MeasureT-loop
 μ-loop s a b v₀ i₀ v i = b - i

@@ -1,9 +1,9 @@
--- `forms::rows::hold_line` meets its contract: a law for each way that a row takes a line.
+-- `forms::rows::match_line` meets its contract: a law for each way that a row takes a line.
 use borrow.Author.Needs.{needs}
 use Rattle.lines.specs.Answers.{line-told}
 use Rattle.forms.specs.Rows.{holding}
-use Rattle.forms.proofs.rows.hold_line.Statement.{statement}
-use Rattle.forms.proofs.rows.hold_line.Tie as tie
+use Rattle.forms.proofs.rows.match_line.Statement.{statement}
+use Rattle.forms.proofs.rows.match_line.Tie as tie
 
 row-at-requires : tie.Need-row-at-requires
 row-at-requires c κs = search needs
@@ -32,5 +32,5 @@ returns-2 c = search (holding, needs)
 returns-3 : tie.Need-returns-3
 returns-3 c = search (holding, needs)
 
-pub hold-line-spec : {M : Type 1} → statement M
-hold-line-spec = tie.close (tie.spec row-at-requires enum-known-line row-fits-requires add-t9 part-requires returns enum-told returns-2 returns-3)
+pub match-line-spec : {M : Type 1} → statement M
+match-line-spec = tie.close (tie.spec row-at-requires enum-known-line row-fits-requires add-t9 part-requires returns enum-told returns-2 returns-3)

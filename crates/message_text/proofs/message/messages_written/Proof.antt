@@ -1,8 +1,8 @@
 -- As many messages as there are parts, where a verdict follows.
 use Rattle.message_text.specs.Message.{messages}
 use borrow.Author.Needs.{needs}
-use Rattle.message_text.proofs.message.message_writes.Statement.{statement}
-use Rattle.message_text.proofs.message.message_writes.Tie as tie
+use Rattle.message_text.proofs.message.messages_written.Statement.{statement}
+use Rattle.message_text.proofs.message.messages_written.Tie as tie
 
 has-verdict-requires : tie.Need-has-verdict-requires
 has-verdict-requires c κs = search (messages, needs)
@@ -16,5 +16,5 @@ returns c = search (messages, needs)
 returns-2 : tie.Need-returns-2
 returns-2 c = search (messages, needs)
 
-pub message-writes-spec : {M : Type 1} → statement M
-message-writes-spec = tie.close (tie.spec has-verdict-requires parts-of-requires returns returns-2)
+pub messages-written-spec : {M : Type 1} → statement M
+messages-written-spec = tie.close (tie.spec has-verdict-requires parts-of-requires returns returns-2)

@@ -1,12 +1,12 @@
--- `forms::table::signs_held` meets its contract. The loop's invariant: what is left fits where the whole does.
+-- `forms::table::signs_fitting` meets its contract. The loop's invariant: what is left fits where the whole does.
 use mathlib.Core.Path.{_≡_}
 use Prim.Native.Nat.{_≤_, _+_, _-_}
 use borrow.Author.Needs.{needs}
 use Rattle.rules.specs.Text.{fits}
 use Rattle.laws.specs.Parts.{cut}
 use Rattle.forms.specs.Table.{signs, heads}
-use Rattle.forms.proofs.table.signs_held.Statement.{statement}
-use Rattle.forms.proofs.table.signs_held.Tie as tie
+use Rattle.forms.proofs.table.signs_fitting.Statement.{statement}
+use Rattle.forms.proofs.table.signs_fitting.Tie as tie
 
 abbrev Inv-loop : tie.InvT-loop
 Inv-loop b s a n k₀ k = (k ≤ n) × (fits (cut heads (b + k) (b + n)) (cut s (a + k) (a + n)) ≡ fits (cut heads b (b + n)) (cut s a (a + n)))
@@ -50,8 +50,8 @@ returns c = search (signs, needs)
 returns-2 : tie.Need-returns-2 Inv-loop μ-loop
 returns-2 c = search (signs, needs)
 
-pub signs-held-spec : {M : Type 1} → statement M
-signs-held-spec =
+pub signs-fitting-spec : {M : Type 1} → statement M
+signs-fitting-spec =
     tie.close
     (tie.spec
     Inv-loop

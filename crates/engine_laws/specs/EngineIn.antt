@@ -78,7 +78,7 @@ module _ (e : Engine) (l : Limits e) (m : List ℕ) (two : length m ≡ 2) where
 
   length-R : length R ≤ referencesRoom
   unfolding R
-  length-R = omega (arith, joined-length referenceRecord referenceIn (references-kept (e .references) (l .forms)), l .today)
+  length-R = omega (arith, joined-length referenceRecord referenceIn (references-kept (e .references) (l .forms)), l .references-few)
 
   length-P : length P ≤ positionsRoom
   unfolding P
@@ -107,7 +107,7 @@ module _ (e : Engine) (l : Limits e) (m : List ℕ) (two : length m ≡ 2) where
       let v : List ℕ = zeros (positionsRoom - length P) in
       let w : List ℕ = zeros (textsRoom - length G) ++ rest in
       let texts : List ℕ = R ++ (u ++ (P ++ (v ++ (G ++ w)))) in
-      let few : length (e .references) ≤ 64 = l .today in
+      let few : length (e .references) ≤ 64 = l .references-few in
       let many : length (e .positions) ≤ 32 = l .few in
       let small : e .count ≤ 32 + 18 * length (e .references) = l .numbered in
       let day : e .day < 1000000 = date-small (e .day) (l .day) in
@@ -159,15 +159,15 @@ module _ (e : Engine) (h : within e ≡ true) where
       rw (decode-encode rest, long, h, front, equal-same (encode e))
 
 -- an area that holds an engine: it is long enough, the engine is within its limits, and the first 6,144 bytes are the engine's, so that there is but one
-pub record Held (area : List ℕ) (e : Engine) : Type 0 where
+pub record EngineIn (area : List ℕ) (e : Engine) : Type 0 where
   pub long : areaSize ≤ length area
   pub good : within e ≡ true
   pub front : take areaSize area ≡ encode e
   pub read : decode area ≡ e
 
-pub held : (area : List ℕ) (e : Engine) → holds area ≡ some e → Held area e
+pub engine-in : (area : List ℕ) (e : Engine) → holds area ≡ some e → EngineIn area e
 unfolding holds
-held area e h =
+engine-in area e h =
     let g : Gave _ (decode area) e = gave _ _ h in
     let t : (leb areaSize (length area) && within (decode area)) ≡ true = and-left _ _ (g .test) in record {
       long = leb-true areaSize (length area) (and-left _ _ t);
@@ -177,5 +177,5 @@ held area e h =
     }
 
 -- such an area is the engine's bytes and what stands behind them
-pub held-parts : (area : List ℕ) (e : Engine) → Held area e → area ≡ encode e ++ drop areaSize area
-held-parts area e a = sym (take-append-drop areaSize area) ∙ ap (λ (l : List ℕ). l ++ drop areaSize area) (a .front)
+pub engine-parts : (area : List ℕ) (e : Engine) → EngineIn area e → area ≡ encode e ++ drop areaSize area
+engine-parts area e a = sym (take-append-drop areaSize area) ∙ ap (λ (l : List ℕ). l ++ drop areaSize area) (a .front)

@@ -25,8 +25,8 @@ module _ (a : List ℕ) (h : isSome (holds a) ≡ true) (x : Header) (n : Header
   unfolding decode
   positions-are = rw (many-positions, values-are)
 
-  pub used-held : (p : Reference → Bool) (r : Bool) → r ≡ any p (referencesAt a referencesPlace (x .references)) → r ≡ any p (decode a .references)
+  pub used-decoded : (p : Reference → Bool) (r : Bool) → r ≡ any p (referencesAt a referencesPlace (x .references)) → r ≡ any p (decode a .references)
   unfolding decode
-  used-held p r e = rw (many-references, values-are) e
+  used-decoded p r e = rw (many-references, values-are) e
 
-pub ruleset looking = (decoded-room, many, found-place, totals-found, totals-missing, used-held)
+pub ruleset looking = (decoded-room, many, found-place, totals-found, totals-missing, used-decoded)

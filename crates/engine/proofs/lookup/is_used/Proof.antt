@@ -1,8 +1,8 @@
--- `engine::held::is_used` meets its contract: the records of the area are the engine's references.
+-- `engine::lookup::is_used` meets its contract: the records of the area are the engine's references.
 use borrow.Author.Needs.{needs}
-use Rattle.engine.specs.Held.{looking}
-use Rattle.engine.proofs.held.is_used.Statement.{statement}
-use Rattle.engine.proofs.held.is_used.Tie as tie
+use Rattle.engine.specs.Lookup.{looking}
+use Rattle.engine.proofs.lookup.is_used.Statement.{statement}
+use Rattle.engine.proofs.lookup.is_used.Tie as tie
 
 header-of-requires : tie.Need-header-of-requires
 header-of-requires c κs = search (looking, needs)

@@ -1,8 +1,8 @@
--- `engine::held::totals_of` meets its contract: the position stands at the place of its key, or there is none.
-use Rattle.engine.specs.Held.{looking}
+-- `engine::lookup::totals_of` meets its contract: the position stands at the place of its key, or there is none.
+use Rattle.engine.specs.Lookup.{looking}
 use borrow.Author.Needs.{needs}
-use Rattle.engine.proofs.held.totals_of.Statement.{statement}
-use Rattle.engine.proofs.held.totals_of.Tie as tie
+use Rattle.engine.proofs.lookup.totals_of.Statement.{statement}
+use Rattle.engine.proofs.lookup.totals_of.Tie as tie
 
 header-of-requires : tie.Need-header-of-requires
 header-of-requires c κs = search (looking, needs)
