@@ -2,18 +2,17 @@
 -- section laid over the area before. For every width, room and place.
 use mathlib.Core.Path.{_≡_, sym, ap, _∙_}
 use mathlib.Core.Bool.{Bool}
-use mathlib.Core.List.{List, [], _∷_, _++_, map, append-assoc, append-nil}
+use mathlib.Core.List.{List, [], _++_, map, append-assoc, append-nil}
 use Prim.Native.Nat.{ℕ, suc, _+_, _-_, _*_, _≤_, _<_}
 use native.Mathlib.Nat.{add-zero, mul-le-mul-left}
-use native.Mathlib.Numerals.{add-one}
 use native.Mathlib.Omega.{arith}
 use lib.ListN.{length, length-append, length-drop, length-map}
 use lib.Seq.{length-take-le}
 use Rattle.rules.specs.Area.{padded, joined}
 use Rattle.laws.specs.Laid.{laid, laid-front}
 use Rattle.laws.specs.Writing.{Wrote}
-use Rattle.laws.specs.Sections.{Each, Each.no-record, Each.and-record, inserted, replaced, passing, Agree, passing-map, padded-length, joined-length, each-append, each-inserted, each-replaced, each-passing, map-appended, map-inserted, map-replaced, passing-length}
-use Rattle.laws.specs.Standing.{Stands, moved, stands-laid, stands-replaced, stands-inserted, stands-appended}
+use Rattle.laws.specs.Sections.{Each, inserted, replaced, passing, Agree, passing-map, padded-length, joined-length, each-inserted, each-replaced, each-passing, map-inserted, map-replaced, passing-length}
+use Rattle.laws.specs.Standing.{Stands, moved, stands-laid, stands-replaced, stands-inserted}
 use Rattle.laws.specs.Moving.{Sifted, sifted-count, stands-sifted}
 
 -- ---- parts side by side
@@ -53,15 +52,6 @@ module _ {A : Type 0} (write : A → List ℕ) {w base : ℕ} (n : ℕ) {p q are
 
   same : length (map write xs) ≡ length xs
   same = length-map xs write
-
-  -- x written behind the last
-  pub section-appended : (x : A) {m : ℕ} {area' : List ℕ} → length (write x) ≡ w → w * suc (length xs) ≤ n → Wrote (write x) (base + w * length xs) area m area'
-      → area' ≡ laid (section n write (xs ++ x ∷ [])) base area
-  section-appended x {m} {area'} e k v =
-      let v' : Wrote (write x) (base + w * length (map write xs)) area m area' = rw same v in
-      let k' : w * length (xs ++ x ∷ []) ≤ n = rw (length-append, add-one) k in
-      now-has (xs ++ x ∷ []) (rw map-appended (each-append s (and-record e no-record))) k'
-      (rw map-appended (stands-appended n t s (write x) e (rw same k) v'))
 
   -- x written over element i
   pub section-replaced : (i : ℕ) (x : A) {m : ℕ} {area' : List ℕ} → length (write x) ≡ w → i < length xs → Wrote (write x) (base + w * i) area m area'

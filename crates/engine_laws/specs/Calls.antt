@@ -11,7 +11,6 @@ use lib.ListN.{length, take, drop, length-append, length-drop}
 use lib.Seq.{take-at}
 use borrow.Author.Tests.{eqb-true}
 use Rattle.rules.specs.Text.{over}
-use Rattle.rules.specs.Dates.{exists}
 use Rattle.rules.specs.Messages.{Message, read}
 use Rattle.rules.specs.Engine.{Engine, within}
 use Rattle.rules.specs.Calls.{Stop, firstOf, Answer, answered, openStops, opened, acceptedOpening, openCall, messageStops, messageText, positionAfter, afterMessage, acceptedMessage, bothOf, messageCall, turnText, turnStops, refunded, collected, afterTurn, acceptedTurn, turnCall}
@@ -140,7 +139,6 @@ module _ (day : ℕ) (area out : List ℕ) where
   pub record Turns : Type 0 where
     pub engine : Engine
     pub holding : holds area ≡ some engine
-    pub exist : exists day ≡ true
     pub later : engine .day < day
     pub fits : length (turnText engine day) ≤ length out
     pub done : Done (cardTurn day area out) area out (turnText engine day) (subℕ (refunded (engine .positions)) (collected (engine .positions))) (afterTurn engine day)
@@ -153,7 +151,6 @@ module _ (day : ℕ) (area out : List ℕ) where
       let c : TurnClear (length out) e day = turn-clear (length out) e day z in record {
         engine = e;
         holding = h;
-        exist = c .date;
         later = c .later;
         fits = c .fits;
         done = rw (answered-accepted _ (holds area) (acceptedTurn (holds area) day) k, h) (on-done _ _ (afterTurn e day) area out (turn-within (length out) e day (engine-in area e h .good) z));

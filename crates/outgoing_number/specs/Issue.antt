@@ -1,14 +1,8 @@
 -- The outgoing number ("Positions and turn"): a reference issued, and the record stepped forward.
 use mathlib.Core.Path.{_≡_}
-use mathlib.Core.List.{List}
-use Prim.Native.Nat.{ℕ, _+_}
-use Rattle.rules.specs.Written.{reference}
+use Prim.Native.Nat.{_+_}
 use Rattle.outgoing_number.specs.declared.Outgoing.{Outgoing}
 use Rattle.outgoing_number.specs.declared.Reference.{Reference}
-
--- the text of a reference: "the day, `GA`, six digits from 000001"
-abbrev pub referenceText : Reference → List ℕ
-referenceText r = reference (r .day) (r .number)
 
 -- the next reference, and the record behind it: the day stays, the count goes up by one
 abbrev pub issued : Outgoing → Reference
