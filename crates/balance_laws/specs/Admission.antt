@@ -8,7 +8,7 @@ use native.Mathlib.Omega.{arith}
 use lib.Dec.{leb, eqb}
 use borrow.Author.Tests.{eqb-true, eqb-false, leb-true, not-false}
 use Rattle.rules.specs.Text.{ascii, any, equal}
-use Rattle.rules.specs.Messages.{Message, mt103, mt101, Detail, currency32B, read, sumOf}
+use Rattle.rules.specs.Messages.{Message, mt103, mt101, Detail, currency32B, read, sumOfAmounts}
 use Rattle.rules.specs.Engine.{Engine, limit, lastBank, isBank}
 use Rattle.rules.specs.Calls.{bankOf, misdated, badSum, badAmount, overLimit, positionAfter}
 use Rattle.laws.specs.Tests.{and-right}
@@ -41,15 +41,15 @@ postable room e s m l r c =
     }
 
 pub admitted : (room : ℕ) (e : Engine) (s : List ℕ) (m : Message) → ReadAs s m → Clear room e s m → Admitted (e .day) m
-unfolding misdated badAmount badSum any sumOf
+unfolding misdated badAmount badSum any sumOfAmounts
 admitted room e s (mt103 t) (transfer r) c = transfer (eqb-true _ _ (not-false _ (c .today)))
 admitted room e s (mt101 o) (order r) c = order (leb-true _ _ (not-false _ (c .today))) (go (r .details) (c .amounts))
   where
-    worth : (d : Detail) (ds : List Detail) → any (λ (d : Detail). badSum (currency32B d) (d .amount)) (d ∷ ds) ≡ false → 1 ≤ sumOf (d ∷ ds)
+    worth : (d : Detail) (ds : List Detail) → any (λ (d : Detail). badSum (currency32B d) (d .amount)) (d ∷ ds) ≡ false → 1 ≤ sumOfAmounts (d ∷ ds)
     worth d ds h =
         let z : d .amount ≡ 0 → ⊥ = eqb-false (d .amount) 0 (or-right (not (equal (currency32B d) (ascii "BGN"))) (eqb (d .amount) 0) (any-left (badSum (currency32B d) (d .amount)) (any (λ (d : Detail). badSum (currency32B d) (d .amount)) ds) h)) in
         omega arith
 
-    go : {ds : List Detail} → DetailsRead ds → any (λ (d : Detail). badSum (currency32B d) (d .amount)) ds ≡ false → 1 ≤ sumOf ds
+    go : {ds : List Detail} → DetailsRead ds → any (λ (d : Detail). badSum (currency32B d) (d .amount)) ds ≡ false → 1 ≤ sumOfAmounts ds
     go (last {d = d} r) h = worth d [] h
     go (more {d = d} {ds = ds} r _) h = worth d ds h

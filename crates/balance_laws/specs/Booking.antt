@@ -1,5 +1,4 @@
--- A message booked: `entered` in the ledger and `booked` among the engine's positions change every sum alike, so that entries and positions
--- stay the same. Both take the one entry of q's bank and date out and put q's totals added to it in.
+-- A message booked: `entered` in the ledger and `booked` among the engine's positions change every sum alike, so that both keep the same entries.
 use mathlib.Core.Path.{_≡_, refl, sym, ap, _∙_}
 use mathlib.Core.Bool.{Bool, true, false, cond}
 use mathlib.Core.List.{List, [], _∷_}

@@ -1,5 +1,4 @@
--- Demand 3's five sums are two: what comes in from a bank (transferred and collected) and what goes out for it (credited, returned and refunded). What a posting line of each
--- sort counts in them.
+-- Demand 3's five sums as two, what comes in from a bank and what goes out for it, and what a posting line of each sort counts in them.
 use mathlib.Core.Path.{_≡_, refl, sym, ap, _∙_}
 use mathlib.Core.Bool.{Bool, true, false, _&&_, _||_, not, cond, and-false, or-true}
 use mathlib.Core.List.{List, [], _∷_}

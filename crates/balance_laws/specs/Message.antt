@@ -4,7 +4,7 @@ use mathlib.Core.Bool.{Bool, true, false, cond}
 use mathlib.Core.List.{List, [], _∷_}
 use Prim.Native.Nat.{ℕ, _+_, _^_, _<_}
 use native.Mathlib.Omega.{arith}
-use Rattle.rules.specs.Messages.{Message, mt103, mt101, Detail, account59, detailsOf, dateOf, transferredBy, detailedBy, sumOf}
+use Rattle.rules.specs.Messages.{Message, mt103, mt101, Detail, account59, detailsOf, dateOf, transferredBy, detailedBy, sumOfAmounts}
 use Rattle.rules.specs.Register.{Register, registerOf}
 use Rattle.rules.specs.Verdict.{Verdict, credited, returned, isReturned, accountAt}
 use Rattle.rules.specs.Engine.{Engine, bic}
@@ -40,13 +40,13 @@ payee-party r b d k = go (verdictOf r d) refl
 -- a kind that counts each line from the temporary account by g counts all details by it
 module _ (kind : Kind) (f : Fed) (r : Register) (b : Book) (k : Readable b) (g : ℕ → ℕ) (none : g 0 ≡ 0) (adds : (v w : ℕ) → g (v + w) ≡ g v + g w)
     (counts : (credit : List ℕ) (v : ℕ) → isParty credit ≡ true → v < 10 ^ 20 → Tells kind f (posting b (b .temporary) credit v) (g v)) where
-  tells-details : (ds : List Detail) → sumOf ds < 10 ^ 20 → Tells kind f (detailPostings r b ds) (g (sumOf ds))
-  unfolding detailPostings sumOf
+  tells-details : (ds : List Detail) → sumOfAmounts ds < 10 ^ 20 → Tells kind f (detailPostings r b ds) (g (sumOfAmounts ds))
+  unfolding detailPostings sumOfAmounts
   tells-details [] h = tells-same tells-none (sym none)
   tells-details (d ∷ ds) h =
       let v : Verdict = verdictOf r d in
       let one : Tells kind f (detailPosting r b d v) (g (d .amount)) = rw (paid r b d v) (counts (payee r b v) (d .amount) (payee-party r b d k) (omega arith)) in
-      tells-same (tells-join one (tells-details ds (omega arith))) (sym (adds (d .amount) (sumOf ds)))
+      tells-same (tells-join one (tells-details ds (omega arith))) (sym (adds (d .amount) (sumOfAmounts ds)))
 
 returned-sent : (r : Register) {ds : List Detail} → All DetailSent ds → All DetailSent (returnedOf r ds)
 unfolding returnedOf
@@ -67,7 +67,7 @@ module _ (bank : ℕ) (f : Fed) (s : bank < 2 ^ 64) (r : Register) (b : Book) (k
       tells-same (tells-details (comesIn bank) f r b k (λ v. 0) refl (λ v w. refl) (λ credit v p l. in-paid b bank v k s l credit p) (o .details) l) (sym (mine-none bank (b .bank)))
 
   postings-out : (m : Message) → transferredBy m < 10 ^ 20 → detailedBy m < 10 ^ 20 → Tells (goesOut (b .temporary) bank) f (postings r b m) (mine bank (b .bank) (detailedBy m))
-  unfolding postings transferredBy detailedBy detailsOf sumOf
+  unfolding postings transferredBy detailedBy detailsOf sumOfAmounts
   postings-out (mt103 t) h l = tells-same (out-from b bank (t .amount) k s h) (sym (mine-none bank (b .bank)))
   postings-out (mt101 o) h l =
       tells-details (goesOut (b .temporary) bank) f r b k (mine bank (b .bank)) (mine-none bank (b .bank)) (mine-adds bank (b .bank)) (λ credit v p l. out-paid b bank v k s l credit p) (o .details) l

@@ -38,8 +38,7 @@ use Rattle.balance_laws.specs.Untouched.{History, history-message, histo
 
 -- ---- the card between calls
 
--- an engine's positions are the ledger's, its temporary account is that of the opening, its day and the ledger are as the accepted messages say,
--- and behind a turn no entry has details
+-- the engine's positions are the ledger's, its temporary account and day as the calls say, and behind a turn no entry has details
 pub record Agrees (temporary : List ℕ) (ledger : List Position) (sent : List Message) (turned : Bool) (e : Engine) : Type 0 where
   pub account : registerOf (e .register) .temporary ≡ temporary
   pub same : SameEntries (e .positions) ledger

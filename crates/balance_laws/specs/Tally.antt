@@ -1,5 +1,4 @@
--- Sums over positions, one for each measure of a position. Lists whose sums agree for every measure have the same entries, order aside, and
--- that is how ledger and engine are compared: each sum of demand 3 is one of these.
+-- Sums over positions, one for each measure: lists whose sums agree for every measure have the same entries, order aside.
 use mathlib.Core.Path.{_≡_, refl, sym, _∙_}
 use mathlib.Core.Bool.{Bool, true, false, _&&_, not, cond}
 use mathlib.Core.List.{List, [], _∷_}

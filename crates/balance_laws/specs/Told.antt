@@ -1,5 +1,4 @@
--- What a text tells a reader of posting lines: the sum of a kind over its lines. A text of short lines tells nothing, since a posting line has at least 42 bytes;
--- texts one behind the other tell the sum of both.
+-- What a text tells a reader of posting lines, the sum of a kind over its lines: nothing where its lines are short, and of two texts the sum of both.
 use mathlib.Core.Path.{_≡_, refl, _∙_}
 use mathlib.Core.Bool.{Bool, true, false, _||_, cond}
 use mathlib.Core.List.{List, [], _∷_, _++_}
@@ -12,8 +11,8 @@ use lib.Seq.{drop-cons}
 use borrow.Author.Tests.{leb-true, eqb-true, le-leb}
 use Rattle.rules.specs.Text.{ascii, every, fits, given}
 use Rattle.rules.specs.Accounts.{isBic, ibanShape}
-use Rattle.rules.specs.Lines.{Line, lines}
-use Rattle.rules.specs.Ledger.{begun, parted, isParty, isNumber, isPosting, posted, Kind, Fed, amountIf, sumOfLines}
+use Rattle.rules.specs.Lines.{begun, Line, lines}
+use Rattle.rules.specs.Ledger.{parted, isParty, isNumber, isPosting, posted, Kind, Fed, amountIf, sumOfLines}
 use Rattle.laws.specs.Reading.{fits-length}
 use Rattle.laws.specs.Tests.{and-left, and-right, cond-right}
 use Rattle.engine_laws.specs.Facts.{cond-left, cond-both}

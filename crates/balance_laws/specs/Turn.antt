@@ -9,7 +9,7 @@ use borrow.Author.Tests.{leb-true, leb-false, eqb-true}
 use Rattle.rules.specs.Accounts.{ibanShape}
 use Rattle.rules.specs.Register.{registerOf}
 use Rattle.rules.specs.Engine.{Position, Engine, bic, lastBank, isBank, hasDetails, kept}
-use Rattle.rules.specs.Written.{Book, fromBank, toBank, corrected, isRefund, correctionPosting, correction, correctionPostings, corrections, mt204, mt205}
+use Rattle.rules.specs.Written.{Book, fromBank, toBank, corrected, isRefunded, correctionPosting, correction, correctionPostings, corrections, mt204, mt205}
 use Rattle.rules.specs.Calls.{turnText}
 use Rattle.rules.specs.Ledger.{Kind, Fed, transferredOf, detailedOf}
 use Rattle.laws.specs.Tests.{and-right}
@@ -43,7 +43,7 @@ module _ (day : ℕ) (temporary : List ℕ) (a : ibanShape temporary ≡ true) {
 
   mute-correction : {p : Position} (n : ℕ) → Good old p → Mute (correction day temporary n p)
   unfolding correction
-  mute-correction {p} n g = go (isRefund p)
+  mute-correction {p} n g = go (isRefunded p)
     where
       go : (t : Bool) → Mute (cond t (mt205 day n p (p .transferred - p .detailed)) (mt204 day temporary n p (p .detailed - p .transferred)))
       go true = mute-205 day n p (p .transferred - p .detailed) (readable g .known) (g .detailed)
@@ -66,7 +66,7 @@ module _ (day : ℕ) (temporary : List ℕ) (a : ibanShape temporary ≡ true) {
       (collects : (p : Position) (v : ℕ) → Readable (bookOf day temporary p) → v < 10 ^ 20 → Tells kind f (fromBank (bookOf day temporary p) v) (down (p .key .bank) v)) where
     tells-correction : (p : Position) → Good old p
         → Tells kind f (correctionPosting day temporary p) (up (p .key .bank) (p .transferred - p .detailed) + down (p .key .bank) (p .detailed - p .transferred))
-    unfolding correctionPosting isRefund
+    unfolding correctionPosting isRefunded
     tells-correction p g = go (leb (p .detailed) (p .transferred)) refl
       where
         go : (t : Bool) → leb (p .detailed) (p .transferred) ≡ t

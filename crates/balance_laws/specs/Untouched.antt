@@ -1,5 +1,4 @@
--- Transfers that no detail has met: what the ledger's entries without details hold of a bank is what its accepted messages have transferred for the dates for which none of its
--- details has been accepted. Kept over the calls for any choice of dates, since accepted details take their date out of the choice.
+-- Transfers that no detail has met: the ledger's entries without details are what was transferred for the dates for which no details were accepted.
 use mathlib.Core.Path.{_≡_, refl, sym, ap₂, _∙_}
 use mathlib.Core.Bool.{Bool, true, false, _&&_, _||_, not, cond, and-false, or-true, or-false}
 use mathlib.Core.List.{List, [], _∷_, _++_}
@@ -9,7 +8,7 @@ use native.Mathlib.Omega.{arith}
 use lib.Dec.{leb, eqb}
 use borrow.Author.Tests.{eqb-true, eqb-false, eq-eqb, ne-eqb, le-leb}
 use Rattle.rules.specs.Text.{any}
-use Rattle.rules.specs.Messages.{Message, mt103, mt101, Transfer, Order, dateOf, firstDate, transferredBy, detailedBy, detailsOf, sumOf}
+use Rattle.rules.specs.Messages.{Message, mt103, mt101, Transfer, Order, dateOf, firstDate, transferredBy, detailedBy, detailsOf, sumOfAmounts}
 use Rattle.rules.specs.Engine.{Position, sameKey, hasDetails, kept}
 use Rattle.rules.specs.Calls.{bankOf, addition}
 use Rattle.rules.specs.Ledger.{entered, isDetails, untouched}
@@ -97,7 +96,7 @@ history-start day = record { held = λ bank t. refl; today = λ bank. refl; past
 -- what is known of an accepted message
 pub data Admitted (day : ℕ) : Message → Type 0 where
   transfer : {t : Transfer} → t .date ≡ day → Admitted day (mt103 t)
-  order : {o : Order} → firstDate (o .details) ≤ day → 1 ≤ sumOf (o .details) → Admitted day (mt101 o)
+  order : {o : Order} → firstDate (o .details) ≤ day → 1 ≤ sumOfAmounts (o .details) → Admitted day (mt101 o)
 
 -- ---- a transfer
 
@@ -173,7 +172,7 @@ module _ (bank x d : ℕ) (t : Dates) (ledger : List Position) (l : many (keyed 
 module _ {day : ℕ} {ledger : List Position} {sent : List Message} (h : History day ledger sent) where
   held-message : (m : Message) → Admitted day m → many (keyed (bankOf m) (dateOf m)) ledger ≤ 1 → (bank : ℕ) (t : Dates)
       → tally (free bank t) (entered (addition m) ledger) ≡ untouchedIn bank t (sent ++ m ∷ []) (sent ++ m ∷ [])
-  unfolding dateOf transferredBy detailedBy detailsOf sumOf isDetails taken
+  unfolding dateOf transferredBy detailedBy detailsOf sumOfAmounts isDetails taken
   held-message (mt103 n) (transfer e) l bank t =
       let m : Message = mt103 n in
       let same : (d : ℕ) → any (isDetails bank d) (sent ++ m ∷ []) ≡ any (isDetails bank d) sent = λ d. any-last (isDetails bank d) sent m ∙ or-false (any (isDetails bank d) sent) in
@@ -186,7 +185,7 @@ module _ {day : ℕ} {ledger : List Position} {sent : List Message} (h : History
       let x : ℕ = bankOf m in
       let d : ℕ = firstDate (o .details) in
       let u : Dates = taken bank x d t ledger l in
-      let one : tally (free bank t) (entered (addition m) ledger) ≡ tally (free bank u) ledger = free-order bank x d t ledger l (sumOf (o .details)) v in
+      let one : tally (free bank t) (entered (addition m) ledger) ≡ tally (free bank u) ledger = free-order bank x d t ledger l (sumOfAmounts (o .details)) v in
       let all : untouchedIn bank t (sent ++ m ∷ []) sent ≡ untouchedIn bank u sent sent =
       untouched-same bank t u (sent ++ m ∷ []) sent (λ c. rw (any-last (isDetails bank c) sent m) (out (t c) (any (isDetails bank c) sent) (eqb x bank && eqb d c))) sent in
       one ∙ h .held bank u ∙ sym (untouched-last bank t (sent ++ m ∷ []) sent m ∙ omega (arith, all, nought (eqb x bank && t d && not (any (isDetails bank d) (sent ++ m ∷ [])))))
@@ -199,7 +198,7 @@ module _ {day : ℕ} {ledger : List Position} {sent : List Message} (h : History
       out false a k = refl
 
   today-message : (m : Message) → Admitted day m → (bank : ℕ) → leb 1 (tally (only (like (keyed bank day)) details) (entered (addition m) ledger)) ≡ any (isDetails bank day) (sent ++ m ∷ [])
-  unfolding like sameKey keyed only detailedBy detailsOf sumOf isDetails dateOf
+  unfolding like sameKey keyed only detailedBy detailsOf sumOfAmounts isDetails dateOf
   today-message m a bank =
       let k : Position = keyed bank day in
       let e : tally (only (like k) details) (entered (addition m) ledger) ≡ tally (only (like k) details) ledger + only (like k) details (addition m) =
@@ -215,7 +214,7 @@ module _ {day : ℕ} {ledger : List Position} {sent : List Message} (h : History
 
       go : {m : Message} → Admitted day m → leb 1 (D + only (like (keyed bank day)) details (addition m)) ≡ (leb 1 D || isDetails bank day m)
       go (transfer {t = t} q) = rw (nought (eqb (bankOf (mt103 t)) bank && eqb (t .date) day), add-zero, or-false)
-      go (order {o = o} q v) = more (sumOf (o .details)) (eqb (bankOf (mt101 o)) bank && eqb (firstDate (o .details)) day) v
+      go (order {o = o} q v) = more (sumOfAmounts (o .details)) (eqb (bankOf (mt101 o)) bank && eqb (firstDate (o .details)) day) v
 
   pub history-message : (m : Message) → Admitted day m → many (keyed (bankOf m) (dateOf m)) ledger ≤ 1 → History day (entered (addition m) ledger) (sent ++ m ∷ [])
   unfolding dateOf

@@ -36,7 +36,7 @@ use Rattle.conditions.specs.declared.booking.Booking.{Booking}
 use Rattle.conditions.specs.declared.message.Checked.{Checked}
 use Rattle.conditions.specs.declared.message.Checked.the-variants.{Refused}
 use Rattle.verdict.specs.Details.{VerdictsIn, JudgedIn}
-use Rattle.state_conditions.specs.Stops.{addedBy}
+use Rattle.state_conditions.specs.Stops.{additionBy}
 use Rattle.detail_lines.specs.Returned.{ReturnedCount}
 use Rattle.message_text.specs.Message.{AfterOf, amount-part, after-is, WritesOf, Writes, writes-told, TextPut}
 use Rattle.position.specs.Values.{keyValue, positionValue}
@@ -155,7 +155,7 @@ module _ (s area : List ℕ) (h : isSome (holds area) ≡ true) where
 
   module _ (b : Booking) (k : Books s (messageIn s) b) where
     -- the message's own parts
-    module _ {p : P.Position} (u : p ≡ addedBy b) where
+    module _ {p : P.Position} (u : p ≡ additionBy b) where
       position-is : positionValue p ≡ addition (messageIn s)
       position-is = rw (u, ← k .key, k .transferred, k .detailed) refl
 

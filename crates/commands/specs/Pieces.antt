@@ -1,5 +1,4 @@
--- The input read in pieces: a command that stands in the bytes read so far is the input's whatever follows, and where as many bytes are read
--- as the longest command has and none stands there, none follows.
+-- The input read in pieces: a command in the bytes read so far is the input's whatever follows, and behind the longest command's bytes without one none follows.
 use mathlib.Core.Path.{_≡_, refl, sym, ap, _∙_}
 use mathlib.Core.Bool.{Bool, true, false, _&&_, cond}
 use mathlib.Core.List.{List, [], _∷_, _++_, append-assoc}

@@ -1,5 +1,4 @@
--- Room made in a window of the input: what is read and not yet taken goes to the front, and of the zeros that a length begins with all but one
--- may go, so that every command fits a window of `longest` bytes.
+-- Room made in a window of the input: what is not yet taken goes to the front, and of a length's leading zeros all but one may go.
 use mathlib.Core.Path.{_≡_, refl, sym, ap, _∙_}
 use mathlib.Core.Logic.{_⊎_, inl, inr}
 use mathlib.Core.Bool.{Bool, true, false, _&&_, cond}

@@ -12,11 +12,15 @@ ghost use Rattle.rules.specs.Replay.{commandOf, command};
 ghost use Rattle.laws.specs.Parts.{cut, from};
 ghost use Rattle.commands.specs.Answers.{Commanding, messageLine, turnLine, openLine};
 
-// A command by its places in the input: an opening's day and register, a message, a turn's day and the place behind it.
+// A command, by its places in the input.
 pub enum Command {
+    // An opening: its day, and where its register begins and ends.
     Opens(u32, usize, usize),
+    // Where a message begins and ends.
     Sends(usize, usize),
+    // A turn: its day, and the place behind it.
     Turns(u32, usize),
+    // There is no command.
     End,
 }
 

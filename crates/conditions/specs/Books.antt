@@ -9,7 +9,7 @@ use lib.ListN.{length}
 use borrow.Author.Tests.{leb-true}
 use Rattle.rules.specs.Text.{between, isText, every, run, bigEndian}
 use Rattle.rules.specs.Lines.{sender}
-use Rattle.rules.specs.Messages.{Message, mt103, mt101, Transfer, Order, referenceOf, detailsOf, dateOf, transferredBy, detailedBy, sumOf, firstDate}
+use Rattle.rules.specs.Messages.{Message, mt103, mt101, Transfer, Order, referenceOf, detailsOf, dateOf, transferredBy, detailedBy, sumOfAmounts, firstDate}
 use Rattle.rules.specs.Calls.{misdated, bankOf, keyOf}
 use Rattle.laws.specs.Parts.{cut, from, from-take, cut-length}
 use Rattle.laws.specs.Tests.{and-left, and-right}
@@ -104,10 +104,10 @@ module _ (s : List ℕ) (m : Message) (h : Has s m) where
 
 pub transfer-books : (s : List ℕ) (t : Transfer) → Has s (mt103 t) → (p : Span) → SpanIn s p → spanOf s p ≡ referenceOf (mt103 t) → t .amount < 10 ^ 16
     → Books s (mt103 t) (bookingOf s true p (t .date) (t .amount) 0)
-unfolding dateOf transferredBy detailedBy detailsOf sumOf misdated
+unfolding dateOf transferredBy detailedBy detailsOf sumOfAmounts misdated
 transfer-books s t h p w e l = books s (mt103 t) h p w e true (t .date) (t .amount) 0 refl refl refl (λ day. refl) (omega arith) (record { transfer = t; same = refl; sum = refl })
 
-pub order-books : (s : List ℕ) (o : Order) → Has s (mt101 o) → (p : Span) → SpanIn s p → spanOf s p ≡ referenceOf (mt101 o) → {date sum count : ℕ} → date ≡ firstDate (o .details) → sum ≡ sumOf (o .details) → sum ≤ 16 * 10 ^ 16
+pub order-books : (s : List ℕ) (o : Order) → Has s (mt101 o) → (p : Span) → SpanIn s p → spanOf s p ≡ referenceOf (mt101 o) → {date sum count : ℕ} → date ≡ firstDate (o .details) → sum ≡ sumOfAmounts (o .details) → sum ≤ 16 * 10 ^ 16
     → Books s (mt101 o) (bookingOf s false p date sum count)
 unfolding dateOf transferredBy detailedBy detailsOf misdated
 order-books s o h p w e {date} {sum} {count} d f l = books s (mt101 o) h p w e false date sum count d refl (sym f) (λ day. rw d refl) l (record { order = o; same = refl })

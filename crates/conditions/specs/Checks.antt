@@ -10,11 +10,11 @@ use lib.ListN.{length, getD, take, length-take}
 use lib.Seq.{take-all}
 use borrow.Author.Tests.{leb-true}
 use Rattle.rules.specs.Text.{ascii, equal, then, twice}
-use Rattle.rules.specs.Lines.{Line, lines, inLines, opening, framed, type, sender, receiver, body}
+use Rattle.rules.specs.Lines.{Line, lines, inLines, hasFirstLine, framed, type, sender, receiver, body}
 use Rattle.rules.specs.Forms.{takeRows, orderRows, message20}
 use Rattle.rules.specs.Engine.{slashed}
 use Rattle.rules.specs.Messages as M
-use Rattle.rules.specs.Messages.{Message, mt103, mt101, field20, detailsOf, referenceOf, dateOf, firstDate, sumOf, readTransfer, readOrder, read, past}
+use Rattle.rules.specs.Messages.{Message, mt103, mt101, field20, detailsOf, referenceOf, dateOf, firstDate, sumOfAmounts, readTransfer, readOrder, read, past}
 use Rattle.rules.specs.Calls.{formStops, firstOf, addressed, inputStops}
 use Rattle.laws.specs.Parts.{cut, cut-all, from, from-take}
 use Rattle.laws.specs.Tests.{and-left, and-right, answer-is, answer-not}
@@ -174,7 +174,7 @@ module _ (s : List ℕ) (rows : Rows) (w : RowsAt s 23 0 1 rows) where
         order-good z q d b e =
             let few : t .count ≤ 16 = order-count z in
             let f : SpanIn s (getD (rows .spans) message20 noSpan) = within-at s (rows .spans) message20 (w .within) in
-            let sum : t .sum ≡ sumOf (all .all) = its .sum ∙ ap sumOf (take-all 16 (all .all) (rw (← its .count) few)) in record {
+            let sum : t .sum ≡ sumOfAmounts (all .all) = its .sum ∙ ap sumOfAmounts (take-all 16 (all .all) (rw (← its .count) few)) in record {
               with = λ temporary. record {
                 number = sym z ∙ order-number temporary;
                 parts = record {
@@ -200,7 +200,7 @@ module _ (s : List ℕ) (b : Bool) (u : b ≡ framed s) (h : b ≡ true) where
   framed-high = leb-true (length s) 4096 (and-left _ _ (and-left _ _ is-framed))
 
   pub framed-low : 23 ≤ length s
-  unfolding framed opening
+  unfolding framed hasFirstLine
   framed-low =
       let f : length (ascii "nnn,aaaaaacc,aaaaaacc\r\n") ≡ length (take 23 s) = fits-length (ascii "nnn,aaaaaacc,aaaaaacc\r\n") (take 23 s) (and-right (leb (length s) 4096 && inLines (lines s)) _ is-framed) in
       omega (arith, length-take 23 s)

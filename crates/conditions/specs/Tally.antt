@@ -9,10 +9,10 @@ use lib.Dec.{leb, eqb}
 use lib.ListN.{length, getD, take}
 use lib.Seq.{take-all, take-append-le}
 use borrow.Author.Tests.{le-leb, lt-leb, eq-eqb, ne-eqb, leb-true, leb-false}
-use Rattle.rules.specs.Lines.{closing, sender}
+use Rattle.rules.specs.Lines.{isClosingLine, sender}
 use Rattle.rules.specs.Forms.{detail21}
 use Rattle.rules.specs.Messages as M
-use Rattle.rules.specs.Messages.{details, firstDate, sumOf}
+use Rattle.rules.specs.Messages.{details, firstDate, sumOfAmounts}
 use Rattle.laws.specs.Parts.{from}
 use Rattle.laws.specs.Tests.{answer-is, answer-not, never}
 use Rattle.forms.specs.Spans.{noSpan, within-order}
@@ -82,7 +82,7 @@ pub record KeepsFirst (n : ℕ) (d : Detail) (amounts places fields amounts' pla
 -- their number, the sum of the amounts of the first 16, the first one's date, the lowest condition that one breaks; they are kept
 pub record TallyTold (s : List ℕ) (ds : List M.Detail) (t : Tally) (amounts places fields : List ℕ) : Type 0 where
   pub count : t .count ≡ length ds
-  pub sum : t .sum ≡ sumOf (take 16 ds)
+  pub sum : t .sum ≡ sumOfAmounts (take 16 ds)
   pub bound : t .sum ≤ t .count * 10 ^ 16
   pub date : t .date ≡ firstDate ds
   pub low : t .low ≡ lowestAny (sender s) (firstDate ds) ds
@@ -123,12 +123,12 @@ keeps-one h b k e = record {
 -- ---- one detail more is told
 
 -- the sum, which stands still behind the sixteenth
-sum-last : (ds : List M.Detail) (d : M.Detail) → sumOf (ds ++ (d ∷ [])) ≡ sumOf ds + d .amount
-unfolding sumOf
+sum-last : (ds : List M.Detail) (d : M.Detail) → sumOfAmounts (ds ++ (d ∷ [])) ≡ sumOfAmounts ds + d .amount
+unfolding sumOfAmounts
 sum-last [] d = omega arith
 sum-last (e ∷ ds) d = rw (sum-last ds d) (omega arith)
 
-sum-more : (ds : List M.Detail) (d : M.Detail) → sumTo (length ds) (sumOf (take 16 ds)) (d .amount) ≡ sumOf (take 16 (ds ++ (d ∷ [])))
+sum-more : (ds : List M.Detail) (d : M.Detail) → sumTo (length ds) (sumOfAmounts (take 16 ds)) (d .amount) ≡ sumOfAmounts (take 16 (ds ++ (d ∷ [])))
 unfolding sumTo
 sum-more ds d = few-or-many (length ds)
     (λ h. rw (lt-leb 16 (length ds) h, take-all 16 ds (omega arith), take-all 16 (ds ++ (d ∷ [])) (rw (more-length ds d) (omega arith))) (sym (sum-last ds d)))
@@ -146,7 +146,7 @@ low-more bank [] d = rw (any-last bank (d .date) [] d, any-none bank 0, any-none
 low-more bank (e ∷ ds) d = sym (any-last bank (e .date) (e ∷ ds) d)
 
 pub told-none : (s : List ℕ) {t : Tally} {amounts places fields : List ℕ} → t .count ≡ 0 → t .sum ≡ 0 → t .date ≡ 0 → t .low ≡ noStop → DetailRoom amounts places → length fields ≡ 32 → TallyTold s [] t amounts places fields
-unfolding sumOf firstDate
+unfolding sumOfAmounts firstDate
 told-none s a b c d e f = record { count = a; sum = b; bound = omega (arith, b); date = c; low = rw (any-none) d; kept = kept-none s e; named = named-none s f }
 
 module _ (s : List ℕ) (ds : List M.Detail) (t : Tally) {amounts places fields : List ℕ} (o : TallyTold s ds t amounts places fields) {at : ℕ} (d : Detail) (w : DetailAt s at d) {amounts' places' fields' : List ℕ}
@@ -217,7 +217,7 @@ module _ (s : List ℕ) (at pos : ℕ) (t : Tally) {amounts places fields : List
     walk-bad h d w k = let e : 4096 - t .count ≡ suc (4096 - (t .count + 1)) = omega arith in nothing-there s at n (sym (rw (e, answer-not _ _ _ (w .same) k) at (m .left)))
 
   module _ (h : t .count < 4096) (d : Detail) (w : DetailAt s pos d) (k : d .ok ≡ true) {amounts' places' fields' : List ℕ} (c : KeepsFirst (t .count) d amounts places fields amounts' places' fields')
-      (r : Tally) (a : After s t d r) (b : Bool) (u : b ≡ closing (from s (d .next))) where
+      (r : Tally) (a : After s t d r) (b : Bool) (u : b ≡ isClosingLine (from s (d .next))) where
     next : 4096 - t .count ≡ suc (4096 - (t .count + 1))
     next = omega arith
 

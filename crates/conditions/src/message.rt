@@ -20,9 +20,11 @@ ghost use Rattle.details.specs.Kept.{DetailRoom};
 ghost use Rattle.conditions.specs.Answers.{CheckedAs};
 ghost use Rattle.conditions.specs.Checks.{TransferChecked, OrderChecked};
 
-// A message refused by a number, or passed with what booking it needs.
+// What the check of a message answers.
 pub enum Checked {
+    // One of 1 to 8 holds: its number.
     Refused(u32),
+    // None holds: what booking the message needs.
     Passed(Booking),
 }
 

@@ -16,12 +16,17 @@ ghost use Rattle.forms.specs.Spans.{noSpan, SpansWithin};
 ghost use Rattle.details.specs.Kept.{DetailRoom};
 ghost use Rattle.conditions.specs.Tally.{Raised, dayOf, After, KeepsFirst, TallyAt};
 
-// How many details there are, the sum of the first 16, the first one's date, and the lowest of 5 to 8 that one of them breaks, or `NO_STOP`.
+// What is told of all details together.
 pub struct Tally {
+    // Are they in form, up to the closing line?
     pub ok: bool,
+    // How many there are.
     pub count: u32,
+    // The sum of the amounts of the first 16.
     pub sum: u64,
+    // The centralisation date of the first.
     pub date: u64,
+    // The lowest of 5 to 8 that one of them breaks, or `NO_STOP`.
     pub low: u32,
 }
 

@@ -1,5 +1,4 @@
--- The whole input by its pieces: carrying out the commands that stand in what is read, and reading on where none does, prints what document 01's
--- replay of all the pieces prints, wherever the input is cut.
+-- The whole input by its pieces: commands carried out as they are read print what document 01's replay of all the pieces prints, wherever it is cut.
 use mathlib.Core.Path.{_≡_, sym, ap, _∙_}
 use mathlib.Core.List.{List, [], _∷_, _++_, append-assoc, append-nil}
 use mathlib.Core.Option.{Option, none, some}

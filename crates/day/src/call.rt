@@ -11,8 +11,11 @@ ghost use Rattle.day.specs.Replaying.{answerTo};
 
 // What a call answered.
 pub struct Outcome {
+    // 0 for an acceptance, else the number of the refusal.
     pub number: u32,
+    // How many bytes were written.
     pub written: usize,
+    // The difference, in stotinki.
     pub difference: i64,
 }
 

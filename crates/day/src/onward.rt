@@ -3,10 +3,13 @@ use crate::replay::Step;
 use crate::replay::carry_out;
 ghost use Rattle.day.specs.Onwards.{WindowReady, Unread, Wanted, Onwards};
 
-// What came of a turn: an answer was printed, with the place behind its command and its size; more input is wanted behind so many bytes; or no command follows.
+// What came of a turn.
 pub enum Onward {
+    // An answer was printed: the place behind its command, and its size.
     Answered(usize, usize),
+    // More input is wanted behind so many bytes.
     Wants(usize),
+    // No command follows.
     Ends,
 }
 

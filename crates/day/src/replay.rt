@@ -35,9 +35,11 @@ fn next_of(c: Command) -> usize
     }
 }
 
-// What was done at a place of the input: a command was carried out, with the place behind it and the place behind its answer, or there is none.
+// What was done at a place of the input.
 pub enum Step {
+    // A command was carried out: the places behind it and behind its answer.
     Done(usize, usize),
+    // There is no command.
     Nothing,
 }
 

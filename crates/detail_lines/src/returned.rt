@@ -38,9 +38,11 @@ pub fn count_returned(verdicts: &[u8; 16], n: u32) -> u32
     returned
 }
 
-// Where writing goes on, and the detail at which the walk goes on.
+// How far rows were written.
 pub struct Place {
+    // The place in the output.
     pub out: usize,
+    // The detail at which the walk goes on.
     pub at: u32,
 }
 

@@ -14,11 +14,15 @@ ghost use Rattle.rules.specs.Text.{isSome};
 ghost use Rattle.rules.specs.Area.{holds, areaSize, referencesPlace};
 ghost use Rattle.engine.specs.Header.{HeaderAt, HeaderOf};
 
-// The day, the outgoing count, and how many positions and references there are.
+// The numbers of an area's header.
 pub struct Header {
+    // The day.
     pub day: u32,
+    // The outgoing count.
     pub count: u32,
+    // How many positions are open.
     pub positions: u32,
+    // How many references were accepted.
     pub references: u32,
 }
 

@@ -21,7 +21,9 @@ ghost use Rattle.engine.specs.References.{ofBank};
 pub struct Totals {
     // Is the position open?
     pub is_open: bool,
+    // The sum of its MT103.
     pub transferred: u64,
+    // The sum of its MT101.
     pub detailed: u64,
 }
 

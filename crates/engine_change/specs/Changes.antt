@@ -1,5 +1,4 @@
--- What is done to a section of an area is done to what its records are made of. A section is what `write` makes of some xs, in room for n bytes at a place; each law gives the area then as the changed
--- section laid over the area before. For every width, room and place.
+-- What is done to a section of an area is done to what its records are made of, for every width, room and place.
 use mathlib.Core.Path.{_≡_, sym, ap, _∙_}
 use mathlib.Core.Bool.{Bool}
 use mathlib.Core.List.{List, [], _++_, map, append-assoc, append-nil}

@@ -1,5 +1,4 @@
--- The area of an engine in its parts, and the area of the next engine: positions, references and the header's numbers laid over the area before, while the texts and what stands behind the engine
--- stay.
+-- The area of the next engine: positions, references and the header's numbers laid over the area before, while the texts and what stands behind stay.
 use mathlib.Core.Path.{_≡_, refl, sym, _∙_}
 use mathlib.Core.List.{List, [], _++_, map, append-assoc}
 use Prim.Native.Nat.{ℕ, _≤_}

@@ -12,7 +12,7 @@ use borrow.Author.Tests.{le-leb}
 use Rattle.rules.specs.Text.{ascii, isText, run, fits, fitsSign, bigEndian}
 use Rattle.rules.specs.Dates.{exists}
 use Rattle.rules.specs.Accounts.{isBic}
-use Rattle.rules.specs.Lines.{Line, opening, lines, inLines, framed, sender}
+use Rattle.rules.specs.Lines.{Line, hasFirstLine, lines, inLines, framed, sender}
 use Rattle.rules.specs.Forms.{reference, fitsRest, fitsRow}
 use Rattle.rules.specs.Messages.{Message, Detail, past, readTransfer, readOrder, read, senderOf, referenceOf, firstDate, dateOf}
 use Rattle.rules.specs.Engine.{isBank, lastBank}
@@ -82,7 +82,7 @@ unfolding isBank
 bic-bank cs h = let n : bigEndian cs < 256 ^ 8 = bic-small cs h in rw (le-leb (bigEndian cs) lastBank (omega arith), bic-number cs h) h
 
 pub sender-bank : (s : List ℕ) → framed s ≡ true → isBank (bigEndian (sender s)) ≡ true
-unfolding framed opening sender isBic
+unfolding framed hasFirstLine sender isBic
 sender-bank s h =
     let o : fits (ascii "nnn,aaaaaacc,aaaaaacc\r\n") (take 23 s) ≡ true = and-right (leb (length s) 4096 && inLines (lines s)) _ h in
     let x : fits (ascii "aaaaaacc,aaaaaacc\r\n") (drop 4 (take 23 s)) ≡ true = fits-behind (ascii "nnn,") (ascii "aaaaaacc,aaaaaacc\r\n") (take 23 s) o in

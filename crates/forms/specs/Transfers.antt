@@ -6,7 +6,7 @@ use mathlib.Core.Option.{Option, none, some}
 use Prim.Native.Nat.{ℕ, _^_, _<_}
 use native.Mathlib.Omega.{arith}
 use Rattle.rules.specs.Text.{then, given}
-use Rattle.rules.specs.Lines.{closing, sender, body}
+use Rattle.rules.specs.Lines.{isClosingLine, sender, body}
 use Rattle.rules.specs.Forms.{takeRows, transferRows, transfer32A, transferBaeref}
 use Rattle.rules.specs.Messages as M
 use Rattle.rules.specs.Messages.{Message, mt103, transferOf, readTransfer}
@@ -45,7 +45,7 @@ module _ (s : List ℕ) (r : Rows) (w : RowsAt s 23 0 23 r) where
   unfolding readTransfer
   transfer-none h = let e : none ≡ takeRows transferRows (body s) = rw (h, transfer-rows, body-from) at (w .same) in rw (← e)
 
-  module _ (h : r .ok ≡ true) (t : Bool) (u : t ≡ closing (from s (r .next))) where
+  module _ (h : r .ok ≡ true) (t : Bool) (u : t ≡ isClosingLine (from s (r .next))) where
     rows-known : some record { rows = linesAt s (r .spans) 23; others = from s (r .next) } ≡ takeRows transferRows (body s)
     rows-known = rw (h, transfer-rows, body-from) at (w .same)
 

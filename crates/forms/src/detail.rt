@@ -13,12 +13,17 @@ ghost use Prim.Native.Nat.{_≤_};
 ghost use lib.ListN.{length};
 ghost use Rattle.forms.specs.Details.{DetailAt};
 
-// A detail: where the text goes on behind it, 70's CENTRB date, 32B's amount, and its lines by rows.
+// A detail as it is read.
 pub struct Detail {
+    // Is it in form?
     pub ok: bool,
+    // Where the text goes on behind it.
     pub next: usize,
+    // 70's CENTRB date.
     pub date: u64,
+    // 32B's amount.
     pub amount: u64,
+    // Its lines by rows.
     pub spans: [Span; 23],
 }
 

@@ -9,16 +9,21 @@ ghost use lib.ListN.{length};
 ghost use Rattle.forms.specs.Spans.{SpanIs};
 ghost use Rattle.forms.specs.Rows.{RowsAt, ToMatch, MatchedAt};
 
-// A part of the message, from start up to end.
+// A part of the message.
 pub struct Span {
+    // The place of its first byte.
     pub start: u16,
+    // The place behind its last byte.
     pub end: u16,
 }
 
-// The lines by rows, an empty part for a row that is left out, and where the text goes on behind them.
+// The lines of a form.
 pub struct Rows {
+    // Are they in form?
     pub ok: bool,
+    // Where the text goes on behind them.
     pub next: usize,
+    // The lines by rows, an empty part for a row that is left out.
     pub spans: [Span; 23],
 }
 
@@ -34,10 +39,13 @@ fn part(a: usize, e: usize) -> Span
     }
 }
 
-// What a row makes of the line at its place: does it fit, or may the row be left out; where the next row's line begins; the part of the line, an empty one for a row left out.
+// What a row makes of the line at its place.
 pub struct Matched {
+    // Does the line fit, or may the row be left out?
     pub ok: bool,
+    // Where the next row's line begins.
     pub at: usize,
+    // The line, or an empty part for a row that is left out.
     pub span: Span,
 }
 

@@ -8,13 +8,19 @@ ghost use Rattle.rules.specs.Text.{fits};
 ghost use Rattle.laws.specs.Parts.{cut};
 ghost use Rattle.forms.specs.Table.{heads, headRow, textRow, moreRow, wordAt, RowAt};
 
-// What stands behind a row's head: nothing, T, a reference R, the bytes behind an account line's slash, N, or an amount.
+// What stands behind a row's head.
 pub enum Rest {
+    // The head is the whole line.
     Nothing,
+    // T.
     Text,
+    // A reference, R.
     Reference,
+    // The bytes behind an account line's slash.
     Account,
+    // N.
     Name,
+    // An amount.
     Sum,
 }
 

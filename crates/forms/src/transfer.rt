@@ -12,11 +12,15 @@ ghost use Prim.Native.Nat.{_≤_};
 ghost use lib.ListN.{length};
 ghost use Rattle.forms.specs.Transfers.{TransferIn};
 
-// A transfer: 32A's date and amount, and its lines by rows.
+// A transfer as it is read.
 pub struct Transfer {
+    // Is it in form?
     pub ok: bool,
+    // 32A's date.
     pub date: u64,
+    // 32A's amount.
     pub amount: u64,
+    // Its lines by rows.
     pub spans: [Span; 23],
 }
 

@@ -1,5 +1,4 @@
--- Two parts of n bytes compared with each other from their last bytes on: behind k they are equal. A law for the start of the loop and for each way on and
--- out of it, over any length.
+-- Two parts of n bytes compared with each other from their last bytes on: behind k they are equal.
 use mathlib.Core.Path.{_≡_, sym, ap, _∙_}
 use mathlib.Core.Bool.{Bool, true, false}
 use mathlib.Core.List.{List}

@@ -1,5 +1,4 @@
--- A text laid over an output: what every writer does. These laws say how texts laid one after the other, apart from each other or
--- inside each other come together.
+-- A text laid over an output, as every writer does: texts laid one after the other, apart from each other or inside each other.
 use mathlib.Core.Path.{_≡_, refl, sym, ap, _∙_}
 use mathlib.Core.Logic.{_≢_}
 use mathlib.Core.List.{List, [], _∷_, _++_}

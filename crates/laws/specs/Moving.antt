@@ -1,5 +1,4 @@
--- Bytes moved within an area, up from the last one or down from the first one, and the loop that moves the records to keep to the
--- front of a section.
+-- Bytes moved within an area, up from the last or down from the first, and the loop that moves the records to keep to a section's front.
 use mathlib.Core.Path.{_≡_, refl, sym, ap, _∙_}
 use mathlib.Core.Bool.{Bool, true, false}
 use mathlib.Core.List.{List, [], _∷_, _++_, append-nil}

@@ -1,5 +1,4 @@
--- What was written as a number is read as that number, and what was read is written as it stood: one law each over the base, and
--- its two uses, digits and big-endian bytes.
+-- What was written as a number is read as that number, and what was read is written as it stood: for any base, and for digits and big-endian bytes.
 use mathlib.Core.Path.{_≡_, refl, sym, ap, _∙_}
 use mathlib.Core.Bool.{Bool, true, false, _||_, cond}
 use mathlib.Core.List.{List, [], _∷_}

@@ -1,5 +1,4 @@
--- Parts of a list, told by their ends: what a function reads of a slice, and what is left of it. Both are shut, so that two parts are
--- compared by their ends; the laws take off the first element, the last, a part of a part.
+-- Parts of a list, told by their ends: what a function reads of a slice, and what is left of it.
 use mathlib.Core.Path.{_≡_, refl, ap, _∙_}
 use mathlib.Core.List.{List, [], _∷_, _++_}
 use Prim.Native.Nat.{ℕ, zero, suc, _+_, _-_, _≤_, _<_, min}

@@ -1,5 +1,4 @@
--- A text written in three to five pieces, one call behind the other. The first piece is asked for first; each call then tells where the next began. A search finds them at
--- once, where it would try every way to part the text if it were handed `wrote-then` alone.
+-- A text written in three to five pieces, one call behind the other, the first piece asked for first, so that a search finds them at once.
 use mathlib.Core.Path.{_≡_, refl, sym, ap, _∙_}
 use mathlib.Core.Bool.{cond}
 use mathlib.Core.List.{List, [], _++_, append-nil}

@@ -1,5 +1,4 @@
--- Reading a part byte by byte. In each loop what is left of the part gives the answer; a law for each way on and out, with the loop's invariant first, the
--- orders next and the test on the byte, as a call answered it, last.
+-- Reading a part byte by byte: what is left of the part gives the answer, a law for each way on and out of the loop.
 use mathlib.Core.Path.{_≡_, refl, sym, ap, _∙_}
 use mathlib.Core.Bool.{Bool, true, false, cond}
 use mathlib.Core.List.{List, [], _∷_}

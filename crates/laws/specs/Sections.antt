@@ -1,6 +1,4 @@
--- Sections: records of one width, one behind the other, in room for n bytes with zeros behind them, `padded n (joined xs)`. What
--- is laid into a section is a section again: a record appended, replaced or put before another, and some records kept. For every
--- width and every room.
+-- Sections, records of one width with zeros behind them, `padded n (joined xs)`: with a record replaced or put before another, or some kept, they are sections again.
 use mathlib.Core.Path.{_≡_, refl, sym, ap, _∙_}
 use mathlib.Core.Bool.{Bool, true, false, cond}
 use mathlib.Core.List.{List, [], _∷_, _++_, map, append-assoc}

@@ -1,13 +1,12 @@
--- A section at its place in a larger area: what is written into it leaves a section there, and what stands before it and behind
--- it stays.
+-- A section at its place in a larger area: what is written into it leaves a section there, and the rest stays.
 use mathlib.Core.Path.{_≡_, refl, sym, ap, _∙_}
 use mathlib.Core.Bool.{Bool}
 use mathlib.Core.List.{List, [], _∷_, _++_, append-assoc}
 use Prim.Native.Nat.{ℕ, suc, _+_, _-_, _*_, _≤_, _<_}
-use native.Mathlib.Nat.{add-zero, mul-zero, mul-suc, mul-add, mul-le-mul-left}
+use native.Mathlib.Nat.{add-zero, mul-suc, mul-add, mul-le-mul-left}
 use native.Mathlib.Omega.{arith}
 use lib.ListN.{length, getD, take, drop, set, length-set, length-append, length-drop}
-use lib.Seq.{set-append-left, take-at, drop-at, drop-append-add, take-length, drop-length}
+use lib.Seq.{set-append-left, take-at, drop-at, drop-append-add}
 use Rattle.rules.specs.Area.{zeros, padded, joined}
 use Rattle.laws.specs.Laid.{laid, laid-append, laid-past, laid-apart}
 use Rattle.laws.specs.Writing.{Wrote}
@@ -95,14 +94,6 @@ module _ (n : ℕ) {w base : ℕ} {p q area : List ℕ} {xs : List (List ℕ)} (
         let d : w * i + w * (length xs - i) ≡ w * length xs = sym (mul-add w i (length xs - i)) ∙ ap (λ (x : ℕ). w * x) (omega arith) in
         rw (o, ← section-inserted n i s r e h l)
         (stands-laid t (r ++ M) (w * i) (rw (f, length-append) (omega (arith, mul-suc w (length xs)))))
-
-    -- a record written behind the last
-    pub stands-appended : {m : ℕ} {area' : List ℕ} → w * suc (length xs) ≤ n → Wrote r (base + w * length xs) area m area'
-        → Stands p (padded n (joined (xs ++ r ∷ []))) q base area'
-    unfolding moved laid inserted
-    stands-appended l v =
-        let z : w * (length xs - length xs) ≡ 0 = ap (λ (x : ℕ). w * x) (omega arith) ∙ mul-zero w in
-        rw (take-length, drop-length) at (stands-inserted (length xs) (omega arith) l (rw z) v)
 
   -- those that pass a test, laid over all of them
   pub stands-passing : (f : List ℕ → Bool) → w * length xs ≤ n

@@ -1,5 +1,4 @@
--- Steps for the few functions that are proved by a walk of their code: those over a struct that holds a slice, and over a struct that is lent. They say once what every such walk
--- does at its start, at a branch, at a call, at the end of its locals, and at its exit. No parameter's own part is kept for the exit: of plain data and of a `&` a contract says nothing there.
+-- Steps for functions that are proved by a walk of their code, over a struct that holds a slice or is lent: at the start, a branch, a call and the exit.
 use mathlib.Core.Path.{_≡_, refl, subst}
 use mathlib.Core.Bool.{Bool, true, false, not}
 use Prim.Native.Nat.{ℕ, zero}

@@ -1,6 +1,4 @@
--- What a writer ensures and what a writing loop keeps: the records that their contracts and invariants are made of, and the laws
--- that join them. A writer asks nothing. It answers the next place and lays its text as far as the output reaches, so that over an
--- empty output it only measures; and a text that would end beyond every output ends at the furthest place.
+-- What a writer ensures and what a writing loop keeps: the text laid as far as the output reaches, and the place behind it, so that over an empty output it is measured.
 use mathlib.Core.Path.{_≡_, refl, sym, ap, _∙_}
 use mathlib.Core.Logic.{_⊎_, inl, inr}
 use mathlib.Core.List.{List, [], _∷_, _++_}

@@ -1,5 +1,4 @@
--- Lines taken off a text one by one: a law for each way out of the loop to a line's end, and how the lines of a text and its closing line follow from its
--- first line and what stands behind it.
+-- Lines taken off a text one by one: a law for each way out of the loop to a line's end, and the closing line by the first line and the rest.
 use mathlib.Core.Path.{_≡_, refl, sym, ap, _∙_}
 use mathlib.Core.Bool.{Bool, true, false, _&&_, cond}
 use mathlib.Core.List.{List, [], _∷_, _++_, append-assoc, append-nil}
@@ -13,7 +12,7 @@ use lib.Seq.{drop-at, drop-drop}
 use lib.Dec.{leb}
 use borrow.Author.Tests.{le-leb, lt-leb, eq-eqb, ne-eqb}
 use Rattle.rules.specs.Text.{ascii, equal, fits}
-use Rattle.rules.specs.Lines.{Line, TakenLine, lead, takeLine, lines, before, closes, inLines, closing, opening, framed}
+use Rattle.rules.specs.Lines.{Line, TakenLine, lead, takeLine, lines, before, lastIsClosing, inLines, isClosingLine, hasFirstLine, framed}
 use Rattle.laws.specs.Parts.{cut, from, cut-done, cut-snoc, cut-all, from-step, from-done, from-length, from-cut}
 use Rattle.laws.specs.Equal.{equal-true}
 use Rattle.laws.specs.Tests.{not-holds, never, and-left, and-right, none-some}
@@ -128,28 +127,28 @@ plain-bad s at n k p h e c = line-lf s at (at + k) _ (p .same) h c (p .stop (ome
 -- ---- the closing line
 
 closed : inLines (lines (ascii "-\r\n")) ≡ true
-unfolding lines closes equal
+unfolding lines lastIsClosing equal
 closed = refl
 
 -- a text that is more than its closing line closes as what stands behind its first line does
-closes-behind : (l cs : List ℕ) → closing (l ++ 13 ∷ 10 ∷ cs) ≡ false → inLines (lines cs) ≡ inLines (Option·map (before l) (lines cs))
-unfolding closing equal closes
+closes-behind : (l cs : List ℕ) → isClosingLine (l ++ 13 ∷ 10 ∷ cs) ≡ false → inLines (lines cs) ≡ inLines (Option·map (before l) (lines cs))
+unfolding isClosingLine equal lastIsClosing
 closes-behind l cs h = lines-cases (λ (o : Option (List Line)). inLines o ≡ inLines (Option·map (before l) o)) cs refl (λ ls r. same r h)
   where
-    same : {cs : List ℕ} {ls : List Line} → Lined cs ls → closing (l ++ 13 ∷ 10 ∷ cs) ≡ false → closes ls ≡ closes (l ∷ ls)
+    same : {cs : List ℕ} {ls : List Line} → Lined cs ls → isClosingLine (l ++ 13 ∷ 10 ∷ cs) ≡ false → lastIsClosing ls ≡ lastIsClosing (l ∷ ls)
     same end h = not-holds _ (λ e. let z : _≡_ {A = ℕ} 1 0 = (rw (equal-true l (ascii "-") e) at (ap (λ (b : Bool). cond {A = ℕ} b 1 0) h)) in omega arith)
     same (next p r) h = refl
 
 -- nothing stands behind the closing line
-closing-last : (cs : List ℕ) (t : TakenLine) → takeLine cs ≡ some t → closing cs ≡ true → t .others ≡ []
-unfolding closing takeLine lead
+closing-last : (cs : List ℕ) (t : TakenLine) → takeLine cs ≡ some t → isClosingLine cs ≡ true → t .others ≡ []
+unfolding isClosingLine takeLine lead
 closing-last cs t e h =
     let f : takeLine (ascii "-\r\n") ≡ some t = ap (λ (x : List ℕ). takeLine x) (sym (equal-true cs (ascii "-\r\n") h)) ∙ e in
     let u : record { line = 45 ∷ []; others = [] } ≡ t = cc in
     rw (← u)
 
 -- so a line with others behind it is not the closing line
-pub closing-later : (s : List ℕ) (at e : ℕ) → LineEnd s at e → e + 2 < length s → closing (from s at) ≡ false
+pub closing-later : (s : List ℕ) (at e : ℕ) → LineEnd s at e → e + 2 < length s → isClosingLine (from s at) ≡ false
 closing-later s at e l h = sym (not-holds _ (λ c. let z : length (from s (e + 2)) ≡ 0 = ap (λ (x : List ℕ). length x) (closing-last (from s at) _ (l .same) c) in omega (arith, from-length s (e + 2))))
 
 -- a text with a first line, and one without
@@ -157,22 +156,22 @@ lines-taken : (cs : List ℕ) (t : TakenLine) → takeLine cs ≡ some t → lin
 lines-taken cs t e = let f : FirstLine cs t = first-line cs t e in ap lines (f .text) ∙ lines-before (t .line) (t .others) (f .plain)
 
 none-closes : (cs : List ℕ) → takeLine cs ≡ none → inLines (lines cs) ≡ false
-unfolding closes
+unfolding lastIsClosing
 none-closes cs e = lines-cases (λ (o : Option (List Line)). inLines o ≡ false) cs refl (λ ls r. lineless r e)
   where
-    lineless : {cs : List ℕ} {ls : List Line} → Lined cs ls → takeLine cs ≡ none → closes ls ≡ false
+    lineless : {cs : List ℕ} {ls : List Line} → Lined cs ls → takeLine cs ≡ none → lastIsClosing ls ≡ false
     lineless end e = refl
     lineless (next {cs = cs} {l = l} p r) e = none-some (sym e ∙ line-taken l cs p)
 
 -- the loop from line to line: what is left closes as the whole does
 module _ (s : List ℕ) (at : ℕ) (x : Bool) (inv : inLines (lines (from s at)) ≡ x) where
   pub closes-never : length s ≤ at → false ≡ x
-  unfolding lines closes
+  unfolding lines lastIsClosing
   closes-never h = rw (from-done s at h) at inv
 
-  module _ (b : Bool) (u : b ≡ closing (from s at)) where
+  module _ (b : Bool) (u : b ≡ isClosingLine (from s at)) where
     pub closes-now : b ≡ true → true ≡ x
-    unfolding closing
+    unfolding isClosingLine
     closes-now h = sym closed ∙ (rw (equal-true (from s at) (ascii "-\r\n") (sym u ∙ h)) at inv)
 
     pub closes-bad : NoLine s at → false ≡ x
@@ -183,12 +182,12 @@ module _ (s : List ℕ) (at : ℕ) (x : Bool) (inv : inLines (lines (from s at))
 
 -- all that is left, as a part of three bytes
 module _ (s : List ℕ) (at : ℕ) where
-  pub closing-long : (length s - at ≡ 3 → ⊥) → false ≡ closing (from s at)
-  unfolding closing
+  pub closing-long : (length s - at ≡ 3 → ⊥) → false ≡ isClosingLine (from s at)
+  unfolding isClosingLine
   closing-long h = not-holds _ (λ e. h (sym (from-length s at) ∙ ap (λ (l : List ℕ). length l) (equal-true (from s at) (ascii "-\r\n") e)))
 
-  pub closing-part : at ≤ length s → length s - at ≡ 3 → (r : Bool) → r ≡ equal (cut s at (at + 3)) (cut (ascii "-\r\n") 0 3) → r ≡ closing (from s at)
-  unfolding closing
+  pub closing-part : at ≤ length s → length s - at ≡ 3 → (r : Bool) → r ≡ equal (cut s at (at + 3)) (cut (ascii "-\r\n") 0 3) → r ≡ isClosingLine (from s at)
+  unfolding isClosingLine
   closing-part k h r e = e ∙ (rw (from-cut s at (at + 3) (omega arith), cut-all (ascii "-\r\n")))
 
 -- ---- the frame
@@ -200,34 +199,34 @@ last-three p cs h =
     let e : length (p ++ cs) - 3 ≡ length p + (length cs - 3) = omega (arith, length-append p cs) in
     rw e (sym (drop-drop (length cs - 3) (length p) (p ++ cs)) ∙ ap (drop (length cs - 3)) (drop-at p cs (length p) refl))
 
-closing-size : (cs : List ℕ) → closing cs ≡ true → length cs ≡ 3
-unfolding closing
+closing-size : (cs : List ℕ) → isClosingLine cs ≡ true → length cs ≡ 3
+unfolding isClosingLine
 closing-size cs h = ap (λ (l : List ℕ). length l) (equal-true cs (ascii "-\r\n") h)
 
 -- a text ends in the closing line where what stands behind its first line does
-ends-behind : (l cs : List ℕ) → closing (from cs (length cs - 3)) ≡ true → closing (from (l ++ 13 ∷ 10 ∷ cs) (length (l ++ 13 ∷ 10 ∷ cs) - 3)) ≡ true
+ends-behind : (l cs : List ℕ) → isClosingLine (from cs (length cs - 3)) ≡ true → isClosingLine (from (l ++ 13 ∷ 10 ∷ cs) (length (l ++ 13 ∷ 10 ∷ cs) - 3)) ≡ true
 ends-behind l cs h =
     let z : 3 ≤ length cs = omega (arith, closing-size _ h, from-length cs (length cs - 3)) in
     rw (← append-assoc l (13 ∷ 10 ∷ []) cs, last-three (l ++ 13 ∷ 10 ∷ []) cs z) h
 
 -- so does a text in lines whose last one closes it
-lined-ends : {cs : List ℕ} {ls : List Line} → Lined cs ls → closes ls ≡ true → closing (from cs (length cs - 3)) ≡ true
-unfolding closes closing equal from
+lined-ends : {cs : List ℕ} {ls : List Line} → Lined cs ls → lastIsClosing ls ≡ true → isClosingLine (from cs (length cs - 3)) ≡ true
+unfolding lastIsClosing isClosingLine equal from
 lined-ends end h = never h
 lined-ends (next {l = l} p end) h = rw (equal-true l (ascii "-") h)
 lined-ends (next {cs = cs} {l = l} p (next q r)) h = ends-behind l cs (lined-ends (next q r) h)
 
-ends : (s : List ℕ) → inLines (lines s) ≡ true → closing (from s (length s - 3)) ≡ true
-ends s = lines-cases (λ (o : Option (List Line)). inLines o ≡ true → closing (from s (length s - 3)) ≡ true) s never (λ ls r. lined-ends r)
+ends : (s : List ℕ) → inLines (lines s) ≡ true → isClosingLine (from s (length s - 3)) ≡ true
+ends s = lines-cases (λ (o : Option (List Line)). inLines o ≡ true → isClosingLine (from s (length s - 3)) ≡ true) s never (λ ls r. lined-ends r)
 
 module _ (s : List ℕ) where
   pub framed-long : 4096 < length s → false ≡ framed s
   unfolding framed
   framed-long h = rw (lt-leb _ _ h)
 
-  pub framed-open : (b : Bool) → b ≡ closing (from s (length s - 3)) → b ≡ false → false ≡ framed s
+  pub framed-open : (b : Bool) → b ≡ isClosingLine (from s (length s - 3)) → b ≡ false → false ≡ framed s
   unfolding framed
-  framed-open b u k = not-holds _ (λ x. never (sym k ∙ u ∙ ends s (and-right (leb (length s) 4096) (inLines (lines s)) (and-left (leb (length s) 4096 && inLines (lines s)) (opening s) x))))
+  framed-open b u k = not-holds _ (λ x. never (sym k ∙ u ∙ ends s (and-right (leb (length s) 4096) (inLines (lines s)) (and-left (leb (length s) 4096 && inLines (lines s)) (hasFirstLine s) x))))
 
   module _ (h : length s ≤ 4096) (b : Bool) (u : b ≡ inLines (lines s)) where
     pub framed-not : b ≡ false → false ≡ framed s
@@ -235,7 +234,7 @@ module _ (s : List ℕ) where
     framed-not k = rw (le-leb _ _ h, ← u, k)
 
     pub framed-opens : b ≡ true → (r : Bool) → r ≡ fits (ascii "nnn,aaaaaacc,aaaaaacc\r\n") (cut s 0 23) → r ≡ framed s
-    unfolding framed opening cut
+    unfolding framed hasFirstLine cut
     framed-opens k r e = rw (le-leb _ _ h, ← u, k) e
 
 pub ruleset framing = (line-starts, line-out, line-ends, line-cr, line-lf, line-on, plain-starts, plain-on, plain-far, plain-cr, plain-lf, plain-end, closing-long, closing-part, framed-long, framed-open, framed-not, framed-opens)

@@ -7,7 +7,7 @@ use native.Mathlib.Omega.{arith}
 use lib.ListN.{length}
 use lib.Dec.{ltb}
 use borrow.Author.Tests.{ltb-true, ltb-false}
-use Rattle.rules.specs.Lines.{lines, inLines, closing}
+use Rattle.rules.specs.Lines.{lines, inLines, isClosingLine}
 use Rattle.laws.specs.Parts.{from, from-all}
 use Rattle.laws.specs.Tests.{never}
 use Rattle.lines.specs.Answers.{LineEnd, NoLine, line-told, no-line-told}
@@ -54,7 +54,7 @@ module _ (s : List ℕ) (at : ℕ) (t : ToSee s at) where
       less = let m = l .start in omega arith;
     }
 
-    pub last-seen : length s ≤ e + 2 → (b : Bool) → b ≡ closing (from s at) → SeenBehind s at record { more = false; closed = b; at = e + 2 }
+    pub last-seen : length s ≤ e + 2 → (b : Bool) → b ≡ isClosingLine (from s at) → SeenBehind s at record { more = false; closed = b; at = e + 2 }
     last-seen h true u = all-seen true (e + 2) (closes-now s at _ (t .same) true u refl)
     last-seen h false u = all-seen false (e + 2) (closes-never s (e + 2) _ (closes-on s at _ (t .same) false u refl e l) h)
 

@@ -7,7 +7,7 @@ use text::fits_pattern;
 ghost use mathlib.Core.Path.{_≡_};
 ghost use Prim.Native.Nat.{_-_, _≤_};
 ghost use lib.ListN.{length};
-ghost use Rattle.rules.specs.Lines.{lines, inLines, closing, framed};
+ghost use Rattle.rules.specs.Lines.{lines, inLines, isClosingLine, framed};
 ghost use Rattle.laws.specs.Parts.{from};
 ghost use Rattle.lines.specs.Answers.{LineAt};
 ghost use Rattle.lines.specs.Seen.{Seeing, ToSee, SeenBehind};
@@ -15,7 +15,7 @@ ghost use Rattle.lines.specs.Seen.{Seeing, ToSee, SeenBehind};
 // Is all that is left from `at` on the closing line?
 pub fn closes_at(s: &[u8], at: usize) -> bool
     requires { ⌜ at ≤ length (now s) ⌝ }
-    ensures { λ r. ⌜ r ≡ closing (from (now (s .entry)) at) ⌝ }
+    ensures { λ r. ⌜ r ≡ isClosingLine (from (now (s .entry)) at) ⌝ }
 {
     if s.len() - at != 3 {
         return false;
@@ -23,10 +23,13 @@ pub fn closes_at(s: &[u8], at: usize) -> bool
     equal_parts(s, at, b"-\r\n", 0, 3)
 }
 
-// What is seen of a text, line by line: is a line to come, is the last one seen the closing line, and where does the next one begin?
+// What is seen of a text, line by line.
 pub struct Seen {
+    // Is a line to come?
     pub more: bool,
+    // Is the last one seen the closing line?
     pub closed: bool,
+    // Where the next one begins.
     pub at: usize,
 }
 
@@ -86,7 +89,7 @@ fn in_lines(s: &[u8]) -> bool
 
 // Do the last bytes make the closing line?
 fn ends_closed(s: &[u8]) -> bool
-    ensures { λ r. ⌜ r ≡ closing (from (now (s .entry)) (length (now (s .entry)) - 3)) ⌝ }
+    ensures { λ r. ⌜ r ≡ isClosingLine (from (now (s .entry)) (length (now (s .entry)) - 3)) ⌝ }
 {
     if s.len() < 3 {
         return false;

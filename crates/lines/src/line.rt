@@ -3,9 +3,11 @@ ghost use Prim.Native.Nat.{_+_, _≤_};
 ghost use lib.ListN.{length};
 ghost use Rattle.lines.specs.Answers.{LineAt, Plain};
 
-// Where the line ends, CR LF being behind its end; or there is no line.
+// The next line of a text.
 pub enum Next {
+    // The place of the CR LF behind it.
     Line(usize),
+    // There is no line.
     Bad,
 }
 

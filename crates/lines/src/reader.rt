@@ -6,9 +6,11 @@ ghost use Prim.Native.Nat.{_≤_};
 ghost use lib.ListN.{length};
 ghost use Rattle.lines.specs.Answers.{LineAt, over};
 
-// A message, and the place in it from which the next line is handed out.
+// A reader over a message.
 pub struct Reader<'a> {
+    // The message.
     pub text: &'a [u8],
+    // The place from which the next line is handed out.
     pub at: usize,
 }
 

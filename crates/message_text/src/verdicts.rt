@@ -23,11 +23,15 @@ pub fn parts_of(returned: u32) -> u32
     ((returned as u16 + 13) / 14) as u32
 }
 
-// Where the parts of an MT199 have come to: the place in the output, the first detail that is in no part, how many parts are left, and the number of part 1.
+// How far the parts of an MT199 have come.
 pub struct Parting {
+    // The place in the output.
     pub out: usize,
+    // The first detail that is in no part.
     pub detail: u32,
+    // How many parts are left.
     pub left: u32,
+    // The number of part 1.
     pub first: u32,
 }
 

@@ -2,21 +2,27 @@
 ghost use Prim.Native.Nat.{_+_, _<_, _^_};
 ghost use Rattle.outgoing_number.specs.Issue.{Steps};
 
-// The outgoing number: the day, and how many messages were numbered on it.
+// The outgoing number.
 pub struct Outgoing {
+    // The day.
     pub day: u32,
+    // How many messages were numbered on it.
     pub count: u32,
 }
 
 // What a message's reference is made of.
 pub struct Reference {
+    // The day.
     pub day: u32,
+    // The number on it, from 1.
     pub number: u32,
 }
 
-// What numbered messages come to: the place behind the last of them, and the count then kept.
+// How far numbered messages have come.
 pub struct Numbered {
+    // The place behind the last of them.
     pub at: usize,
+    // The outgoing count that is then kept.
     pub count: u32,
 }
 

@@ -13,6 +13,7 @@ pub struct Key {
 
 // A position.
 pub struct Position {
+    // Its bank and date.
     pub key: Key,
     // The sum of its MT103.
     pub transferred: u64,

@@ -1,5 +1,4 @@
-// Writers. Each lays its text over the output from a place on, as far as the output reaches, and answers the place behind the text:
-// over an empty output it only measures.
+// Writers: each lays its text over the output, as far as that reaches, and answers the place behind it; over an empty output it only measures.
 mod amount;
 mod digits;
 mod groups;

@@ -1,5 +1,4 @@
--- An account line's form, part by part: the signs of its IBAN follow from the IBAN's shape, and behind it stand two bounds, a comma before each. A law for
--- each way out of the tests of those parts.
+-- An account line's form, part by part: the signs of its IBAN follow from the IBAN's shape, and behind it stand two bounds, a comma before each.
 use mathlib.Core.Path.{_≡_, refl, sym, _∙_}
 use mathlib.Core.Bool.{Bool, true, false, _&&_, _||_, cond}
 use mathlib.Core.List.{List, [], _∷_}

@@ -1,5 +1,4 @@
--- The places of a register's text: its first line has 24 bytes and each account line 38, so account line i begins at 24 + 38 i. Here is what stands there,
--- and the tests of it.
+-- The places of a register's text: its first line has 24 bytes and each account line 38, so that account line i begins at 24 + 38 i.
 use mathlib.Core.Path.{_≡_}
 use mathlib.Core.Bool.{Bool, _&&_, not}
 use mathlib.Core.List.{List, [], _∷_, map}

@@ -1,5 +1,4 @@
--- The register's text looked through line by line: a law for each way on and out of a loop, with its invariant first, the orders next and the
--- test, as a call answered it, last.
+-- The register's text looked through line by line: a law for each way on and out of a loop.
 use mathlib.Core.Path.{_≡_}
 use mathlib.Core.Bool.{Bool, true, false}
 use mathlib.Core.List.{List}

@@ -12,9 +12,11 @@ ghost use Rattle.register.specs.Answers.{foundOf};
 ghost use Rattle.register.specs.Places.{count};
 ghost use Rattle.register.specs.Passed.{LinePlace};
 
-// The account line of an IBAN, counted from 0, or none.
+// The search for an IBAN among the account lines.
 pub enum Found {
+    // The line, counted from 0.
     At(usize),
+    // None has it.
     Nothing,
 }
 

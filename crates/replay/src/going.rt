@@ -24,8 +24,7 @@ fn read_more(input: &mut [u8], n: usize) -> usize
     n + io::count(got, &input[n..])
 }
 
-// Turn by turn until no command follows, the input ends or nobody takes what is printed. Nothing says that an input ends, so the turns are counted
-// down from a number that no run uses up.
+// Turn by turn until no command follows, the input ends or nobody takes what is printed; counted down from a number that no run uses up.
 fn replay_input(input: &mut [u8], area: &mut [u8], out: &mut [u8], printed: &mut [u8])
     requires { ⌜ WindowReady (now input) 0 0 (now area) (now out) (now printed) ⌝ }
 {

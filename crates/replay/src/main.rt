@@ -1,5 +1,4 @@
-// The replay program: reads a day's commands from standard input and prints the card's answers, command by command, so that a day may have any
-// length. `--room N` gives the output another room than 32,768 bytes.
+// The replay program: reads commands from standard input and prints the card's answers; `--room N` gives the output another room than 32,768 bytes.
 mod going;
 mod words;
 

@@ -2,9 +2,11 @@
 use text::Num;
 ghost use Rattle.replay.specs.Going.{RoomWithin};
 
-// The room of the output that is asked for; or the words say something else.
+// What the words on the command line ask for.
 pub enum Room {
+    // The room of the output.
     Bytes(usize),
+    // They say something else.
     Unknown,
 }
 

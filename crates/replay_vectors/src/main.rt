@@ -1,5 +1,4 @@
-// Replays days and compares what is printed with what is expected. The arguments name them by three words each: the input's file, the file of the
-// output expected, and how many bytes of output the card is lent.
+// Replays days and compares what is printed with what is expected: three words for each, the input's file, the expected output's, and the output's room.
 use libc::STDOUT_FILENO;
 use text::Num;
 ghost use mathlib.Core.Path.{_≡_};

@@ -9,7 +9,7 @@ use lib.ListN.{length, getD}
 use Rattle.rules.specs.Text.{ascii, every, equal}
 use Rattle.rules.specs.Dates.{date}
 use Rattle.rules.specs.Amounts.{amount}
-use Rattle.rules.specs.Lines.{Line, TakenLine, takeLine, closing, type, sender, body}
+use Rattle.rules.specs.Lines.{Line, TakenLine, takeLine, isClosingLine, type, sender, body}
 use Rattle.rules.specs.Forms.{Row, TakenRows, fitsRow, leadRows, takeRows, transferRows, orderRows, detailRows}
 use Rattle.rules.specs.Messages.{Message, mt103, mt101, Transfer, Order, Detail, TakenDetail, lineOf, date32A, amount32A, baerefDate103, amount32B, dateCentrb, dateBaeref, transferOf, detailOf, takeDetail, details, readTransfer, readOrder, read}
 use Rattle.laws.specs.Tests.{never, none-some}
@@ -87,7 +87,7 @@ pub data DetailsRead : List Detail → Type 0 where
 details-read : (k : ℕ) (cs : List ℕ) (ds : List Detail) → details k cs ≡ some ds → DetailsRead ds
 unfolding details
 details-read zero cs ds h = none-some h
-details-read (suc k) cs ds h = let t : Came (takeDetail cs) _ ds = came _ _ h in go (t .value) (closing (t .value .others)) (detail-read cs (t .value) (t .is)) (details-read k) (t .gives)
+details-read (suc k) cs ds h = let t : Came (takeDetail cs) _ ds = came _ _ h in go (t .value) (isClosingLine (t .value .others)) (detail-read cs (t .value) (t .is)) (details-read k) (t .gives)
   where
     go : (t : TakenDetail) (b : Bool) → DetailRead (t .detail) → ((es : List ℕ) (xs : List Detail) → details k es ≡ some xs → DetailsRead xs)
         → cond b (some (t .detail ∷ [])) (Option·map (λ (xs : List Detail). t .detail ∷ xs) (details k (t .others))) ≡ some ds → DetailsRead ds
@@ -123,7 +123,7 @@ transfer-as s m h =
     let d : Came (date (date32A (r .value .rows))) _ (t .value) = came _ _ (t .is) in
     let a : Came (amount (amount32A (r .value .rows))) _ (t .value) = came _ _ (d .gives) in
     let b : Came (date (baerefDate103 (r .value .rows))) _ (t .value) = came _ _ (a .gives) in
-    let g : Gave (closing (r .value .others)) (mt103 (t .value)) m = gave _ _ (t .gives) in
+    let g : Gave (isClosingLine (r .value .others)) (mt103 (t .value)) m = gave _ _ (t .gives) in
     rw (← g .is, ← some-is (b .gives)) (transfer record {
       sent = refl;
       rows = rows-read transferRows (body s) (r .value) (r .is);

@@ -10,25 +10,25 @@ use Rattle.rules.specs.Amounts.{amount, levs, decimals}
 use Rattle.rules.specs.Accounts.{passes, ibanShape, control, remainder, numeral, withSign}
 
 -- what a marked text is tried as
-pub data Kind : Type 0 where
-  iban : Kind
-  sum : Kind
-  day : Kind
+pub data TriedAs : Type 0 where
+  iban : TriedAs
+  sum : TriedAs
+  day : TriedAs
 
 -- a marked case: its kind, its text, and what it means
 pub record Case : Type 0 where
-  pub kind : Kind
+  pub kind : TriedAs
   pub text : String
   pub means : Option ℕ
 
 -- an IBAN that passes means 1
-abbrev pub meaning : Kind → List ℕ → Option ℕ
+abbrev pub meaning : TriedAs → List ℕ → Option ℕ
 meaning iban cs = given (passes cs) 1
 meaning sum cs = amount cs
 meaning day cs = date cs
 
 -- a row of the table
-abbrev pub case : Kind → String → Option ℕ → Case
+abbrev pub case : TriedAs → String → Option ℕ → Case
 case k s o = record { kind = k; text = s; means = o }
 
 -- "Marked cases": IBANs that pass and fail, amounts, dates that exist and don't

@@ -138,8 +138,7 @@ unfoldable pub goodReferences : List Reference → Bool
 goodReferences [] = true
 goodReferences (r ∷ rs) = let q = goodReferences rs in cond (goodReference r) q false
 
--- the engine is within the limits: a register that passes 9, an existing day, "positions distinct and dated no later than the day, references of one sender distinct,
--- at most 64 of them in all, outgoing number at most 32 + 18 × their count"; positions and references in their order are distinct
+-- the engine is within the limits: "positions distinct and dated no later than the day, references of one sender distinct, at most 64 of them in all, outgoing number at most 32 + 18 × their count"
 unfoldable pub within : Engine → Bool
 within e =
     isSome (register (e .register))

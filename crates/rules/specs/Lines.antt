@@ -29,7 +29,7 @@ takeLine (c ∷ d ∷ cs) =
     let on = lead (c ∷ []) (takeLine (d ∷ cs)) in
     cond (eqb c 13) (cond (eqb d 10) (some record { line = []; others = cs }) none) (cond (eqb c 10) none on)
 
--- a byte before the first of some lines
+-- a byte before the first of some lines, or of some parts of a line
 abbrev pub begun : ℕ → List Line → List Line
 begun c [] = (c ∷ []) ∷ []
 begun c (l ∷ ls) = (c ∷ l) ∷ ls
@@ -48,27 +48,27 @@ lines (c ∷ d ∷ cs) =
     cond (eqb c 13) (cond (eqb d 10) ended none) (cond (eqb c 10) none on)
 
 -- "last line `-`"
-unfoldable pub closes : List Line → Bool
-closes [] = false
-closes (l ∷ []) = equal l (ascii "-")
-closes (l ∷ m ∷ ls) = closes (m ∷ ls)
+unfoldable pub lastIsClosing : List Line → Bool
+lastIsClosing [] = false
+lastIsClosing (l ∷ []) = equal l (ascii "-")
+lastIsClosing (l ∷ m ∷ ls) = lastIsClosing (m ∷ ls)
 
 -- "lines ended by CR LF, last line `-`"
 abbrev pub inLines : Option (List Line) → Bool
 inLines none = false
-inLines (some ls) = closes ls
+inLines (some ls) = lastIsClosing ls
 
 -- all that is left of a message is its closing line
-unfoldable pub closing : List ℕ → Bool
-closing cs = equal cs (ascii "-\r\n")
+unfoldable pub isClosingLine : List ℕ → Bool
+isClosingLine cs = equal cs (ascii "-\r\n")
 
 -- "First line `type,sender,receiver`: three digits .., two BICs"
-unfoldable pub opening : List ℕ → Bool
-opening s = fits (ascii "nnn,aaaaaacc,aaaaaacc\r\n") (take 23 s)
+unfoldable pub hasFirstLine : List ℕ → Bool
+hasFirstLine s = fits (ascii "nnn,aaaaaacc,aaaaaacc\r\n") (take 23 s)
 
 -- "At most 4,096 bytes, lines ended by CR LF, last line `-`."
 unfoldable pub framed : List ℕ → Bool
-framed s = leb (length s) 4096 && inLines (lines s) && opening s
+framed s = leb (length s) 4096 && inLines (lines s) && hasFirstLine s
 
 -- "`type,sender,receiver`": three digits
 unfoldable pub type : List ℕ → List ℕ

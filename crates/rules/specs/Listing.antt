@@ -7,13 +7,13 @@ use Rattle.rules.specs.Text.{ascii, isDigit, isLetter, isAlnum, isText, 
 use Rattle.rules.specs.Dates.{leapRow, monthLength, exists, date}
 use Rattle.rules.specs.Amounts.{decimals, levs, amount, written}
 use Rattle.rules.specs.Accounts.{isBic, ibanShape, withSign, numeral, remainder, control, passes}
-use Rattle.rules.specs.Lines.{lead, takeLine, lines, closes, closing, opening, framed, type, sender, receiver, body}
+use Rattle.rules.specs.Lines.{lead, takeLine, lines, lastIsClosing, isClosingLine, hasFirstLine, framed, type, sender, receiver, body}
 use Rattle.rules.specs.Forms.{textLine, fitsRest, fitsRow, leadRows, takeRows}
-use Rattle.rules.specs.Messages.{transferOf, detailOf, takeDetail, details, readTransfer, readOrder, read, senderOf, referenceOf, detailsOf, firstDate, dateOf, transferredBy, sumOf, detailedBy}
+use Rattle.rules.specs.Messages.{transferOf, detailOf, takeDetail, details, readTransfer, readOrder, read, senderOf, referenceOf, detailsOf, firstDate, dateOf, transferredBy, sumOfAmounts, detailedBy}
 use Rattle.rules.specs.Register.{accountLine, accountLines, sound, ofLines, register, registerOf}
 use Rattle.rules.specs.Verdict.{found, shaped, inBounds, judged, verdict, isReturned}
 use Rattle.rules.specs.Engine.{isBank, keyBefore, sameKey, positionOf, isOpen, booked, hasDetails, kept, slashesFrom, slashed, sameReference, precedes, filed, goodPosition, goodPositions, goodReference, goodReferences, within}
-use Rattle.rules.specs.Written.{posting, reference, firstLine, field, returnedRows, allReturned, linked, position79, closed79, mt199, partsOf, mt199s, verdicts, field72, mt204, mt205, corrected, isRefund, correctionPosting, correction, correctionPostings, corrections, correctedCount}
+use Rattle.rules.specs.Written.{posting, reference, firstLine, field, returnedRows, allReturned, linked, position79, closed79, mt199, partsOf, mt199s, verdicts, field72, mt204, mt205, corrected, isRefunded, correctionPosting, correction, correctionPostings, corrections, correctedCount}
 use Rattle.rules.specs.Calls.{firstOf, answered, holdsOf, openStops, acceptedOpening, opened, openCall, addressed, badReference, badSum, badAmount, foreignPayer, badAccount, manyDates, misdated, positionAfter, noRoom, overLimit, returnedOf, detailPosting, detailPostings, postings, hasVerdict, messagesWritten, messageText, afterMessage, formStops, inputStops, limitStops, roomStops, stateStops, messageStops, acceptedMessage, bothOf, messageCall, turnText, turnStops, refunded, collected, afterTurn, acceptedTurn, turnCall}
 use Rattle.rules.specs.Replay.{replay, sixDigits, lengthOf, withBytes, commandOf, command, signed, printed, called, onward, replayFrom, replayIn}
 
@@ -117,5 +117,5 @@ output =
 
 -- the replay of the one is the other, byte for byte
 pub listing : replay (lined input) ≡ lined output
-unfolding isDigit isLetter isAlnum isText every run equal fitsSign fits digitsFrom places width numberFrom over leapRow monthLength exists date decimals levs amount written isBic ibanShape withSign numeral remainder control passes lead takeLine lines closes closing opening framed type sender receiver body textLine fitsRest fitsRow leadRows takeRows transferOf detailOf takeDetail details readTransfer readOrder read senderOf referenceOf detailsOf firstDate dateOf transferredBy sumOf detailedBy accountLine accountLines any twice ordered textBefore sound ofLines register registerOf found shaped inBounds judged verdict isReturned isBank keyBefore sameKey positionOf isOpen booked hasDetails kept slashesFrom slashed sameReference precedes filed goodPosition goodPositions goodReference goodReferences within posting reference firstLine field returnedRows allReturned linked position79 closed79 mt199 partsOf mt199s verdicts field72 mt204 mt205 corrected isRefund correctionPosting correction correctionPostings corrections correctedCount firstOf answered holdsOf openStops acceptedOpening opened openCall addressed badReference badSum badAmount foreignPayer badAccount manyDates misdated positionAfter noRoom overLimit returnedOf detailPosting detailPostings postings hasVerdict messagesWritten messageText afterMessage formStops inputStops limitStops roomStops stateStops messageStops acceptedMessage bothOf messageCall turnText turnStops refunded collected afterTurn acceptedTurn turnCall sixDigits lengthOf withBytes commandOf command signed printed called onward replayFrom replayIn
+unfolding isDigit isLetter isAlnum isText every run equal fitsSign fits digitsFrom places width numberFrom over leapRow monthLength exists date decimals levs amount written isBic ibanShape withSign numeral remainder control passes lead takeLine lines lastIsClosing isClosingLine hasFirstLine framed type sender receiver body textLine fitsRest fitsRow leadRows takeRows transferOf detailOf takeDetail details readTransfer readOrder read senderOf referenceOf detailsOf firstDate dateOf transferredBy sumOfAmounts detailedBy accountLine accountLines any twice ordered textBefore sound ofLines register registerOf found shaped inBounds judged verdict isReturned isBank keyBefore sameKey positionOf isOpen booked hasDetails kept slashesFrom slashed sameReference precedes filed goodPosition goodPositions goodReference goodReferences within posting reference firstLine field returnedRows allReturned linked position79 closed79 mt199 partsOf mt199s verdicts field72 mt204 mt205 corrected isRefunded correctionPosting correction correctionPostings corrections correctedCount firstOf answered holdsOf openStops acceptedOpening opened openCall addressed badReference badSum badAmount foreignPayer badAccount manyDates misdated positionAfter noRoom overLimit returnedOf detailPosting detailPostings postings hasVerdict messagesWritten messageText afterMessage formStops inputStops limitStops roomStops stateStops messageStops acceptedMessage bothOf messageCall turnText turnStops refunded collected afterTurn acceptedTurn turnCall sixDigits lengthOf withBytes commandOf command signed printed called onward replayFrom replayIn
 listing = refl

@@ -8,7 +8,7 @@ use lib.ListN.{length, getD, take, drop}
 use Rattle.rules.specs.Text.{ascii, equal, then, given}
 use Rattle.rules.specs.Dates.{date}
 use Rattle.rules.specs.Amounts.{amount}
-use Rattle.rules.specs.Lines.{Line, closing, type, sender, body}
+use Rattle.rules.specs.Lines.{Line, isClosingLine, type, sender, body}
 use Rattle.rules.specs.Forms.{takeRows, transferRows, orderRows, detailRows, message20, transfer32A, transfer59, transferBaeref, detail21, detail32B, detail50H, detail52D, detail59, detailCentrb, detailBaeref}
 
 -- the line of a row
@@ -129,7 +129,7 @@ details zero cs = none
 details (suc k) cs =
     then (takeDetail cs) (λ d.
     let more = Option·map (λ ds. d .detail ∷ ds) (details k (d .others)) in
-    cond (closing (d .others)) (some (d .detail ∷ [])) more)
+    cond (isClosingLine (d .others)) (some (d .detail ∷ [])) more)
 
 -- ---- messages
 
@@ -149,7 +149,7 @@ unfoldable pub readTransfer : List ℕ → Option Message
 readTransfer s =
     then (takeRows transferRows (body s)) (λ r.
     then (transferOf (sender s) (r .rows)) (λ t.
-    given (closing (r .others)) (mt103 t)))
+    given (isClosingLine (r .others)) (mt103 t)))
 
 -- an MT101, from its bytes
 unfoldable pub readOrder : List ℕ → Option Message
@@ -195,10 +195,10 @@ transferredBy (mt103 t) = t .amount
 transferredBy (mt101 o) = 0
 
 -- "all its 32B amounts"
-unfoldable pub sumOf : List Detail → ℕ
-sumOf [] = 0
-sumOf (d ∷ ds) = d .amount + sumOf ds
+unfoldable pub sumOfAmounts : List Detail → ℕ
+sumOfAmounts [] = 0
+sumOfAmounts (d ∷ ds) = d .amount + sumOfAmounts ds
 
 -- what it adds to its position's detailed, "credited and returned both"
 unfoldable pub detailedBy : Message → ℕ
-detailedBy m = sumOf (detailsOf m)
+detailedBy m = sumOfAmounts (detailsOf m)

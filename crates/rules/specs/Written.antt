@@ -136,19 +136,19 @@ unfoldable pub corrected : Position → Bool
 corrected p = hasDetails p && not (eqb (p .transferred) (p .detailed))
 
 -- "transferred minus detailed is refunded if positive (MT205), collected if negative (MT204)"
-unfoldable pub isRefund : Position → Bool
-isRefund p = leb (p .detailed) (p .transferred)
+unfoldable pub isRefunded : Position → Bool
+isRefunded p = leb (p .detailed) (p .transferred)
 
 -- the posting line of a correction
 unfoldable pub correctionPosting : ℕ → List ℕ → Position → List ℕ
 correctionPosting day temporary p =
     let b : Book = record { day = day; temporary = temporary; bank = p .key .bank; date = p .key .date } in
-    cond (isRefund p) (toBank b (p .transferred - p .detailed)) (fromBank b (p .detailed - p .transferred))
+    cond (isRefunded p) (toBank b (p .transferred - p .detailed)) (fromBank b (p .detailed - p .transferred))
 
 -- the message of a correction: MT205 or MT204
 unfoldable pub correction : ℕ → List ℕ → ℕ → Position → List ℕ
 correction day temporary n p =
-    cond (isRefund p) (mt205 day n p (p .transferred - p .detailed)) (mt204 day temporary n p (p .detailed - p .transferred))
+    cond (isRefunded p) (mt205 day n p (p .transferred - p .detailed)) (mt204 day temporary n p (p .detailed - p .transferred))
 
 -- the posting lines of a turn, "in the order of .. positions"
 unfoldable pub correctionPostings : ℕ → List ℕ → List Position → List ℕ

@@ -26,14 +26,14 @@ use Rattle.conditions.specs.declared.booking.Booking.{Booking}
 
 -- ---- single tests
 
--- 15, of both totals
 -- what a message adds to its position
-abbrev pub addedBy : Booking → P.Position
-addedBy b = record { key = b .key; transferred = amountIf (b .transfer) (b .amount); detailed = amountIf (not (b .transfer)) (b .amount) }
+abbrev pub additionBy : Booking → P.Position
+additionBy b = record { key = b .key; transferred = amountIf (b .transfer) (b .amount); detailed = amountIf (not (b .transfer)) (b .amount) }
 
-pub added-made : (b : Booking) {t d : ℕ} → t ≡ amountIf (b .transfer) (b .amount) → d ≡ amountIf (not (b .transfer)) (b .amount) → _≡_ {A = P.Position} (record { key = b .key; transferred = t; detailed = d }) (addedBy b)
+pub added-made : (b : Booking) {t d : ℕ} → t ≡ amountIf (b .transfer) (b .amount) → d ≡ amountIf (not (b .transfer)) (b .amount) → _≡_ {A = P.Position} (record { key = b .key; transferred = t; detailed = d }) (additionBy b)
 added-made b e f = rw (e, f)
 
+-- 15, of both totals
 unfoldable pub overBy : Totals → Booking → Bool
 overBy t b = not (leb (t .transferred + amountIf (b .transfer) (b .amount)) limit) || not (leb (t .detailed + amountIf (not (b .transfer)) (b .amount)) limit)
 

@@ -16,7 +16,7 @@ ghost use Rattle.details.specs.Message.{messageIn};
 ghost use Rattle.conditions.specs.Books.{Books, amountIf, misdatedBy};
 ghost use Rattle.position.specs.Values.{keyValue};
 ghost use Rattle.engine.specs.Totals.{TotalsOf};
-ghost use Rattle.state_conditions.specs.Stops.{addedBy, overBy, restNumber};
+ghost use Rattle.state_conditions.specs.Stops.{additionBy, overBy, restNumber};
 
 // 11: an MT103 not dated on the day, an MT101 dated after it?
 fn is_misdated(b: Booking, day: u32) -> bool
@@ -54,7 +54,7 @@ pub fn detailed_by(b: Booking) -> u64
 
 // What it adds to its position.
 pub fn added_by(b: Booking) -> Position
-    ensures { λ r. ⌜ r ≡ addedBy b ⌝ }
+    ensures { λ r. ⌜ r ≡ additionBy b ⌝ }
 {
     let key = b.key;
     Position {

@@ -106,11 +106,15 @@ pub fn texts_at(s: &[u8], a: usize, n: u32) -> u32
     k
 }
 
-// The classes by name.
+// A class of bytes.
 pub enum Class {
+    // A digit, `n` in a pattern.
     Digit,
+    // A capital letter, `a` in a pattern.
     Letter,
+    // A digit or a capital letter, `c` in a pattern.
     Alnum,
+    // A byte of a text, T.
     Text,
 }
 

@@ -11,9 +11,11 @@ ghost use Rattle.laws.specs.Values.{Valued};
 ghost use Rattle.text.specs.Answers.{Small, numOf};
 ghost use Rattle.text.specs.Numbers.{NumberAt};
 
-// A number that was read, or none.
+// The reading of a number.
 pub enum Num {
+    // The number.
     Value(u64),
+    // There is none.
     Bad,
 }
 

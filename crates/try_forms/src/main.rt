@@ -1,5 +1,4 @@
-// Reads messages and writes a line for each: `@NAME` and a line end, then the message's bytes up to the next `@`. What is written is the name and the lowest number of 1 to 8
-// that stops the message; or 0 and its parts: field 20, date and amount, or field 20, date, sum and then field 21's line and the amount of each detail.
+// Reads messages, `@NAME` and the bytes up to the next `@`, and writes for each the lowest number of 1 to 8 that stops it, or 0 and its parts.
 use conditions::Checked;
 use forms::DETAIL_21;
 use forms::Span;

@@ -1,5 +1,4 @@
-// Reads registers and fields 59 and writes a line for each: `#NAME`, a line end and a register's text, which passes or falls under 9; `@FIELD` and a line end,
-// judged by the register before it.
+// Reads registers, `#NAME` and the text, which passes or falls under 9, and fields 59, `@FIELD`, which are judged by the register before them.
 use verdict::Cause;
 use verdict::Verdict;
 ghost use Prim.Native.Nat.{_≤_};

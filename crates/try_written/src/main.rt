@@ -1,5 +1,4 @@
-// Writes texts of worked days from their numbers: the posting lines of the listing in document 01, a turn that collects from one position and refunds another, and the rows around the
-// returned details of an MT199, of its only part and of its second one.
+// Writes texts of worked days: the listing's posting lines, a turn that collects and refunds, and the rows around the returned details of an MT199.
 use position::Key;
 use position::Position;
 use written::Book;

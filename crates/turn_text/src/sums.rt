@@ -12,9 +12,11 @@ ghost use Rattle.position.specs.Values.{positionValue};
 ghost use Rattle.engine.specs.Positions.{positionsFrom};
 ghost use Rattle.turn_text.specs.Sums.{Adds, SumsOf};
 
-// The sum refunded and the sum collected.
+// The sums of a turn.
 pub struct Sums {
+    // The sum refunded.
     pub refunded: u64,
+    // The sum collected.
     pub collected: u64,
 }
 

@@ -17,12 +17,17 @@ ghost use Rattle.details.specs.Kept.{LinesIn};
 ghost use Rattle.verdict.specs.Answers.{verdictOf, verdictBy, judgedIn, Listed, CodeOf};
 ghost use Rattle.verdict.specs.Details.{VerdictsIn};
 
-// A detail and its verdict: its amount, and the lines of 52D, 59 and BAEREF.
+// A detail with its verdict.
 pub struct Judged {
+    // Its amount.
     pub amount: u64,
+    // 52D's first line.
     pub branch: Span,
+    // 59's account line.
     pub account: Span,
+    // The line of BAEREF.
     pub baeref: Span,
+    // Its verdict.
     pub verdict: Verdict,
 }
 

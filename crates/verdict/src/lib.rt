@@ -16,17 +16,23 @@ ghost use Rattle.rules.specs.Verdict.{accountAt, shaped, inBounds, verdict};
 ghost use Rattle.laws.specs.Parts.{cut};
 ghost use Rattle.verdict.specs.Answers.{verdictOf};
 
-// Why a detail is returned, the first cause that holds.
+// Why a detail is returned: the first cause that holds.
 pub enum Cause {
+    // Its account is no IBAN, alone or with a payment code.
     WrongShape,
+    // The IBAN's control fails.
     WrongControl,
+    // The register has no such IBAN.
     NotInRegister,
+    // The payment code is outside its bounds.
     OutOfBounds,
 }
 
-// A detail is credited, with the account line found, counted from 0, or returned.
+// The verdict on a detail.
 pub enum Verdict {
+    // Credited: the account line found, counted from 0.
     Credited(usize),
+    // Returned: the cause.
     Returned(Cause),
 }
 

@@ -1,5 +1,4 @@
--- `forms::rows::read_rows` meets its contract, by a walk of its code with a loop in it. Before each turn the reader stands where the next row's line begins; a turn hands a copy of it to `take_line`, the line to `match_line`, and either ends the walk
--- or keeps the line's part and moves the reader. What the text owns is kept, and lent to each call.
+-- `forms::rows::read_rows` meets its contract, by a walk: in each turn the reader's line goes to `match_line`, which ends the walk or keeps the line's part.
 use mathlib.Core.Path.{_≡_, refl, ap, _∙_}
 use mathlib.Core.Bool.{Bool, true, false}
 use mathlib.Core.WellFounded.{WellFounded, InvImage·wf}

@@ -1,5 +1,4 @@
--- `lines::frame::in_lines` meets its contract, by a walk of its code with a loop in it. Before each turn the reader stands where the next line begins; a turn hands a copy of it to `take_line`, the line to `line_seen`, and moves the reader to the
--- place behind the line. What the text owns is kept, and lent to each call.
+-- `lines::frame::in_lines` meets its contract, by a walk: in each turn the reader's line goes to `line_seen`, and the reader to the place behind it.
 use mathlib.Core.Path.{_≡_, refl, ap, _∙_}
 use mathlib.Core.Bool.{Bool, true, false}
 use mathlib.Core.WellFounded.{WellFounded, InvImage·wf}

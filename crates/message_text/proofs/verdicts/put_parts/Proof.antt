@@ -1,5 +1,4 @@
--- `message_text::verdicts::put_parts` meets its contract, by a walk of its code. In each turn of the loop the outgoing number is lent to `issue`, and the output to `put_part`, each for a lifetime of that call; both are back when the turn ends, and by the
--- number as it is then kept the parts from t on are left to write. What a part is written from goes to `put_part` as a copy.
+-- `message_text::verdicts::put_parts` meets its contract, by a walk: in each turn the outgoing number is lent to `issue` and the output to `put_part`.
 use mathlib.Core.Path.{_≡_, refl, ap}
 use mathlib.Core.Bool.{Bool}
 use mathlib.Core.Logic.{inl, inr}

@@ -1,5 +1,4 @@
--- `text::numbers::read_be` meets its contract. The loop's invariant: the number so far, with the bytes that are left behind it, is the number of the part,
--- and it has no more places than bytes were read.
+-- `text::numbers::read_be` meets its contract: the number so far, with the bytes that are left behind it, is the number of the part.
 use mathlib.Core.Path.{_≡_}
 use Prim.Native.Nat.{_≤_, _<_, _-_}
 use borrow.Author.Needs.{needs}

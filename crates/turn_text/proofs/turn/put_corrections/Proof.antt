@@ -1,5 +1,4 @@
--- `turn_text::turn::put_corrections` meets its contract, by a walk of its code. In each turn of the loop the outgoing number is lent to `issue`, and the output to `put_next`, each for a lifetime of that call; both are back when the turn ends, and by the
--- number as it is then kept the messages from t on are left to write.
+-- `turn_text::turn::put_corrections` meets its contract, by a walk: in each turn the outgoing number is lent to `issue` and the output to `put_next`.
 use mathlib.Core.Path.{refl, ap}
 use mathlib.Core.Bool.{Bool}
 use mathlib.Core.Logic.{inl, inr}
