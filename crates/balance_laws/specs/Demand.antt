@@ -12,7 +12,7 @@ use Rattle.rules.specs.Register.{registerOf}
 use Rattle.rules.specs.Engine.{Position, hasDetails}
 use Rattle.rules.specs.Calls.{opened}
 use Rattle.rules.specs.Area.{Result, cardOpen}
-use Rattle.rules.specs.Ledger.{Kind, Event, fedWith, isTurn, messageOf, ledgerFrom, ledgerOf, transferredOf, detailedOf, held, sumOf, sinceTurn, accepted, untouched}
+use Rattle.rules.specs.Ledger.{Kind, Event, applied, isTurn, messageOf, ledgerFrom, ledgerOf, transferredOf, detailedOf, held, sumOf, sinceTurn, accepted, untouchedOf}
 use Rattle.rules.specs.Demand3.{Call, result, Ran, ran, Demand3}
 use Rattle.laws.specs.Tests.{never}
 use Rattle.engine_laws.specs.Calls.{Opens, open-accepted, done-holds}
@@ -31,17 +31,17 @@ picked f false x y = refl
 module _ (e : Event) (es : List Event) where
   ledger-next : (ledger : List Position) → ledgerFrom ledger (e ∷ es) ≡ ledgerFrom (ledgerFrom ledger (e ∷ [])) es
   unfolding ledgerFrom
-  ledger-next ledger = picked (λ (l : List Position). ledgerFrom l es) (eqb (e .number) 0) (fedWith (e .fed) ledger) ledger
+  ledger-next ledger = picked (λ (l : List Position). ledgerFrom l es) (eqb (e .number) 0) (applied (e .request) ledger) ledger
 
   turned-next : (b : Bool) → sinceTurn b (e ∷ es) ≡ sinceTurn (sinceTurn b (e ∷ [])) es
   unfolding sinceTurn
-  turned-next b = picked (λ (t : Bool). sinceTurn t es) (eqb (e .number) 0) (isTurn (e .fed)) b
+  turned-next b = picked (λ (t : Bool). sinceTurn t es) (eqb (e .number) 0) (isTurn (e .request)) b
 
   accepted-next : (sent : List Message) → sent ++ accepted (e ∷ es) ≡ sent ++ accepted (e ∷ []) ++ accepted es
   unfolding accepted
   accepted-next sent =
-      ap (λ (ms : List Message). sent ++ ms) (picked (λ (ms : List Message). ms ++ accepted es) (eqb (e .number) 0) (messageOf (e .fed)) [])
-      ∙ sym (append-assoc sent (cond (eqb (e .number) 0) (messageOf (e .fed)) []) (accepted es)) ∙ rw append-nil
+      ap (λ (ms : List Message). sent ++ ms) (picked (λ (ms : List Message). ms ++ accepted es) (eqb (e .number) 0) (messageOf (e .request)) [])
+      ∙ sym (append-assoc sent (cond (eqb (e .number) 0) (messageOf (e .request)) []) (accepted es)) ∙ rw append-nil
 
   sum-next : (kind : Kind) → sumOf kind (e ∷ es) ≡ sumOf kind (e ∷ []) + sumOf kind es
   unfolding sumOf
@@ -70,9 +70,9 @@ pub ended : (temporary area : List ℕ) (ledger : List Position) (sent : List Me
 unfolding ran event ledgerFrom accepted sinceTurn sumOf
 ended temporary area ledger sent turned [] w = record { end = rw append-nil w; settles = λ bank l. settles-none bank ledger }
 ended temporary area ledger sent turned (c ∷ cs) w =
-    let r : Result = result (c .fed) area (c .output) in
-    let s : Stepped temporary ledger sent turned (event (c .fed) r) (r .area) = stepped temporary area ledger sent turned w (c .fed) (c .output) in
-    ended-more temporary ledger sent turned (event (c .fed) r) (ran (r .area) cs) s (ended temporary (r .area) _ _ _ cs (s .next))
+    let r : Result = result (c .request) area (c .output) in
+    let s : Stepped temporary ledger sent turned (event (c .request) r) (r .area) = stepped temporary area ledger sent turned w (c .request) (c .output) in
+    ended-more temporary ledger sent turned (event (c .request) r) (ran (r .area) cs) s (ended temporary (r .area) _ _ _ cs (s .next))
 
 -- ---- the claim
 
@@ -88,10 +88,10 @@ whole a b t d e = go (ltb t d) refl
 
 -- where no entry has details, what is held is what no detail has met
 bare-held : (bank day : ℕ) (ledger : List Position) (sent : List Message) → ((g : Measure) → tally g ledger ≡ tally (only bare g) ledger) → History day ledger sent
-    → held bank ledger ≡ pos (untouched bank sent sent)
+    → held bank ledger ≡ pos (untouchedOf bank sent)
 unfolding held only ofBank bare free hasDetails
 bare-held bank day ledger sent b h =
-    let t : transferredOf bank ledger ≡ untouched bank sent sent =
+    let t : transferredOf bank ledger ≡ untouchedOf bank sent =
     transferred-tally bank ledger ∙ b (only (ofBank bank) transfers)
     ∙ tally-each (only bare (only (ofBank bank) transfers)) (free bank (λ d. true)) (λ p. same (eqb (p .key .bank) bank) (leb 1 (p .detailed)) (p .transferred)) ledger
     ∙ h .held bank (λ d. true) ∙ sym (untouched-all bank sent sent) in

@@ -13,7 +13,7 @@ use Rattle.rules.specs.Accounts.{isBic, ibanShape}
 use Rattle.rules.specs.Lines.{Line, lines}
 use Rattle.rules.specs.Engine.{bic}
 use Rattle.rules.specs.Written.{Book, posting, fromBank}
-use Rattle.rules.specs.Ledger.{Posted, posted, Kind, Fed, Event, isMessage, isTransfer, isCollection, isReturn, isRefund, isCredit, isParty, amountIf, sumOfLines, sumOf}
+use Rattle.rules.specs.Ledger.{Posted, posted, Kind, Request, Event, isMessage, isTransfer, isCollection, isReturn, isRefund, isCredit, isParty, amountIf, sumOfLines, sumOf}
 use Rattle.laws.specs.Digits.{places-length}
 use Rattle.laws.specs.Numbers.{number-bytes}
 use Rattle.engine_laws.specs.Facts.{equal-true, equal-same}
@@ -34,8 +34,8 @@ goesOut temporary bank f q =
 -- ---- the five sums
 
 -- two kinds that part a third
-module _ (a b c : Kind) (parts : (f : Fed) (q : Posted) → cond (a f q) (q .amount) 0 + cond (b f q) (q .amount) 0 ≡ cond (c f q) (q .amount) 0) where
-  lines-add : (f : Fed) (ls : List Line) → sumOfLines a f ls + sumOfLines b f ls ≡ sumOfLines c f ls
+module _ (a b c : Kind) (parts : (f : Request) (q : Posted) → cond (a f q) (q .amount) 0 + cond (b f q) (q .amount) 0 ≡ cond (c f q) (q .amount) 0) where
+  lines-add : (f : Request) (ls : List Line) → sumOfLines a f ls + sumOfLines b f ls ≡ sumOfLines c f ls
   unfolding sumOfLines amountIf
   lines-add f [] = refl
   lines-add f (l ∷ ls) = go (posted l) (lines-add f ls)
@@ -48,7 +48,7 @@ module _ (a b c : Kind) (parts : (f : Fed) (q : Posted) → cond (a f q) (q .amo
   sums-add : (es : List Event) → sumOf a es + sumOf b es ≡ sumOf c es
   unfolding sumOf
   sums-add [] = refl
-  sums-add (e ∷ es) = omega (arith, lines-add (e .fed) (Option·getD (lines (e .bytes)) []), sums-add es)
+  sums-add (e ∷ es) = omega (arith, lines-add (e .request) (Option·getD (lines (e .bytes)) []), sums-add es)
 
 -- parted by a test
 halves : (b d e : Bool) (v : ℕ) → cond (b && d && e) v 0 + cond (b && d && not e) v 0 ≡ cond (b && d) v 0
@@ -140,7 +140,7 @@ iban-party cs h = rw (h, or-true)
 other-account : (b : Book) (x : ℕ) → Readable b → equal (b .temporary) (bic x) ≡ false
 other-account b x k = equal-longer (b .temporary) (bic x) (λ e. omega (arith, iban-length (b .temporary) (k .account), places-length 256 0 8 x))
 
-module _ (b : Book) (bank v : ℕ) {f : Fed} (k : Readable b) (s : bank < 2 ^ 64) (l : v < 10 ^ 20) where
+module _ (b : Book) (bank v : ℕ) {f : Request} (k : Readable b) (s : bank < 2 ^ 64) (l : v < 10 ^ 20) where
   -- from the bank to the temporary account
   pub in-from : Tells (comesIn bank) f (fromBank b v) (mine bank (b .bank) v)
   unfolding comesIn amountIf entry mine

@@ -10,7 +10,7 @@ use Rattle.rules.specs.Verdict.{Verdict, credited, returned, isReturned, accoun
 use Rattle.rules.specs.Engine.{Engine, bic}
 use Rattle.rules.specs.Written.{Book, posting, verdicts}
 use Rattle.rules.specs.Calls.{bankOf, verdictOf, returnedOf, detailPosting, detailPostings, postings, hasVerdict, positionAfter, messageText}
-use Rattle.rules.specs.Ledger.{Kind, Fed, isParty}
+use Rattle.rules.specs.Ledger.{Kind, Request, isParty}
 use Rattle.engine_laws.specs.Layout.{All, All.none, All.more}
 use Rattle.balance_laws.specs.Told.{Tells, tells-none, tells-join, tells-same, tells-mute, Mute, mute-none}
 use Rattle.balance_laws.specs.Mute.{DetailSent, mute-verdicts}
@@ -38,7 +38,7 @@ payee-party r b d k = go (verdictOf r d) refl
     go (returned c) e = bank-party b k
 
 -- a kind that counts each line from the temporary account by g counts all details by it
-module _ (kind : Kind) (f : Fed) (r : Register) (b : Book) (k : Readable b) (g : ℕ → ℕ) (none : g 0 ≡ 0) (adds : (v w : ℕ) → g (v + w) ≡ g v + g w)
+module _ (kind : Kind) (f : Request) (r : Register) (b : Book) (k : Readable b) (g : ℕ → ℕ) (none : g 0 ≡ 0) (adds : (v w : ℕ) → g (v + w) ≡ g v + g w)
     (counts : (credit : List ℕ) (v : ℕ) → isParty credit ≡ true → v < 10 ^ 20 → Tells kind f (posting b (b .temporary) credit v) (g v)) where
   tells-details : (ds : List Detail) → sumOfAmounts ds < 10 ^ 20 → Tells kind f (detailPostings r b ds) (g (sumOfAmounts ds))
   unfolding detailPostings sumOfAmounts
@@ -59,7 +59,7 @@ returned-sent r (more {x = d} {xs = ds} s t) = go (isReturned (verdictOf r d)) (
 
 -- ---- the posting lines of a message
 
-module _ (bank : ℕ) (f : Fed) (s : bank < 2 ^ 64) (r : Register) (b : Book) (k : Readable b) where
+module _ (bank : ℕ) (f : Request) (s : bank < 2 ^ 64) (r : Register) (b : Book) (k : Readable b) where
   postings-in : (m : Message) → transferredBy m < 10 ^ 20 → detailedBy m < 10 ^ 20 → Tells (comesIn bank) f (postings r b m) (mine bank (b .bank) (transferredBy m))
   unfolding postings transferredBy detailedBy detailsOf
   postings-in (mt103 t) h l = in-from b bank (t .amount) k s h
@@ -95,7 +95,7 @@ module _ (e : Engine) (m : Message) (w : Postable e m) where
       go true = mute-verdicts (e .day) (e .count) (positionAfter e m) (w .book .known) (returned-sent (registerOf (e .register)) (w .details))
       go false = mute-none
 
-  module _ (bank : ℕ) (f : Fed) (s : bank < 2 ^ 64) where
+  module _ (bank : ℕ) (f : Request) (s : bank < 2 ^ 64) where
     pub message-in : Tells (comesIn bank) f (messageText e m) (mine bank (bankOf m) (transferredBy m))
     unfolding messageText bookOf
     message-in =

@@ -11,7 +11,7 @@ use Rattle.rules.specs.Text.{ascii, isAlnum, every, fixed, decimal, width}
 use Rattle.rules.specs.Accounts.{isBic, ibanShape}
 use Rattle.rules.specs.Engine.{bic}
 use Rattle.rules.specs.Written.{Book, posting}
-use Rattle.rules.specs.Ledger.{Posted, parted, isParty, isNumber, isPosting, postedParts, posted, Kind, Fed, amountIf}
+use Rattle.rules.specs.Ledger.{Posted, parted, isParty, isNumber, isPosting, postedParts, posted, Kind, Request, amountIf}
 use Rattle.laws.specs.Digits.{places-length, width-some}
 use Rattle.laws.specs.Numbers.{digits-decimal}
 use Rattle.laws.specs.Tests.{cond-right}
@@ -19,7 +19,8 @@ use Rattle.engine_laws.specs.Facts.{cond-left}
 use Rattle.laws.specs.Every.{every-join}
 use Rattle.rule_laws.specs.Lines.{inLine}
 use Rattle.balance_laws.specs.Told.{Tells, tells-line}
-use Rattle.balance_laws.specs.Signs.{alnum-other, plain-alnum, bic-alnum, iban-alnum, fixed-alnum, fixed-fits}
+use Rattle.rule_laws.specs.Signs.{bic-alnum, iban-alnum}
+use Rattle.balance_laws.specs.Signs.{alnum-other, plain-alnum, fixed-alnum, fixed-fits}
 
 -- ---- commas
 
@@ -85,7 +86,7 @@ module _ (b : Book) (debit credit : List ℕ) (v : ℕ) (bank : isBic (bic (b .b
       let to' : every inLine credit ≡ true = plain-alnum credit (party-alnum credit to) in
       search (every-join, comma-plain, plain-alnum, fixed-alnum, bic-alnum) depth 9
 
-  pub tells-posting : {kind : Kind} {f : Fed} → v < 10 ^ 20 → Tells kind f (posting b debit credit v) (amountIf kind f (some (entry b debit credit v)))
+  pub tells-posting : {kind : Kind} {f : Request} → v < 10 ^ 20 → Tells kind f (posting b debit credit v) (amountIf kind f (some (entry b debit credit v)))
   unfolding posting line
   tells-posting {kind} {f} h =
       rw (← (posted-line h), ← append-assoc (fixed 6 (b .day) ++ ascii "," ++ debit ++ ascii "," ++ (credit ++ ascii "," ++ decimal v ++ ascii ",")) (bic (b .bank) ++ ascii "," ++ fixed 6 (b .date)) (ascii "\r\n"))

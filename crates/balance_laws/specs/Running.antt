@@ -15,7 +15,7 @@ use Rattle.rules.specs.Text.{ordered}
 use Rattle.rules.specs.Engine.{Position, Engine, earlier, sameKey}
 use Rattle.rules.specs.Calls.{Stop, bankOf, addition, afterMessage, afterTurn}
 use Rattle.rules.specs.Area.{Result, cardMessage, cardTurn, holds}
-use Rattle.rules.specs.Ledger.{Fed, message, turn, Event, fedWith, enteredBy, ledgerFrom, isTurn, sinceTurn, listed, messageOf, accepted, sumOf}
+use Rattle.rules.specs.Ledger.{Request, message, turn, Event, applied, enteredBy, ledgerFrom, isTurn, sinceTurn, listed, messageOf, accepted, sumOf}
 use Rattle.rules.specs.Demand3.{result}
 use Rattle.laws.specs.Tests.{never}
 use Rattle.rule_laws.specs.Options.{some-is}
@@ -52,8 +52,8 @@ pub record Running (temporary area : List ℕ) (ledger : List Position) (sent : 
   pub agrees : Agrees temporary ledger sent turned engine
 
 -- the event of a call
-unfoldable pub event : Fed → Result → Event
-event f r = record { fed = f; number = r .number; bytes = take (r .written) (r .output) }
+unfoldable pub event : Request → Result → Event
+event f r = record { request = f; number = r .number; bytes = take (r .written) (r .output) }
 
 -- what a call leaves, and that it settles
 pub record Stepped (temporary : List ℕ) (ledger : List Position) (sent : List Message) (turned : Bool) (e : Event) (area : List ℕ) : Type 0 where
@@ -76,7 +76,7 @@ unmet {day} {ps} a s bank next l = rw (← s .sums (only (like (keyed bank next)
         many-past (keyed bank next) p qs (rw (ne-eqb (p .key .date) next (λ e. omega (arith, g .past)), and-false)) ∙ go t
 
 -- from what the bytes of an event tell
-told-settles : (bank : ℕ) (temporary : List ℕ) (e : Event) {v u : ℕ} {ledger next : List Position} → Tells (comesIn bank) (e .fed) (e .bytes) v → Tells (goesOut temporary bank) (e .fed) (e .bytes) u
+told-settles : (bank : ℕ) (temporary : List ℕ) (e : Event) {v u : ℕ} {ledger next : List Position} → Tells (comesIn bank) (e .request) (e .bytes) v → Tells (goesOut temporary bank) (e .request) (e .bytes) u
     → Settles bank v u ledger next → Settles bank (sumOf (comesIn bank) (e ∷ [])) (sumOf (goesOut temporary bank) (e ∷ [])) ledger next
 unfolding sumOf
 told-settles bank temporary e s t b = record { balance = omega (arith, told s, told t, b .balance) }
@@ -86,7 +86,7 @@ module _ (temporary area : List ℕ) (ledger : List Position) (sent : List Messa
   agrees-at e h = subst (Agrees temporary ledger sent turned) (some-is (sym (w .holding) ∙ h)) (w .agrees)
 
   -- refused
-  step-refused : (f : Fed) (out : List ℕ) (r : Result) → (r .number ≡ 0 → ⊥) → Stays r area out → Stepped temporary ledger sent turned (event f r) (r .area)
+  step-refused : (f : Request) (out : List ℕ) (r : Result) → (r .number ≡ 0 → ⊥) → Stays r area out → Stepped temporary ledger sent turned (event f r) (r .area)
   unfolding event ledgerFrom accepted sinceTurn
   step-refused f out r n s = record {
     next = rw (ne-eqb (r .number) 0 n, append-nil, s .area) w;
@@ -98,7 +98,7 @@ module _ (temporary area : List ℕ) (ledger : List Position) (sent : List Messa
 
   -- an accepted message
   step-message : (s out : List ℕ) → cardMessage s area out .number ≡ 0 → Stepped temporary ledger sent turned (event (message s) (cardMessage s area out)) (cardMessage s area out .area)
-  unfolding event ledgerFrom accepted sinceTurn fedWith enteredBy messageOf listed isTurn afterMessage
+  unfolding event ledgerFrom accepted sinceTurn applied enteredBy messageOf listed isTurn afterMessage
   step-message s out a =
       let t : Takes s area out = message-there s area out (message-ends s area out .accepted a) in
       let e : Engine = t .engine in
@@ -127,7 +127,7 @@ module _ (temporary area : List ℕ) (ledger : List Position) (sent : List Messa
 
   -- an accepted turn
   step-turn : (day : ℕ) (out : List ℕ) → cardTurn day area out .number ≡ 0 → Stepped temporary ledger sent turned (event (turn day) (cardTurn day area out)) (cardTurn day area out .area)
-  unfolding event ledgerFrom accepted sinceTurn fedWith messageOf isTurn afterTurn
+  unfolding event ledgerFrom accepted sinceTurn applied messageOf isTurn afterTurn
   step-turn day out a =
       let t : Turns day area out = turn-there day area out (turn-ends day area out .accepted a) in
       let e : Engine = t .engine in
@@ -153,14 +153,14 @@ module _ (temporary area : List ℕ) (ledger : List Position) (sent : List Messa
       }
 
   -- any call
-  step : (f : Fed) (out : List ℕ) (ss : List Stop) (r : Result) → Ends ss r area out → (r .number ≡ 0 → Stepped temporary ledger sent turned (event f r) (r .area)) → Stepped temporary ledger sent turned (event f r) (r .area)
+  step : (f : Request) (out : List ℕ) (ss : List Stop) (r : Result) → Ends ss r area out → (r .number ≡ 0 → Stepped temporary ledger sent turned (event f r) (r .area)) → Stepped temporary ledger sent turned (event f r) (r .area)
   step f out ss r c a = go (eqb (r .number) 0) refl
     where
       go : (b : Bool) → eqb (r .number) 0 ≡ b → Stepped temporary ledger sent turned (event f r) (r .area)
       go true e = a (eqb-true _ _ e)
       go false e = step-refused f out r (eqb-false _ _ e) (c .refused (eqb-false _ _ e))
 
-  pub stepped : (f : Fed) (out : List ℕ) → Stepped temporary ledger sent turned (event f (result f area out)) (result f area out .area)
+  pub stepped : (f : Request) (out : List ℕ) → Stepped temporary ledger sent turned (event f (result f area out)) (result f area out .area)
   unfolding result
   stepped (message s) out = step (message s) out _ (cardMessage s area out) (message-ends s area out) (step-message s out)
   stepped (turn day) out = step (turn day) out _ (cardTurn day area out) (turn-ends day area out) (step-turn day out)

@@ -1,21 +1,21 @@
 -- Letters and digits: what dates, amounts, banks and accounts are made of, so that they stand in a line and hold no comma.
 use mathlib.Core.Path.{_≡_, refl, sym}
-use mathlib.Core.Bool.{Bool, true, false, _||_, cond}
-use mathlib.Core.List.{List, [], _∷_}
+use mathlib.Core.Bool.{Bool, true, false, _||_}
+use mathlib.Core.List.{List}
 use Prim.Native.Nat.{ℕ, zero, suc, _+_, _/_, _%_, _^_, _≤_, _<_}
 use native.Mathlib.Nat.{mod-lt}
 use native.Mathlib.Omega.{arith}
 use lib.Dec.{eqb, lit<}
 use lib.ListN.{length, replicate}
-use borrow.Author.Tests.{eqb-true, le-leb, ne-eqb}
+use borrow.Author.Tests.{le-leb, ne-eqb}
 use Rattle.rules.specs.Text.{ascii, isDigit, isLetter, isAlnum, every, fits, fitsSign, places, width, fixed, decimal}
 use Rattle.rules.specs.Amounts.{written}
 use Rattle.rules.specs.Accounts.{isBic, ibanShape}
 use Rattle.laws.specs.Reading.{fits-length}
 use Rattle.laws.specs.Digits.{places-length, width-most}
-use Rattle.laws.specs.Tests.{cond-right, between-low, never}
-use Rattle.engine_laws.specs.Facts.{cond-left, cond-both}
+use Rattle.laws.specs.Tests.{between-low}
 use Rattle.laws.specs.Every.{every-wider}
+use Rattle.rule_laws.specs.Signs.{isSign, fits-alnum, bic-alnum, iban-alnum}
 use Rattle.rule_laws.specs.Lines.{inLine}
 use Rattle.balance_laws.specs.Told.{Short, short-join}
 
@@ -39,50 +39,6 @@ alnum-in-line c h = rw (alnum-other 13 c (lit< tt) h, alnum-other 10 c (lit< tt)
 
 pub plain-alnum : (cs : List ℕ) → every isAlnum cs ≡ true → every inLine cs ≡ true
 plain-alnum = every-wider isAlnum inLine alnum-in-line
-
--- ---- bytes that fit a pattern of letters and digits
-
-isSign : ℕ → Bool
-isSign p = eqb p 110 || eqb p 97 || eqb p 99 || isAlnum p
-
-digit-alnum : (c : ℕ) → isDigit c ≡ true → isAlnum c ≡ true
-unfolding isAlnum
-digit-alnum c h = rw h
-
-letter-alnum : (c : ℕ) → isLetter c ≡ true → isAlnum c ≡ true
-unfolding isAlnum
-letter-alnum c h = go (isDigit c)
-  where
-    go : (t : Bool) → (t || isLetter c) ≡ true
-    go true = refl
-    go false = h
-
-sign-alnum : (p c : ℕ) → isSign p ≡ true → fitsSign p c ≡ true → isAlnum c ≡ true
-unfolding isSign fitsSign
-sign-alnum p c s h = go (eqb p 110) (eqb p 97) (eqb p 99) s h
-  where
-    go : (x y z : Bool) → (x || y || z || isAlnum p) ≡ true → cond x (isDigit c) (cond y (isLetter c) (cond z (isAlnum c) (eqb p c))) ≡ true → isAlnum c ≡ true
-    go true y z s h = digit-alnum c h
-    go false true z s h = letter-alnum c h
-    go false false true s h = h
-    go false false false s h = rw (eqb-true p c h) at s
-
-fits-alnum : (ps cs : List ℕ) → every isSign ps ≡ true → fits ps cs ≡ true → every isAlnum cs ≡ true
-unfolding every fits
-fits-alnum [] [] s h = refl
-fits-alnum [] (c ∷ cs) s h = never h
-fits-alnum (p ∷ ps) [] s h = refl
-fits-alnum (p ∷ ps) (c ∷ cs) s h =
-    cond-both (isAlnum c) (every isAlnum cs) (sign-alnum p c (cond-left _ _ s) (cond-left _ _ h))
-    (fits-alnum ps cs (cond-right (isSign p) _ s) (cond-right (fitsSign p c) _ h))
-
-pub bic-alnum : (cs : List ℕ) → isBic cs ≡ true → every isAlnum cs ≡ true
-unfolding isBic every isSign
-bic-alnum cs h = fits-alnum (ascii "aaaaaacc") cs refl h
-
-pub iban-alnum : (cs : List ℕ) → ibanShape cs ≡ true → every isAlnum cs ≡ true
-unfolding ibanShape every isSign isAlnum isDigit isLetter
-iban-alnum cs h = fits-alnum (ascii "BGnnaaaannnnnncccccccc") cs refl h
 
 -- ---- digits
 

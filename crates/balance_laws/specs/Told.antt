@@ -12,7 +12,7 @@ use borrow.Author.Tests.{leb-true, eqb-true, le-leb}
 use Rattle.rules.specs.Text.{ascii, every, fits, given}
 use Rattle.rules.specs.Accounts.{isBic, ibanShape}
 use Rattle.rules.specs.Lines.{begun, Line, lines}
-use Rattle.rules.specs.Ledger.{parted, isParty, isNumber, isPosting, posted, Kind, Fed, amountIf, sumOfLines}
+use Rattle.rules.specs.Ledger.{parted, isParty, isNumber, isPosting, posted, Kind, Request, amountIf, sumOfLines}
 use Rattle.laws.specs.Reading.{fits-length}
 use Rattle.laws.specs.Tests.{and-left, and-right, cond-right}
 use Rattle.engine_laws.specs.Facts.{cond-left, cond-both}
@@ -120,12 +120,12 @@ mute-join {a} {b} s t = record {
 -- ---- what a text tells
 
 -- the lines of a kind in a text, and their sum
-pub record Tells (kind : Kind) (f : Fed) (text : List ℕ) (v : ℕ) : Type 0 where
+pub record Tells (kind : Kind) (f : Request) (text : List ℕ) (v : ℕ) : Type 0 where
   pub all : List Line
   pub reading : Lined text all
   pub sum : sumOfLines kind f all ≡ v
 
-module _ {kind : Kind} {f : Fed} where
+module _ {kind : Kind} {f : Request} where
   pub tells-none : Tells kind f [] 0
   unfolding sumOfLines
   tells-none = record { all = []; reading = end; sum = refl }

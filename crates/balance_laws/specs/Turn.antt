@@ -11,7 +11,7 @@ use Rattle.rules.specs.Register.{registerOf}
 use Rattle.rules.specs.Engine.{Position, Engine, bic, lastBank, isBank, hasDetails, kept}
 use Rattle.rules.specs.Written.{Book, fromBank, toBank, corrected, isRefunded, correctionPosting, correction, correctionPostings, corrections, mt204, mt205}
 use Rattle.rules.specs.Calls.{turnText}
-use Rattle.rules.specs.Ledger.{Kind, Fed, transferredOf, detailedOf}
+use Rattle.rules.specs.Ledger.{Kind, Request, transferredOf, detailedOf}
 use Rattle.laws.specs.Tests.{and-right}
 use Rattle.engine_laws.specs.Layout.{All, All.none, All.more}
 use Rattle.engine_laws.specs.Limits.{Limits, bank-small}
@@ -61,7 +61,7 @@ module _ (day : ℕ) (temporary : List ℕ) (a : ibanShape temporary ≡ true) {
 
   -- ---- posting lines, by a kind that counts refunds by up and collections by down
 
-  module _ (kind : Kind) (f : Fed) (up down : ℕ → ℕ → ℕ) (no-up : (x : ℕ) → up x 0 ≡ 0) (no-down : (x : ℕ) → down x 0 ≡ 0)
+  module _ (kind : Kind) (f : Request) (up down : ℕ → ℕ → ℕ) (no-up : (x : ℕ) → up x 0 ≡ 0) (no-down : (x : ℕ) → down x 0 ≡ 0)
       (refunds : (p : Position) (v : ℕ) → Readable (bookOf day temporary p) → v < 10 ^ 20 → Tells kind f (toBank (bookOf day temporary p) v) (up (p .key .bank) v))
       (collects : (p : Position) (v : ℕ) → Readable (bookOf day temporary p) → v < 10 ^ 20 → Tells kind f (fromBank (bookOf day temporary p) v) (down (p .key .bank) v)) where
     tells-correction : (p : Position) → Good old p
@@ -101,7 +101,7 @@ module _ (day : ℕ) (temporary : List ℕ) (a : ibanShape temporary ≡ true) {
 
 -- ---- the two sums
 
-module _ (e : Engine) (l : Limits e) (day bank : ℕ) (f : Fed) (s : bank < 2 ^ 64) where
+module _ (e : Engine) (l : Limits e) (day bank : ℕ) (f : Request) (s : bank < 2 ^ 64) where
   pub turn-in : Tells (comesIn bank) f (turnText e day) (tally (closed nothing (mine bank)) (e .positions))
   unfolding turnText
   turn-in =

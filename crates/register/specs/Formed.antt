@@ -1,55 +1,22 @@
 -- An account line's form, part by part: the signs of its IBAN follow from the IBAN's shape, and behind it stand two bounds, a comma before each.
-use mathlib.Core.Path.{_≡_, refl, sym, _∙_}
-use mathlib.Core.Bool.{Bool, true, false, _&&_, _||_, cond}
-use mathlib.Core.List.{List, [], _∷_}
+use mathlib.Core.Path.{_≡_, sym, _∙_}
+use mathlib.Core.Bool.{Bool, true, false, _&&_, cond}
+use mathlib.Core.List.{List, []}
 use Prim.Native.Nat.{ℕ, _+_, _≤_, _<_}
 use native.Mathlib.Omega.{arith}
 use lib.Dec.{leb, eqb}
 use lib.ListN.{length, getD}
-use borrow.Author.Tests.{eq-eqb, ne-eqb, eqb-true}
-use Rattle.rules.specs.Text.{ascii, isDigit, isLetter, isAlnum, every, fits, fitsSign}
-use Rattle.rules.specs.Accounts.{ibanShape, passes}
+use borrow.Author.Tests.{eq-eqb, ne-eqb}
+use Rattle.rules.specs.Text.{ascii, isDigit, isAlnum, every, fits, fitsSign}
+use Rattle.rules.specs.Accounts.{passes}
 use Rattle.laws.specs.Parts.{cut, cut-done}
-use Rattle.laws.specs.Tests.{never, and-left, and-right, cond-left, cond-right}
+use Rattle.laws.specs.Tests.{and-left, and-right, cond-right}
 use Rattle.laws.specs.Places.{Passed, passed-all}
 use Rattle.laws.specs.Patterns.{digit-sign, alnum-sign, fits-sign, fits-run, fits-last}
 use Rattle.laws.specs.Values.{Valued}
+use Rattle.rule_laws.specs.Signs.{iban-alnum}
 use Rattle.register.specs.AccountLine.{bound}
 use Rattle.register.specs.Places.{formAt, endsAt, boundAt}
-
--- ---- letters and digits
-
--- what fits the sign is a letter or digit
-unfoldable within : ℕ → Bool
-within q = eqb q 110 || eqb q 97 || eqb q 99 || isAlnum q
-
-sign-alnum : (q c : ℕ) → within q ≡ true → fitsSign q c ≡ true → isAlnum c ≡ true
-unfolding within fitsSign isAlnum
-sign-alnum q c w h = go (eqb q 110) (eqb q 97) (eqb q 99) w h
-  where
-    or-right : (d l : Bool) → l ≡ true → (d || l) ≡ true
-    or-right true l h = refl
-    or-right false l h = h
-
-    go : (n a b : Bool) → (n || a || b || (isDigit q || isLetter q)) ≡ true → cond n (isDigit c) (cond a (isLetter c) (cond b (isDigit c || isLetter c) (eqb q c))) ≡ true → (isDigit c || isLetter c) ≡ true
-    go true a b w h = rw h
-    go false true b w h = or-right (isDigit c) (isLetter c) h
-    go false false true w h = h
-    go false false false w h = let e : q ≡ c = eqb-true q c h in rw e at w
-
-fits-alnum : (ps cs : List ℕ) → every within ps ≡ true → fits ps cs ≡ true → every isAlnum cs ≡ true
-unfolding every fits
-fits-alnum [] [] w h = refl
-fits-alnum [] (c ∷ cs) w h = never h
-fits-alnum (q ∷ ps) [] w h = never h
-fits-alnum (q ∷ ps) (c ∷ cs) w h =
-    rw (sign-alnum q c (cond-left (within q) (every within ps) w) (cond-left (fitsSign q c) (fits ps cs) h))
-    (fits-alnum ps cs (cond-right (within q) (every within ps) w) (cond-right (fitsSign q c) (fits ps cs) h))
-
--- an IBAN has nothing else
-iban-alnum : (cs : List ℕ) → passes cs ≡ true → every isAlnum cs ≡ true
-unfolding passes ibanShape every within isAlnum isDigit isLetter
-iban-alnum cs h = fits-alnum (ascii "BGnnaaaannnnnncccccccc") cs refl (and-left _ _ h)
 
 -- ---- the bounds behind it
 
@@ -59,10 +26,10 @@ boundsAt s at = fits (ascii ",nnnnnn,nnnnnn") (cut s at (at + 14))
 
 -- the form of a line whose IBAN passes
 pub form-bounds : (s : List ℕ) (at : ℕ) → at + 36 ≤ length s → passes (cut s at (at + 22)) ≡ true → formAt s at ≡ boundsAt s (at + 22)
-unfolding formAt boundsAt
+unfolding formAt boundsAt passes
 form-bounds s at l h =
     let e : at + 22 + 14 ≡ at + 36 = omega arith in
-    fits-run 99 isAlnum alnum-sign (ascii ",nnnnnn,nnnnnn") s 22 at (at + 36) (omega arith) l ∙ rw (iban-alnum (cut s at (at + 22)) h, e)
+    fits-run 99 isAlnum alnum-sign (ascii ",nnnnnn,nnnnnn") s 22 at (at + 36) (omega arith) l ∙ rw (iban-alnum (cut s at (at + 22)) (and-left _ _ h), e)
 
 module _ (s : List ℕ) (at : ℕ) (l : at + 14 ≤ length s) where
   signs : boundsAt s at ≡ cond (eqb 44 (getD s at 0)) (every isDigit (cut s (at + 1) (at + 1 + 6)) && cond (eqb 44 (getD s (at + 7) 0)) (every isDigit (cut s (at + 8) (at + 8 + 6))) false) false

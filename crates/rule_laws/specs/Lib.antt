@@ -1,5 +1,6 @@
 pub mod Options
 pub mod Dates
+pub mod Signs
 pub mod Lines
 pub mod Messages
 pub mod Registers

@@ -9,15 +9,15 @@ use lib.ListN.{take}
 use Rattle.rules.specs.Register.{registerOf}
 use Rattle.rules.specs.Engine.{Position, Engine}
 use Rattle.rules.specs.Area.{Result, cardOpen, cardMessage, cardTurn, holds}
-use Rattle.rules.specs.Ledger.{Fed, message, turn, Event, ledgerOf, held, times, isTransfer, isCollection, isReturn, isRefund, isCredit, sumOf, sinceTurn, accepted, untouched}
+use Rattle.rules.specs.Ledger.{Request, message, turn, Event, ledgerOf, held, times, isTransfer, isCollection, isReturn, isRefund, isCredit, sumOf, sinceTurn, accepted, untouchedOf}
 
 -- a call of the list: a message or a turn, and the output area lent to it
 pub record Call : Type 0 where
-  pub fed : Fed
+  pub request : Request
   pub output : List ℕ
 
 -- what the call does to its areas
-unfoldable pub result : Fed → List ℕ → List ℕ → Result
+unfoldable pub result : Request → List ℕ → List ℕ → Result
 result (message s) area out = cardMessage s area out
 result (turn day) area out = cardTurn day area out
 
@@ -30,10 +30,10 @@ pub record Ran : Type 0 where
 unfoldable pub ran : List ℕ → List Call → Ran
 ran area [] = record { events = []; area = area }
 ran area (c ∷ cs) =
-    let r = result (c .fed) area (c .output) in
+    let r = result (c .request) area (c .output) in
     let more = ran (r .area) cs in
     record {
-      events = record { fed = c .fed; number = r .number; bytes = take (r .written) (r .output) } ∷ more .events;
+      events = record { request = c .request; number = r .number; bytes = take (r .written) (r .output) } ∷ more .events;
       area = more .area;
     }
 
@@ -42,7 +42,7 @@ pub record Balanced (temporary : List ℕ) (r : Ran) : Type 0 where
   -- an engine is there
   pub engine : Engine
   pub holding : holds (r .area) ≡ some engine
-  -- "for each bank: transferred + collected = credited + returned + refunded + held"
+  -- "for each bank: transferred + collected = credited + returned + refunded + held"; a bank is the number of eight bytes
   pub balance : (bank : ℕ) → bank < 2 ^ 64
       → pos (sumOf (isTransfer bank) (r .events) + sumOf (isCollection bank) (r .events))
       ≡ pos (sumOf (isCredit temporary bank) (r .events) + sumOf (isReturn bank) (r .events) + sumOf (isRefund bank) (r .events)) +ℤ held bank (ledgerOf (r .events))
@@ -50,7 +50,7 @@ pub record Balanced (temporary : List ℕ) (r : Ran) : Type 0 where
   pub positions : (p : Position) → times p (engine .positions) ≡ times p (ledgerOf (r .events))
   -- "From each accepted turn until the next accepted message, held is exactly .."
   pub untouchedHeld : sinceTurn false (r .events) ≡ true → (bank : ℕ) → bank < 2 ^ 64
-      → held bank (ledgerOf (r .events)) ≡ pos (untouched bank (accepted (r .events)) (accepted (r .events)))
+      → held bank (ledgerOf (r .events)) ≡ pos (untouchedOf bank (accepted (r .events)))
 
 -- "After any list of message and turn calls (refused ones included) behind an accepted opening"
 abbrev pub Demand3 : Type 0

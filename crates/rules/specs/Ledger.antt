@@ -14,19 +14,19 @@ use Rattle.rules.specs.Engine.{Position, alike, raised, kept, bic}
 use Rattle.rules.specs.Calls.{addition, bankOf}
 
 -- what a call was handed: its message or day
-pub data Fed : Type 0 where
-  message : List ℕ → Fed
-  turn : ℕ → Fed
+pub data Request : Type 0 where
+  message : List ℕ → Request
+  turn : ℕ → Request
 
 -- a call: what it was handed, the number that it answered and the bytes that it wrote
 pub record Event : Type 0 where
-  pub fed : Fed
+  pub request : Request
   pub number : ℕ
   pub bytes : List ℕ
 
 -- ---- the ledger: "fed the calls, each with its message or day and the number it answered, and nothing from the area"
 
--- "An entry has bank, centralisation date, transferred and detailed; a missing one begins with 0 and 0.": both totals of q added to its entry
+-- "An entry has bank, centralisation date, transferred and detailed; a missing one begins with 0 and 0.": both totals of q added to its entry; as `booked`, but a new one goes to the end
 unfoldable pub entered : Position → List Position → List Position
 entered q [] = q ∷ []
 entered q (p ∷ ps) = let on = p ∷ entered q ps in cond (alike p q) (raised p q ∷ ps) on
@@ -37,14 +37,14 @@ enteredBy none ledger = ledger
 enteredBy (some m) ledger = entered (addition m) ledger
 
 -- "An accepted turn removes each entry with detailed above 0."
-unfoldable pub fedWith : Fed → List Position → List Position
-fedWith (message s) ledger = enteredBy (read s) ledger
-fedWith (turn day) ledger = kept ledger
+unfoldable pub applied : Request → List Position → List Position
+applied (message s) ledger = enteredBy (read s) ledger
+applied (turn day) ledger = kept ledger
 
 -- "A refused call changes nothing."
 unfoldable pub ledgerFrom : List Position → List Event → List Position
 ledgerFrom ledger [] = ledger
-ledgerFrom ledger (e ∷ es) = let after = ledgerFrom (fedWith (e .fed) ledger) es in let same = ledgerFrom ledger es in cond (eqb (e .number) 0) after same
+ledgerFrom ledger (e ∷ es) = let after = ledgerFrom (applied (e .request) ledger) es in let same = ledgerFrom ledger es in cond (eqb (e .number) 0) after same
 
 -- "It is empty at the accepted opening."
 abbrev pub ledgerOf : List Event → List Position
@@ -113,10 +113,10 @@ posted l = let ps = parted l in given (isPosting ps) (postedParts ps)
 
 -- a kind of posting line, by the call that wrote it
 abbrev pub Kind : Type 0
-Kind = Fed → Posted → Bool
+Kind = Request → Posted → Bool
 
 -- "from a message"
-unfoldable pub isMessage : Fed → Bool
+unfoldable pub isMessage : Request → Bool
 isMessage (message s) = true
 isMessage (turn day) = false
 
@@ -142,31 +142,31 @@ isCredit temporary bank f q =
     equal (q .bank) (bic bank) && not (equal (q .debit) (bic bank)) && not (equal (q .credit) (bic bank)) && equal (q .debit) temporary
 
 -- the amount of a posting line of a kind
-unfoldable pub amountIf : Kind → Fed → Option Posted → ℕ
+unfoldable pub amountIf : Kind → Request → Option Posted → ℕ
 amountIf kind f none = 0
 amountIf kind f (some q) = cond (kind f q) (q .amount) 0
 
 -- "added up from the posting lines" of one call
-unfoldable pub sumOfLines : Kind → Fed → List Line → ℕ
+unfoldable pub sumOfLines : Kind → Request → List Line → ℕ
 sumOfLines kind f [] = 0
 sumOfLines kind f (l ∷ ls) = amountIf kind f (posted l) + sumOfLines kind f ls
 
 -- the lines of a kind that the calls wrote
 unfoldable pub sumOf : Kind → List Event → ℕ
 sumOf kind [] = 0
-sumOf kind (e ∷ es) = sumOfLines kind (e .fed) (Option·getD (lines (e .bytes)) []) + sumOf kind es
+sumOf kind (e ∷ es) = sumOfLines kind (e .request) (Option·getD (lines (e .bytes)) []) + sumOf kind es
 
 -- ---- after a turn
 
 -- "From each accepted turn"
-unfoldable pub isTurn : Fed → Bool
+unfoldable pub isTurn : Request → Bool
 isTurn (message s) = false
 isTurn (turn day) = true
 
 -- "From each accepted turn until the next accepted message": the last call accepted is a turn
 unfoldable pub sinceTurn : Bool → List Event → Bool
 sinceTurn b [] = b
-sinceTurn b (e ∷ es) = let on = sinceTurn (isTurn (e .fed)) es in let same = sinceTurn b es in cond (eqb (e .number) 0) on same
+sinceTurn b (e ∷ es) = let on = sinceTurn (isTurn (e .request)) es in let same = sinceTurn b es in cond (eqb (e .number) 0) on same
 
 -- a message, if there is one
 unfoldable pub listed : Option Message → List Message
@@ -174,22 +174,26 @@ listed none = []
 listed (some m) = m ∷ []
 
 -- the message that a call was handed
-unfoldable pub messageOf : Fed → List Message
+unfoldable pub messageOf : Request → List Message
 messageOf (message s) = listed (read s)
 messageOf (turn day) = []
 
 -- "A bank's transfers and details since opening are those of its accepted messages, also where the entry has been removed."
 unfoldable pub accepted : List Event → List Message
 accepted [] = []
-accepted (e ∷ es) = let r = accepted es in cond (eqb (e .number) 0) (messageOf (e .fed) ++ r) r
+accepted (e ∷ es) = let r = accepted es in cond (eqb (e .number) 0) (messageOf (e .request) ++ r) r
 
 -- "its details" for a centralisation date
 unfoldable pub isDetails : ℕ → ℕ → Message → Bool
 isDetails bank date (mt103 t) = false
 isDetails bank date (mt101 o) = eqb (bankOf (mt101 o)) bank && eqb (dateOf (mt101 o)) date
 
--- "the sum of that bank's transfers for those centralisation dates for which none of its details has been accepted since opening"
+-- of some messages, a bank's transfers for those dates for which none of all has its details
 unfoldable pub untouched : ℕ → List Message → List Message → ℕ
 untouched bank all [] = 0
 untouched bank all (m ∷ ms) =
     let r = untouched bank all ms in cond (eqb (bankOf m) bank && not (any (isDetails bank (dateOf m)) all)) (transferredBy m + r) r
+
+-- "the sum of that bank's transfers for those centralisation dates for which none of its details has been accepted since opening"
+abbrev pub untouchedOf : ℕ → List Message → ℕ
+untouchedOf bank all = untouched bank all all
