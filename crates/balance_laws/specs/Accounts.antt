@@ -9,10 +9,10 @@ use Rattle.rules.specs.Accounts.{ibanShape, passes}
 use Rattle.rules.specs.Register.{Register, sound, register, registerOf}
 use Rattle.rules.specs.Verdict.{credited, accountAt, shaped, verdict}
 use Rattle.laws.specs.Tests.{and-left}
+use Rattle.laws.specs.Equal.{equal-true}
 use Rattle.rule_laws.specs.Options.{There, there}
 use Rattle.rule_laws.specs.Verdicts.{CreditedTo, credited-to}
 use Rattle.rule_laws.specs.Registers.{register-read}
-use Rattle.engine_laws.specs.Facts.{equal-true}
 
 pub temporary-shape : (text : List ℕ) → isSome (register text) ≡ true → ibanShape (registerOf text .temporary) ≡ true
 unfolding registerOf sound passes

@@ -11,8 +11,7 @@ use Rattle.rules.specs.Text.{ascii, any, equal}
 use Rattle.rules.specs.Messages.{Message, mt103, mt101, Detail, currency32B, read, sumOfAmounts}
 use Rattle.rules.specs.Engine.{Engine, limit, lastBank, isBank}
 use Rattle.rules.specs.Calls.{bankOf, misdated, badSum, badAmount, overLimit, positionAfter}
-use Rattle.laws.specs.Tests.{and-right}
-use Rattle.engine_laws.specs.Facts.{or-left, or-right, any-left}
+use Rattle.laws.specs.Tests.{and-right, or-left, or-right, any-left}
 use Rattle.engine_laws.specs.Limits.{Limits, bank-small}
 use Rattle.engine_laws.specs.Accepted.{Has, read-has, sender-bank}
 use Rattle.rule_laws.specs.Clear.{Clear}

@@ -9,9 +9,9 @@ use Rattle.rules.specs.Text.{ordered}
 use Rattle.rules.specs.Engine.{Position, earlier, alike, raised, booked}
 use Rattle.rules.specs.Ledger.{entered}
 use Rattle.laws.specs.Tests.{never}
+use Rattle.laws.specs.All.{All, All.none, All.more}
+use Rattle.laws.specs.Order.{Sorted, Sorted.empty, Sorted.next, ordered-sorted}
 use Rattle.rule_laws.specs.Keys.{before-trans, same-keys, behind-other, KeyPlace, KeyPlace.same, KeyPlace.ahead, KeyPlace.behind, place}
-use Rattle.engine_laws.specs.Layout.{All, All.none, All.more}
-use Rattle.engine_laws.specs.Order.{Sorted, Sorted.empty, Sorted.next, ordered-sorted}
 use Rattle.engine_laws.specs.Positions.{Before, position-order, booked-same, booked-ahead, booked-behind}
 use Rattle.balance_laws.specs.Tally.{Measure, Test, tally, SameEntries, one, transfers, details, only, like}
 

@@ -12,9 +12,9 @@ use Rattle.rules.specs.Lines.{Line}
 use Rattle.rules.specs.Forms.{Row, nothing, fitsRest, fitsRow, detail52D, detail59, detailBaeref}
 use Rattle.rules.specs.Messages.{Message, Detail, detailsOf}
 use Rattle.laws.specs.Tests.{and-left, and-right, between-high}
+use Rattle.laws.specs.All.{All, All.none, All.more}
 use Rattle.rule_laws.specs.Lines.{inLine}
 use Rattle.rule_laws.specs.Messages.{RowStands, RowStands.out, RowStands.here, row-at, DetailRead, DetailsRead, DetailsRead.last, DetailsRead.more, ReadAs, ReadAs.transfer, ReadAs.order}
-use Rattle.engine_laws.specs.Layout.{All, All.none, All.more}
 use Rattle.laws.specs.Every.{every-take, every-drop}
 use Rattle.balance_laws.specs.Told.{Short}
 use Rattle.balance_laws.specs.Mute.{DetailSent}

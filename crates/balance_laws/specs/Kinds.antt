@@ -16,7 +16,7 @@ use Rattle.rules.specs.Written.{Book, posting, fromBank}
 use Rattle.rules.specs.Ledger.{Posted, posted, Kind, Request, Event, isMessage, isTransfer, isCollection, isReturn, isRefund, isCredit, isParty, amountIf, sumOfLines, sumOf}
 use Rattle.laws.specs.Digits.{places-length}
 use Rattle.laws.specs.Numbers.{number-bytes}
-use Rattle.engine_laws.specs.Facts.{equal-true, equal-same}
+use Rattle.laws.specs.Equal.{equal-true, equal-same}
 use Rattle.balance_laws.specs.Tally.{nought}
 use Rattle.balance_laws.specs.Told.{Tells, tells-same}
 use Rattle.balance_laws.specs.Signs.{iban-length}

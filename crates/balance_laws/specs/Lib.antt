@@ -1,4 +1,3 @@
-pub mod Each
 pub mod Told
 pub mod Signs
 pub mod Posting

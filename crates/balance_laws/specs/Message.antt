@@ -11,7 +11,7 @@ use Rattle.rules.specs.Engine.{Engine, bic}
 use Rattle.rules.specs.Written.{Book, posting, verdicts}
 use Rattle.rules.specs.Calls.{bankOf, verdictOf, returnedOf, detailPosting, detailPostings, postings, hasVerdict, positionAfter, messageText}
 use Rattle.rules.specs.Ledger.{Kind, Request, isParty}
-use Rattle.engine_laws.specs.Layout.{All, All.none, All.more}
+use Rattle.laws.specs.All.{All, All.none, All.more}
 use Rattle.balance_laws.specs.Told.{Tells, tells-none, tells-join, tells-same, tells-mute, Mute, mute-none}
 use Rattle.balance_laws.specs.Mute.{DetailSent, mute-verdicts}
 use Rattle.balance_laws.specs.Accounts.{credited-shape}

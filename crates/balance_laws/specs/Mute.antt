@@ -13,8 +13,7 @@ use Rattle.rules.specs.Messages.{Detail, branch, account59, baerefDate, baerefN
 use Rattle.rules.specs.Engine.{Position, bic, limit}
 use Rattle.rules.specs.Written.{reference, firstLine, field, size, returnedRows, allReturned, linked, position79, closed79, mt199, partsOf, mt199s, verdicts, field72, mt204, mt205}
 use Rattle.laws.specs.Digits.{places-length, width-bound, width-most}
-use Rattle.engine_laws.specs.Layout.{All, All.none, All.more}
-use Rattle.balance_laws.specs.Each.{all-take, all-drop}
+use Rattle.laws.specs.All.{All, All.none, All.more, all-take, all-drop}
 use Rattle.rule_laws.specs.Lines.{inLine}
 use Rattle.balance_laws.specs.Told.{Short, short-join, short-text, Mute, mute-none, mute-line, mute-join}
 use Rattle.balance_laws.specs.Signs.{short-fixed, short-decimal, short-written, short-bic, short-iban}

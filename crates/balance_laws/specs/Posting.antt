@@ -14,8 +14,7 @@ use Rattle.rules.specs.Written.{Book, posting}
 use Rattle.rules.specs.Ledger.{Posted, parted, isParty, isNumber, isPosting, postedParts, posted, Kind, Request, amountIf}
 use Rattle.laws.specs.Digits.{places-length, width-some}
 use Rattle.laws.specs.Numbers.{digits-decimal}
-use Rattle.laws.specs.Tests.{cond-right}
-use Rattle.engine_laws.specs.Facts.{cond-left}
+use Rattle.laws.specs.Tests.{cond-right, cond-left}
 use Rattle.laws.specs.Every.{every-join}
 use Rattle.rule_laws.specs.Lines.{inLine}
 use Rattle.balance_laws.specs.Told.{Tells, tells-line}

@@ -18,11 +18,11 @@ use Rattle.rules.specs.Area.{Result, cardMessage, cardTurn, holds}
 use Rattle.rules.specs.Ledger.{Request, message, turn, Event, applied, enteredBy, ledgerFrom, isTurn, sinceTurn, listed, messageOf, accepted, sumOf}
 use Rattle.rules.specs.Demand3.{result}
 use Rattle.laws.specs.Tests.{never}
+use Rattle.laws.specs.All.{All, All.none, All.more}
+use Rattle.laws.specs.Order.{ordered-sorted}
 use Rattle.rule_laws.specs.Options.{some-is}
-use Rattle.engine_laws.specs.Layout.{All, All.none, All.more}
 use Rattle.engine_laws.specs.Limits.{Limits, limits}
 use Rattle.engine_laws.specs.EngineIn.{engine-in}
-use Rattle.engine_laws.specs.Order.{ordered-sorted}
 use Rattle.engine_laws.specs.Positions.{Good, all-good, position-order}
 use Rattle.engine_laws.specs.Calls.{Stays, Ends, done-holds, done-text, Takes, message-there, message-ends, Turns, turn-there, turn-ends}
 use Rattle.balance_laws.specs.Told.{Tells, tells-none, told}

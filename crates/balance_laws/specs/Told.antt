@@ -14,8 +14,7 @@ use Rattle.rules.specs.Accounts.{isBic, ibanShape}
 use Rattle.rules.specs.Lines.{begun, Line, lines}
 use Rattle.rules.specs.Ledger.{parted, isParty, isNumber, isPosting, posted, Kind, Request, amountIf, sumOfLines}
 use Rattle.laws.specs.Reading.{fits-length}
-use Rattle.laws.specs.Tests.{and-left, and-right, cond-right}
-use Rattle.engine_laws.specs.Facts.{cond-left, cond-both}
+use Rattle.laws.specs.Tests.{and-left, and-right, cond-right, cond-left, cond-both}
 use Rattle.laws.specs.Every.{every-join}
 use Rattle.rule_laws.specs.Lines.{inLine, Lined, Lined.end, Lined.next, lined-lines, lined-join}
 

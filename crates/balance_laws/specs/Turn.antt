@@ -13,7 +13,7 @@ use Rattle.rules.specs.Written.{Book, fromBank, toBank, corrected, isRefunded, 
 use Rattle.rules.specs.Calls.{turnText}
 use Rattle.rules.specs.Ledger.{Kind, Request, transferredOf, detailedOf}
 use Rattle.laws.specs.Tests.{and-right}
-use Rattle.engine_laws.specs.Layout.{All, All.none, All.more}
+use Rattle.laws.specs.All.{All, All.none, All.more}
 use Rattle.engine_laws.specs.Limits.{Limits, bank-small}
 use Rattle.engine_laws.specs.Positions.{Good, all-good}
 use Rattle.balance_laws.specs.Told.{Tells, tells-none, tells-join, tells-same, tells-mute, Mute, mute-none, mute-join}

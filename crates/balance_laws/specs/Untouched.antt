@@ -12,8 +12,7 @@ use Rattle.rules.specs.Messages.{Message, mt103, mt101, Transfer, Order, dateOf
 use Rattle.rules.specs.Engine.{Position, sameKey, hasDetails, kept}
 use Rattle.rules.specs.Calls.{bankOf, addition}
 use Rattle.rules.specs.Ledger.{entered, isDetails, untouched}
-use Rattle.engine_laws.specs.Layout.{All, All.none, All.more}
-use Rattle.balance_laws.specs.Each.{all-last, all-wider}
+use Rattle.laws.specs.All.{All, All.none, All.more, all-last, all-wider}
 use Rattle.balance_laws.specs.Tally.{Measure, tally, only, like, bare, transfers, details, kept-tally, tally-each, tally-add, nought}
 use Rattle.balance_laws.specs.Booking.{many, keyed, total, BookedSums, entered-booked, total-entered, like-agrees, single, many-none}
 

@@ -9,11 +9,11 @@ use lib.ListN.{length, getD, drop, drop-of-length-le}
 use lib.Seq.{drop-cons}
 use Rattle.rules.specs.Text.{any}
 use Rattle.rules.specs.Engine.{Key, Position, keyBefore, sameKey, positionOf, isOpen, booked}
+use Rattle.laws.specs.Order.{Sorted, Sorted.next}
 use Rattle.rule_laws.specs.Keys.{test-before, before-other, before-first, same-keys, gives-way}
 use Rattle.laws.specs.Sections.{inserted, replaced}
 use Rattle.laws.specs.Putting.{PutBehind, put-start, put-on, put-end, put-before, put-over}
 use Rattle.laws.specs.Tests.{never}
-use Rattle.engine_laws.specs.Order.{Sorted, Sorted.next}
 use Rattle.engine_laws.specs.Positions.{Before, booked-same, booked-ahead, booked-behind, open-same, open-other, found-same, found-other, not-open, not-found, first-before}
 
 -- the position of a key, with two totals

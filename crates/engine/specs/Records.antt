@@ -9,9 +9,9 @@ use lib.Seq.{drop-drop, drop-cons}
 use Rattle.rules.specs.Text.{isSome}
 use Rattle.rules.specs.Engine.{Key, Position, keyBefore, sameKey}
 use Rattle.rules.specs.Area.{numberAt, positionIn, records, decode, holds, areaSize, positionsPlace, manyPositionsPlace, recordSize}
+use Rattle.laws.specs.Order.{Sorted, ordered-sorted}
 use Rattle.engine_laws.specs.Checked.{records-length}
 use Rattle.engine_laws.specs.Decoded.{decoded-limits}
-use Rattle.engine_laws.specs.Order.{Sorted, ordered-sorted}
 use Rattle.engine_laws.specs.Positions.{Before, position-order}
 use Rattle.engine_laws.specs.Tests.{valueAt, keyAt}
 use Rattle.engine.specs.Header.{HeaderOf}

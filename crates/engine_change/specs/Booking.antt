@@ -19,12 +19,12 @@ use Rattle.laws.specs.Writing.{Wrote, wrote-then}
 use Rattle.laws.specs.Sections.{Each, inserted, replaced, each-map, each-inserted, map-inserted, padded-length}
 use Rattle.laws.specs.Standing.{Stands, moved}
 use Rattle.laws.specs.Moving.{RoomFor, opens}
-use Rattle.engine_laws.specs.Facts.{or-left, or-right}
+use Rattle.laws.specs.Tests.{or-left, or-right}
+use Rattle.laws.specs.Order.{ordered-sorted}
 use Rattle.engine_laws.specs.Limits.{Limits, limits}
 use Rattle.engine_laws.specs.EngineIn.{EngineIn}
 use Rattle.engine_laws.specs.Decoded.{decoded}
 use Rattle.engine_laws.specs.Sections.{referencePart, positionPart, textPart, Of, engine-sections, positions-stand}
-use Rattle.engine_laws.specs.Order.{ordered-sorted}
 use Rattle.engine_laws.specs.Positions.{position-order, booked-few}
 use Rattle.engine_laws.specs.Tests.{positionAt}
 use Rattle.engine_laws.specs.References.{filed-length}

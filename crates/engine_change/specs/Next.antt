@@ -11,8 +11,9 @@ use Rattle.laws.specs.Laid.{laid}
 use Rattle.laws.specs.Writing.{Wrote}
 use Rattle.laws.specs.Sections.{Each, Each.no-record, Each.and-record, each-map}
 use Rattle.laws.specs.Standing.{Stands}
+use Rattle.laws.specs.All.{All, All.none, All.more}
 use Rattle.engine_laws.specs.Limits.{limits}
-use Rattle.engine_laws.specs.Layout.{WrittenBack, All, All.none, All.more}
+use Rattle.engine_laws.specs.Layout.{WrittenBack}
 use Rattle.engine_laws.specs.EngineIn.{EngineIn, references-kept}
 use Rattle.engine_laws.specs.Sections.{referencePart, positionPart, textPart, Of, header-length, sections-encode, engine-sections, positions-stand}
 use Rattle.engine_change.specs.Header.{numbers, lengths, header-halves, numbers-length}

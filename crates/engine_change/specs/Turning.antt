@@ -15,8 +15,9 @@ use Rattle.laws.specs.Laid.{laid}
 use Rattle.laws.specs.Writing.{Wrote}
 use Rattle.laws.specs.Sections.{Each, Each.no-record, passing, Agree, Agree.on-none, Agree.on-more, each-map}
 use Rattle.laws.specs.Moving.{Sifted}
+use Rattle.laws.specs.All.{All, All.none, All.more}
 use Rattle.engine_laws.specs.Limits.{Limits, limits}
-use Rattle.engine_laws.specs.Layout.{WrittenBack, All, All.none, All.more}
+use Rattle.engine_laws.specs.Layout.{WrittenBack}
 use Rattle.engine_laws.specs.EngineIn.{EngineIn, positions-kept}
 use Rattle.engine_laws.specs.Decoded.{decoded}
 use Rattle.engine_laws.specs.Sections.{referencePart, positionPart}

@@ -18,10 +18,9 @@ use Rattle.rules.specs.Messages.{Message, Detail, past, readTransfer, readOrder
 use Rattle.rules.specs.Engine.{isBank, lastBank}
 use Rattle.laws.specs.Numbers.{bic-number, bic-small}
 use Rattle.laws.specs.Parts.{cut, from, from-take}
-use Rattle.laws.specs.Tests.{and-right, cond-right, never}
+use Rattle.laws.specs.Tests.{and-right, cond-right, never, cond-left, cond-both}
 use Rattle.rule_laws.specs.Dates.{date-exists}
 use Rattle.rule_laws.specs.Messages.{row-first, DetailsRead, DetailsRead.last, DetailsRead.more, ReadAs, ReadAs.transfer, ReadAs.order, transfer-as, order-as, read-as}
-use Rattle.engine_laws.specs.Facts.{cond-left, cond-both}
 
 -- ---- MT103 and MT101
 

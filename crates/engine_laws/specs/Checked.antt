@@ -15,10 +15,10 @@ use Rattle.rules.specs.Area.{zeros, padded, untilZero, numberAt, referenceIn, p
 use Rattle.laws.specs.Numbers.{Within, bytes-within, within-take, within-drop}
 use Rattle.laws.specs.Parts.{cut}
 use Rattle.laws.specs.Sections.{zeros-length}
-use Rattle.laws.specs.Tests.{cond-right}
-use Rattle.engine_laws.specs.Facts.{cond-left, cond-both}
+use Rattle.laws.specs.Tests.{cond-right, cond-left, cond-both}
+use Rattle.laws.specs.All.{All, All.none, All.more}
 use Rattle.engine_laws.specs.Bytes.{Bytes}
-use Rattle.engine_laws.specs.Layout.{All, All.none, All.more, text-byte}
+use Rattle.engine_laws.specs.Layout.{text-byte}
 use Rattle.engine_laws.specs.Positions.{Good}
 use Rattle.engine_laws.specs.References.{Form}
 use Rattle.engine_laws.specs.Walk.{walk, always}

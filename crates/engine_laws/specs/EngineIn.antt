@@ -14,13 +14,14 @@ use Rattle.rules.specs.Engine.{Position, Reference, Engine, goodPosition, goodP
 use Rattle.rules.specs.Area.{zeros, padded, joined, referenceRecord, positionRecord, textsOf, lengthsOf, mark, header, encode, numberAt, referenceIn, positionIn, textAt, records, decode, holds, areaSize, lengthsRoom, referencesPlace, positionsPlace, positionsRoom, referencesRoom, textsRoom, dayPlace, countPlace, manyPositionsPlace, manyReferencesPlace}
 use Rattle.laws.specs.Digits.{places-length}
 use Rattle.laws.specs.Sections.{zeros-length, padded-length}
-use Rattle.laws.specs.Tests.{and-left, and-right, cond-right}
+use Rattle.laws.specs.Tests.{and-left, and-right, cond-right, cond-left}
+use Rattle.laws.specs.Equal.{equal-true, equal-same}
+use Rattle.laws.specs.All.{All, All.none, All.more}
 use Rattle.rule_laws.specs.Options.{Gave, gave}
 use Rattle.rule_laws.specs.Dates.{date-small}
-use Rattle.engine_laws.specs.Facts.{cond-left, equal-true, equal-same}
 use Rattle.rule_laws.specs.Registers.{register-length}
 use Rattle.engine_laws.specs.Limits.{Limits, limits}
-use Rattle.engine_laws.specs.Layout.{WrittenBack, All, All.none, All.more, number-at, joined-length, records-back, position-kept, reference-kept}
+use Rattle.engine_laws.specs.Layout.{WrittenBack, number-at, joined-length, records-back, position-kept, reference-kept}
 use Rattle.engine_laws.specs.Tests.{textCount}
 use Rattle.engine_laws.specs.Several.{Texts, lengths-length, text-back}
 

@@ -19,13 +19,14 @@ use Rattle.laws.specs.Numbers.{Within, bytes-within}
 use Rattle.laws.specs.Parts.{cut}
 use Rattle.laws.specs.Sections.{Each, no-record, and-record, records-are}
 use Rattle.laws.specs.Standing.{Stands, stands-records}
-use Rattle.laws.specs.Tests.{and-left, and-right}
+use Rattle.laws.specs.Tests.{and-left, and-right, and-both, either}
+use Rattle.laws.specs.Equal.{equal-true, equal-same}
+use Rattle.laws.specs.All.{All, All.none, All.more}
 use Rattle.rule_laws.specs.Options.{isSome-is, There, there}
-use Rattle.engine_laws.specs.Facts.{and-both, equal-true, equal-same, either}
 use Rattle.engine_laws.specs.Bytes.{Bytes}
 use Rattle.rule_laws.specs.Registers.{register-length}
 use Rattle.engine_laws.specs.Limits.{Limits, limits, limits-within}
-use Rattle.engine_laws.specs.Layout.{WrittenBack, All, All.none, All.more, part-at, joined-length}
+use Rattle.engine_laws.specs.Layout.{WrittenBack, part-at, joined-length}
 use Rattle.engine_laws.specs.Several.{Texts, stands-zeros, zeros-stand, text-size, lengths-behind, texts-behind, textsBefore, lengths-same, texts-same}
 use Rattle.engine_laws.specs.EngineIn.{EngineIn, engine-in, positions-kept, references-kept, texts-count}
 use Rattle.engine_laws.specs.Positions.{Good, all-good, good-all}

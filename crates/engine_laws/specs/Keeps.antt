@@ -16,11 +16,11 @@ use Rattle.rules.specs.Verdict.{isReturned}
 use Rattle.rules.specs.Engine.{Position, Engine, limit, slashed, isBank, goodPositions, goodReference, goodReferences, within}
 use Rattle.rules.specs.Written.{partsOf}
 use Rattle.rules.specs.Calls.{firstOf, openStops, opened, badReference, misdated, bankOf, ownReference, addition, positionAfter, noRoom, overLimit, verdictOf, returnedOf, hasVerdict, messagesWritten, afterMessage, messageStops, turnStops, afterTurn}
+use Rattle.laws.specs.Tests.{or-left, or-right}
+use Rattle.laws.specs.Order.{Sorted, ordered-sorted, sorted-ordered}
 use Rattle.rule_laws.specs.Clear.{OpenClear, open-clear, Clear, clear, TurnClear, turn-clear}
-use Rattle.engine_laws.specs.Facts.{or-left, or-right}
 use Rattle.engine_laws.specs.Limits.{Limits, limits, limits-within}
 use Rattle.engine_laws.specs.Positions.{Before, position-order, booked-sorted, booked-few, UnderLimit, booked-good, all-good, good-all, kept-sorted, kept-good, kept-length, corrected-length}
-use Rattle.engine_laws.specs.Order.{Sorted, ordered-sorted, sorted-ordered}
 use Rattle.engine_laws.specs.References.{reference-order, filed-length, filed-good, filed-sorted}
 use Rattle.engine_laws.specs.Accepted.{Has, read-has, sender-bank}
 

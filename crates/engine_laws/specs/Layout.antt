@@ -14,9 +14,9 @@ use Rattle.rules.specs.Area.{zeros, padded, joined, referenceRecord, keyBytes, 
 use Rattle.laws.specs.Digits.{places-length}
 use Rattle.laws.specs.Numbers.{number-bytes}
 use Rattle.laws.specs.Sections.{padded-length}
-use Rattle.laws.specs.Tests.{and-left, and-right, cond-right, between-low, between-high}
+use Rattle.laws.specs.Tests.{and-left, and-right, cond-left, cond-right, between-low, between-high}
+use Rattle.laws.specs.All.{All, All.none, All.more}
 use Rattle.rule_laws.specs.Dates.{date-small}
-use Rattle.engine_laws.specs.Facts.{cond-left}
 use Rattle.engine_laws.specs.Limits.{bank-small}
 
 -- ---- parts
@@ -34,10 +34,6 @@ number-at a p q i w v h k e = ap bigEndian (part-at a p (bytes w v) q i w h (pla
 pub record WrittenBack {A : Type 0} (write : A → List ℕ) (reads : List ℕ → A) (x : A) : Type 0 where
   pub wide : length (write x) ≡ recordSize
   pub back : reads (write x) ≡ x
-
-pub data All {A : Type 0} (P : A → Type 0) : List A → Type 0 where
-  none : All P []
-  more : {x : A} {xs : List A} → P x → All P xs → All P (x ∷ xs)
 
 module _ {A : Type 0} (write : A → List ℕ) (reads : List ℕ → A) where
   pub joined-length : {xs : List A} → All (WrittenBack write reads) xs → length (joined (map write xs)) ≡ recordSize * length xs

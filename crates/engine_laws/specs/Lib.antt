@@ -1,9 +1,7 @@
-pub mod Facts
 pub mod Limits
 pub mod Layout
 pub mod Several
 pub mod EngineIn
-pub mod Order
 pub mod Positions
 pub mod References
 pub mod Accepted

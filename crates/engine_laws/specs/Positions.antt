@@ -11,12 +11,11 @@ use Rattle.rules.specs.Text.{any}
 use Rattle.rules.specs.Dates.{exists}
 use Rattle.rules.specs.Engine.{Position, limit, earlier, alike, raised, positionOf, isOpen, booked, hasDetails, kept, isBank, goodPosition, goodPositions}
 use Rattle.rules.specs.Written.{corrected, correctedCount}
-use Rattle.laws.specs.Tests.{and-left, and-right, cond-right, never}
+use Rattle.laws.specs.Tests.{and-left, and-right, cond-right, never, cond-left, cond-both, any-neither}
+use Rattle.laws.specs.All.{All, All.none, All.more}
+use Rattle.laws.specs.Order.{Ordering, Sorted, Sorted.empty, Sorted.next, all-before}
 use Rattle.rule_laws.specs.Keys as K
 use Rattle.rule_laws.specs.Keys.{before-trans, test-before, before-test, behind-other, KeyPlace, KeyPlace.same, KeyPlace.ahead, KeyPlace.behind, place}
-use Rattle.engine_laws.specs.Facts.{cond-left, cond-both, any-neither}
-use Rattle.engine_laws.specs.Layout.{All, All.none, All.more}
-use Rattle.engine_laws.specs.Order.{Ordering, Sorted, Sorted.empty, Sorted.next, all-before}
 
 -- ---- "by BIC in byte order and then date"
 

@@ -16,8 +16,7 @@ use Rattle.rules.specs.Area.{zeros, padded, numberAt, untilZero, referenceIn, k
 use Rattle.laws.specs.Digits.{places-length}
 use Rattle.laws.specs.Numbers.{Within, bytes-number, within-take, within-drop}
 use Rattle.laws.specs.Parts.{cut, from, cut-cut, cut-drop, cut-take, from-take}
-use Rattle.laws.specs.Tests.{and-left, and-right, cond-right}
-use Rattle.engine_laws.specs.Facts.{cond-left}
+use Rattle.laws.specs.Tests.{and-left, and-right, cond-right, cond-left}
 use Rattle.engine_laws.specs.Layout.{part-at}
 use Rattle.engine_laws.specs.Positions.{Good}
 use Rattle.engine_laws.specs.Accepted.{bic-bank}

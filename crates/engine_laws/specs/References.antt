@@ -9,10 +9,9 @@ use lib.ListN.{length}
 use borrow.Author.Tests.{leb-true, leb-false, le-leb, lt-leb, eqb-true, eqb-false, eq-eqb, ne-eqb, not-false}
 use Rattle.rules.specs.Text.{equal, any, twice, textBefore}
 use Rattle.rules.specs.Engine.{Reference, sameReference, precedes, filed, goodReference, goodReferences}
-use Rattle.laws.specs.Tests.{cond-right, never}
-use Rattle.engine_laws.specs.Facts.{cond-left, cond-both, or-left, or-right, any-left, any-right, any-neither}
-use Rattle.engine_laws.specs.Layout.{All, All.none, All.more}
-use Rattle.engine_laws.specs.Order.{Ordering, Sorted, Sorted.empty, Sorted.next, all-before}
+use Rattle.laws.specs.Tests.{cond-right, never, cond-left, cond-both, or-left, or-right, any-left, any-right, any-neither}
+use Rattle.laws.specs.All.{All, All.none, All.more}
+use Rattle.laws.specs.Order.{Ordering, Sorted, Sorted.empty, Sorted.next, all-before}
 
 -- ---- byte order of texts
 

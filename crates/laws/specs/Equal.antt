@@ -6,10 +6,10 @@ use Prim.Native.Nat.{ℕ, _+_, _-_, _≤_}
 use native.Mathlib.Omega.{arith}
 use lib.ListN.{length}
 use lib.Dec.{eqb}
-use borrow.Author.Tests.{eqb-true}
+use borrow.Author.Tests.{eqb-true, eq-eqb}
 use Rattle.rules.specs.Text.{equal}
 use Rattle.laws.specs.Parts.{cut, cut-length}
-use Rattle.laws.specs.Tests.{not-holds, never}
+use Rattle.laws.specs.Tests.{not-holds, never, cond-both}
 
 -- texts that are told equal are the same
 pub equal-true : (cs ds : List ℕ) → equal cs ds ≡ true → cs ≡ ds
@@ -22,6 +22,12 @@ equal-true (c ∷ cs) (d ∷ ds) h = go (eqb c d) refl (equal-true cs ds) h
     go : (b : Bool) → eqb c d ≡ b → (equal cs ds ≡ true → cs ≡ ds) → cond b (equal cs ds) false ≡ true → c ∷ cs ≡ d ∷ ds
     go true e f k = let a : c ≡ d = eqb-true c d e in rw (a, f k)
     go false e f k = never k
+
+-- a text is told equal to itself
+pub equal-same : (a : List ℕ) → equal a a ≡ true
+unfolding equal
+equal-same [] = refl
+equal-same (c ∷ cs) = cond-both (eqb c c) (equal cs cs) (eq-eqb c c refl) (equal-same cs)
 
 -- two parts: of different lengths, and of one length n
 module _ (s t : List ℕ) (a e b f : ℕ) where

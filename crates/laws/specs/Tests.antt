@@ -33,6 +33,42 @@ pub cond-right : (a b : Bool) → cond a b false ≡ true → b ≡ true
 cond-right true b h = h
 cond-right false b h = never h
 
+-- ---- both, either, neither
+
+pub cond-both : (a b : Bool) → a ≡ true → b ≡ true → cond a b false ≡ true
+cond-both a b h k = rw (h, k)
+
+pub and-both : (a b : Bool) → a ≡ true → b ≡ true → (a && b) ≡ true
+and-both a b h k = rw (h, k)
+
+pub or-left : (a b : Bool) → (a || b) ≡ false → a ≡ false
+or-left true b h = h
+or-left false b h = refl
+
+pub or-right : (a b : Bool) → (a || b) ≡ false → b ≡ false
+or-right true b h = never (sym h)
+or-right false b h = h
+
+-- as `any` and its like join tests
+pub any-left : (a b : Bool) → cond a true b ≡ false → a ≡ false
+any-left true b h = h
+any-left false b h = refl
+
+pub any-right : (a b : Bool) → cond a true b ≡ false → b ≡ false
+any-right true b h = never (sym h)
+any-right false b h = h
+
+pub any-neither : (a b : Bool) → a ≡ false → b ≡ false → cond a true b ≡ false
+any-neither a b h k = rw (h, k)
+
+-- two tests that hold together
+pub either : (s t : Bool) → (s ≡ true → t ≡ true) → (t ≡ true → s ≡ true) → s ≡ t
+either true t f g = sym (f refl)
+either false true f g = g refl
+either false false f g = refl
+
+-- ---- what a call answered
+
 -- an answer that is there where a test holds
 module _ {A : Type 0} (t : Bool) (x : A) (o : Option A) (e : cond t (some x) none ≡ o) where
   pub answer-is : t ≡ true → o ≡ some x

@@ -1,8 +1,11 @@
--- What holds of each of a list holds of each of a part of it, of one more, and of a list to which it is handed on.
+-- What holds of each of a list: it holds of each of a part of it, of one more, and of a list to which it is handed on.
 use mathlib.Core.List.{List, [], _∷_, _++_}
 use Prim.Native.Nat.{ℕ, zero, suc}
 use lib.ListN.{take, drop}
-use Rattle.engine_laws.specs.Layout.{All, All.none, All.more}
+
+pub data All {A : Type 0} (P : A → Type 0) : List A → Type 0 where
+  none : All P []
+  more : {x : A} {xs : List A} → P x → All P xs → All P (x ∷ xs)
 
 module _ {A : Type 0} {P : A → Type 0} where
   pub all-take : (n : ℕ) {xs : List A} → All P xs → All P (take n xs)

@@ -3,9 +3,8 @@ use mathlib.Core.Path.{_≡_, refl}
 use mathlib.Core.Bool.{Bool, true}
 use mathlib.Core.List.{List, [], _∷_}
 use Rattle.rules.specs.Text.{ordered}
-use Rattle.laws.specs.Tests.{cond-right}
-use Rattle.engine_laws.specs.Facts.{cond-left, cond-both}
-use Rattle.engine_laws.specs.Layout.{All, All.none, All.more}
+use Rattle.laws.specs.Tests.{cond-left, cond-right, cond-both}
+use Rattle.laws.specs.All.{All, All.none, All.more}
 
 -- a test of the order, and what it says
 pub record Ordering {A : Type 0} (before : A → A → Bool) (Before : A → A → Type 0) : Type 0 where
