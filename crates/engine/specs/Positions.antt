@@ -8,7 +8,7 @@ use lib.Dec.{lit≤}
 use lib.ListN.{drop}
 use lib.Seq.{drop-drop}
 use Rattle.rules.specs.Engine.{Position}
-use Rattle.rules.specs.Area.{keyIn, positionIn, records, positionsPlace, dateOffset, transferredOffset, detailedOffset, recordSize}
+use Rattle.rules.specs.Area.{keyIn, positionIn, records, positionsPlace, dateOffset, transferredOffset, detailedOffset, recordSize, recordsOf}
 use Rattle.engine_laws.specs.Records.{number-within}
 use Rattle.engine_laws.specs.Tests.{valueAt, keyAt, positionAt}
 use Rattle.text.specs.Numbers.{NumberAt}
@@ -34,7 +34,7 @@ module _ {A : Type 0} (reads : List ℕ → A) (area : List ℕ) (p : ℕ) where
 
 -- as the layout says them
 pub values-are : {A : Type 0} (reads : List ℕ → A) (area : List ℕ) (p k : ℕ) → map reads (records k (drop p area)) ≡ valuesAt reads area p k
-unfolding valuesAt valueAt records
+unfolding valuesAt valueAt recordsOf
 values-are reads area p zero = refl
 values-are reads area p (suc k) = rw (drop-drop recordSize p area, values-are reads area (p + recordSize) k) refl
 

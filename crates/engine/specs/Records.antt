@@ -8,9 +8,9 @@ use lib.ListN.{length, getD, take, drop, drop-of-length-le}
 use lib.Seq.{drop-drop, drop-cons}
 use Rattle.rules.specs.Text.{isSome}
 use Rattle.rules.specs.Engine.{Key, Position, keyBefore, sameKey}
-use Rattle.rules.specs.Area.{numberAt, positionIn, records, decode, holds, areaSize, positionsPlace, manyPositionsPlace, recordSize}
+use Rattle.rules.specs.Area.{numberAt, positionIn, records, decode, holds, areaSize, positionsPlace, manyPositionsPlace, recordSize, recordsOf}
 use Rattle.laws.specs.Order.{Sorted, ordered-sorted}
-use Rattle.engine_laws.specs.Checked.{records-length}
+use Rattle.engine_laws.specs.Checked.{reads-length}
 use Rattle.engine_laws.specs.Decoded.{decoded-limits}
 use Rattle.engine_laws.specs.Positions.{Before, position-order}
 use Rattle.engine_laws.specs.Tests.{valueAt, keyAt}
@@ -31,7 +31,7 @@ many a x h n = record { same = n .positions; few = n .positions-few; long = n .l
 
 -- the i-th of n records
 read-at : {A : Type 0} (f : List ℕ → A) (n i : ℕ) (bs : List ℕ) (none : A) → i < n → getD (map f (records n bs)) i none ≡ f (take recordSize (drop (recordSize * i) bs))
-unfolding records
+unfolding recordsOf
 read-at f zero i bs none h = absurd (omega arith)
 read-at f (suc n) zero bs none h = refl
 read-at f (suc n) (suc i) bs none h =
@@ -41,7 +41,7 @@ read-at f (suc n) (suc i) bs none h =
 -- the i-th of those from a place of an area on
 pub read-nth : {A : Type 0} (f : List ℕ → A) (a : List ℕ) (n at i : ℕ) (none : A) → i < length (map f (records n (drop at a))) → getD (map f (records n (drop at a))) i none ≡ valueAt f a (at + recordSize * i)
 unfolding valueAt
-read-nth f a n at i none h = let m : length (map f (records n (drop at a))) ≡ n = records-length f n (drop at a) in read-at f n i (drop at a) none (rw m at h) ∙ rw (drop-drop (recordSize * i) at a)
+read-nth f a n at i none h = let m : length (map f (records n (drop at a))) ≡ n = reads-length f n (drop at a) in read-at f n i (drop at a) none (rw m at h) ∙ rw (drop-drop (recordSize * i) at a)
 
 nth-read : (a : List ℕ) (i : ℕ) (none : Position) → i < length (decode a .positions) → getD (decode a .positions) i none ≡ nthPosition a i
 unfolding decode

@@ -9,11 +9,10 @@ use Rattle.rules.specs.Area.{referenceRecord, keyBytes, positionRecord, referen
 use Rattle.laws.specs.Digits.{places-length}
 use Rattle.laws.specs.Laid.{laid}
 use Rattle.laws.specs.Writing.{Wrote}
-use Rattle.laws.specs.Sections.{Each, Each.no-record, Each.and-record, each-map}
+use Rattle.laws.specs.Sections.{Each, each-map}
 use Rattle.laws.specs.Standing.{Stands}
-use Rattle.laws.specs.All.{All, All.none, All.more}
 use Rattle.engine_laws.specs.Limits.{limits}
-use Rattle.engine_laws.specs.Layout.{WrittenBack}
+use Rattle.engine_laws.specs.Layout.{written-each}
 use Rattle.engine_laws.specs.EngineIn.{EngineIn, references-kept}
 use Rattle.engine_laws.specs.Sections.{referencePart, positionPart, textPart, Of, header-length, sections-encode, engine-sections, positions-stand}
 use Rattle.engine_change.specs.Header.{numbers, lengths, header-halves, numbers-length}
@@ -25,15 +24,11 @@ pub position-wide : (p : Position) → length (positionRecord p) ≡ recordSize
 unfolding positionRecord keyBytes
 position-wide p = simp (length-append, places-length)
 
-kept-each : {A : Type 0} (write : A → List ℕ) (reads : List ℕ → A) {xs : List A} → All (WrittenBack write reads) xs → Each recordSize (map write xs)
-kept-each write reads none = no-record
-kept-each write reads (more k s) = and-record (k .wide) (kept-each write reads s)
-
 -- ---- the sections of an engine's area
 
 module _ {area : List ℕ} {e : Engine} (h : EngineIn area e) where
   pub references-each : Each recordSize (map referenceRecord (e .references))
-  references-each = kept-each referenceRecord referenceIn (references-kept (e .references) (limits e (h .good) .forms))
+  references-each = written-each referenceRecord referenceIn (references-kept (e .references) (limits e (h .good) .forms))
 
   pub positions-section : Stands (header e ++ referencePart (e .references)) (section positionsRoom positionRecord (e .positions)) (textPart (textsOf e) ++ drop areaSize area) positionsPlace area
   unfolding positionPart

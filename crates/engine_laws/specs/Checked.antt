@@ -6,15 +6,15 @@ use Prim.Native.Nat.{ℕ, zero, suc, _+_, _-_, _*_, _≤_}
 use native.Mathlib.Nat.{add-zero}
 use native.Mathlib.Omega.{arith}
 use lib.Dec.{leb, eqb, lit≤}
-use lib.ListN.{length, take, drop, replicate, length-append, length-drop}
+use lib.ListN.{length, take, drop, replicate, length-append, length-drop, length-map}
 use lib.Seq.{drop-drop, length-take-le}
 use borrow.Author.Tests.{eqb-true, eqb-false, eq-eqb, ne-eqb, le-leb, lt-leb}
 use Rattle.rules.specs.Text.{isText, every, bigEndian, ordered, textBefore}
 use Rattle.rules.specs.Engine.{earlier, precedes}
-use Rattle.rules.specs.Area.{zeros, padded, untilZero, numberAt, referenceIn, positionIn, referenceRecord, positionRecord, records, recordSize}
+use Rattle.rules.specs.Area.{zeros, padded, untilZero, numberAt, referenceIn, positionIn, referenceRecord, positionRecord, records, recordSize, recordsOf}
 use Rattle.laws.specs.Numbers.{Within, bytes-within, within-take, within-drop}
 use Rattle.laws.specs.Parts.{cut}
-use Rattle.laws.specs.Sections.{zeros-length}
+use Rattle.laws.specs.Sections.{zeros-length, records-length}
 use Rattle.laws.specs.Tests.{cond-right, cond-left, cond-both}
 use Rattle.laws.specs.All.{All, All.none, All.more}
 use Rattle.engine_laws.specs.Bytes.{Bytes}
@@ -32,7 +32,7 @@ each f [] = true
 each f (r ∷ rs) = cond (f r) (each f rs) false
 
 pub walk-each : (a : List ℕ) (t : ℕ → ℕ → Bool) (f : List ℕ → Bool) → ((k p : ℕ) → t k p ≡ f (cut a p (p + recordSize))) → (n p : ℕ) → walk t n p ≡ each f (records n (drop p a))
-unfolding walk each records
+unfolding walk each recordsOf
 walk-each a t f h zero p = refl
 walk-each a t f h (suc n) p = rw (h n p, cut-is a p recordSize, drop-drop recordSize p a, walk-each a t f h n (p + recordSize))
 
@@ -43,16 +43,14 @@ pub record Rec (r : List ℕ) : Type 0 where
   pub wide : length r ≡ recordSize
 
 pub records-bytes : (a : List ℕ) → Bytes a → (n p : ℕ) → p + recordSize * n ≤ length a → All Rec (records n (drop p a))
-unfolding records
+unfolding recordsOf
 records-bytes a b zero p h = none
 records-bytes a b (suc n) p h =
     let others : All Rec (records n (drop recordSize (drop p a))) = rw (drop-drop recordSize p a) (records-bytes a b n (p + recordSize) (omega arith)) in
     more record { bytes = within-take recordSize (within-drop p (bytes-within a b)); wide = length-take-le recordSize (drop p a) (rw length-drop (omega arith)) } others
 
-pub records-length : {A : Type 0} (reads : List ℕ → A) (n : ℕ) (cs : List ℕ) → length (map reads (records n cs)) ≡ n
-unfolding records
-records-length reads zero cs = refl
-records-length reads (suc n) cs = ap suc (records-length reads n (drop recordSize cs))
+pub reads-length : {A : Type 0} (reads : List ℕ → A) (n : ℕ) (cs : List ℕ) → length (map reads (records n cs)) ≡ n
+reads-length reads n cs = length-map (records n cs) reads ∙ records-length recordSize n cs
 
 -- a test of a record: it passes exactly if P holds of what the record says, which is written as it stands
 pub record Checks {A : Type 0} (f : List ℕ → Bool) (write : A → List ℕ) (reads : List ℕ → A) (P : A → Type 0) : Type 0 where
@@ -81,7 +79,7 @@ module _ {A : Type 0} (f : List ℕ → Bool) (write : A → List ℕ) (reads : 
 module _ {A : Type 0} (a : List ℕ) (test : ℕ → Bool) (reads : List ℕ → A) (before : A → A → Bool) (P : List ℕ → Type 0)
     (same : (p : ℕ) → P (take recordSize (drop p a)) → P (take recordSize (drop (p + recordSize) a)) → test p ≡ before (reads (take recordSize (drop p a))) (reads (take recordSize (drop (p + recordSize) a)))) where
   next-from : (n p : ℕ) → All P (records (suc n) (drop p a)) → walk (always test) n p ≡ ordered before (map reads (records (suc n) (drop p a)))
-  unfolding walk ordered records
+  unfolding walk ordered recordsOf
   next-from zero p w = refl
   next-from (suc n) p (more k (more l w)) =
       let e : drop recordSize (drop p a) ≡ drop (p + recordSize) a = drop-drop recordSize p a in
@@ -89,7 +87,7 @@ module _ {A : Type 0} (a : List ℕ) (test : ℕ → Bool) (reads : List ℕ →
       rw (same p k (rw e at l), o, e)
 
   pub next-walk : (n p : ℕ) → All P (records n (drop p a)) → walk (always test) (n - 1) p ≡ ordered before (map reads (records n (drop p a)))
-  unfolding walk ordered records
+  unfolding walk ordered recordsOf
   next-walk zero p w = refl
   next-walk (suc n) p w = let e : suc n - 1 ≡ n = omega arith in rw e (next-from n p w)
 

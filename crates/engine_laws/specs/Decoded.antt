@@ -16,7 +16,7 @@ use Rattle.engine_laws.specs.Several.{TextRoom, text-in}
 use Rattle.engine_laws.specs.EngineIn.{EngineIn, engine-in, texts-count}
 use Rattle.engine_laws.specs.Sections.{engine-texts}
 use Rattle.engine_laws.specs.Tests.{textCount}
-use Rattle.engine_laws.specs.Checked.{records-length}
+use Rattle.engine_laws.specs.Checked.{reads-length}
 
 module _ (a : List ℕ) (h : isSome (holds a) ≡ true) where
   -- the engine in the area is the one that is read
@@ -35,11 +35,11 @@ module _ (a : List ℕ) (h : isSome (holds a) ≡ true) where
   -- how many positions and references there are
   pub decoded-positions : numberAt a manyPositionsPlace 1 ≡ length (decode a .positions)
   unfolding decode
-  decoded-positions = sym (records-length positionIn (numberAt a manyPositionsPlace 1) (drop positionsPlace a))
+  decoded-positions = sym (reads-length positionIn (numberAt a manyPositionsPlace 1) (drop positionsPlace a))
 
   pub decoded-references : numberAt a manyReferencesPlace 1 ≡ length (decode a .references)
   unfolding decode
-  decoded-references = sym (records-length referenceIn (numberAt a manyReferencesPlace 1) (drop referencesPlace a))
+  decoded-references = sym (reads-length referenceIn (numberAt a manyReferencesPlace 1) (drop referencesPlace a))
 
   -- text k stands within the area
   pub decoded-text : (k : ℕ) → k < textCount → TextRoom a k (lengthAt a k)

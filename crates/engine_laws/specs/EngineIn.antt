@@ -21,7 +21,7 @@ use Rattle.rule_laws.specs.Options.{Gave, gave}
 use Rattle.rule_laws.specs.Dates.{date-small}
 use Rattle.rule_laws.specs.Registers.{register-length}
 use Rattle.engine_laws.specs.Limits.{Limits, limits}
-use Rattle.engine_laws.specs.Layout.{WrittenBack, number-at, joined-length, records-back, position-kept, reference-kept}
+use Rattle.engine_laws.specs.Layout.{WrittenBack, number-at, position-kept, reference-kept, written-length, written-read}
 use Rattle.engine_laws.specs.Tests.{textCount}
 use Rattle.engine_laws.specs.Several.{Texts, lengths-length, text-back}
 
@@ -79,11 +79,11 @@ module _ (e : Engine) (l : Limits e) (m : List ℕ) (two : length m ≡ 2) where
 
   length-R : length R ≤ referencesRoom
   unfolding R
-  length-R = omega (arith, joined-length referenceRecord referenceIn (references-kept (e .references) (l .forms)), l .references-few)
+  length-R = omega (arith, written-length referenceRecord referenceIn (references-kept (e .references) (l .forms)), l .references-few)
 
   length-P : length P ≤ positionsRoom
   unfolding P
-  length-P = omega (arith, joined-length positionRecord positionIn (positions-kept (e .day) (e .positions) (l .good)), l .few)
+  length-P = omega (arith, written-length positionRecord positionIn (positions-kept (e .day) (e .positions) (l .good)), l .few)
 
   length-L : length (lengthsOf (textsOf e)) ≡ lengthsRoom
   length-L = lengths-length (textsOf e) (texts-few e)
@@ -135,9 +135,9 @@ module _ (e : Engine) (l : Limits e) (m : List ℕ) (two : length m ≡ 2) where
       } in
       let text : textAt a 0 ≡ e .register = text-back stand 0 (omega (arith, texts-count e)) ∙ register-first e in
       let rs : map referenceIn (records (numberAt a manyReferencesPlace 1) (drop referencesPlace a)) ≡ e .references =
-      rw (references-at, from-R) (records-back referenceRecord referenceIn (u ++ (P ++ (v ++ (G ++ w)))) (references-kept (e .references) (l .forms))) in
+      rw (references-at, from-R) (written-read referenceRecord referenceIn (u ++ (P ++ (v ++ (G ++ w)))) (references-kept (e .references) (l .forms))) in
       let ps : map positionIn (records (numberAt a manyPositionsPlace 1) (drop positionsPlace a)) ≡ e .positions =
-      rw (positions-at, from-P) (records-back positionRecord positionIn (v ++ (G ++ w)) (positions-kept (e .day) (e .positions) (l .good))) in
+      rw (positions-at, from-P) (written-read positionRecord positionIn (v ++ (G ++ w)) (positions-kept (e .day) (e .positions) (l .good))) in
       let at-day : numberAt a dayPlace 3 ≡ e .day =
       number-at a m (C ++ (N ++ (M ++ (O ++ (L ++ texts))))) 2 3 (e .day) two (omega arith) (simp append-assoc) in
       λ i. record { register = text i; day = at-day i; positions = ps i; references = rs i; count = count-at i }

@@ -2,7 +2,7 @@
 use mathlib.Core.Path.{_≡_, refl, sym, ap, _∙_}
 use mathlib.Core.Bool.{Bool, true, _&&_}
 use mathlib.Core.List.{List, [], _++_, map, append-assoc}
-use mathlib.Core.Option.{none, some}
+use mathlib.Core.Option.{some}
 use Prim.Native.Nat.{ℕ, zero, suc, _+_, _-_, _*_, _≤_}
 use native.Mathlib.Omega.{arith}
 use lib.Dec.{leb, lit≤}
@@ -13,20 +13,19 @@ use Rattle.rules.specs.Text.{every, equal, bigEndian, bytes, isSome, given}
 use Rattle.rules.specs.Dates.{exists}
 use Rattle.rules.specs.Register.{register}
 use Rattle.rules.specs.Engine.{Engine, within}
-use Rattle.rules.specs.Area.{padded, joined, textsOf, lengthsOf, mark, header, encode, numberAt, lengthAt, textPlace, textAt, referenceIn, positionIn, referenceRecord, positionRecord, records, decode, holds, areaSize, currencyPlace, lengthsPlace, lengthsRoom, referencesPlace, positionsPlace, positionsRoom, referencesRoom, textsPlace, textsRoom, dayPlace, countPlace, manyPositionsPlace, manyReferencesPlace, recordSize}
+use Rattle.rules.specs.Area.{padded, joined, textsOf, lengthsOf, mark, header, encode, numberAt, lengthAt, textPlace, textAt, referenceIn, positionIn, referenceRecord, positionRecord, records, recordsOf, decode, holds, areaSize, currencyPlace, lengthsPlace, lengthsRoom, referencesPlace, positionsPlace, positionsRoom, referencesRoom, textsPlace, textsRoom, dayPlace, countPlace, manyPositionsPlace, manyReferencesPlace, recordSize}
 use Rattle.laws.specs.Digits.{places-length}
 use Rattle.laws.specs.Numbers.{Within, bytes-within}
 use Rattle.laws.specs.Parts.{cut}
-use Rattle.laws.specs.Sections.{Each, no-record, and-record, records-are}
 use Rattle.laws.specs.Standing.{Stands, stands-records}
 use Rattle.laws.specs.Tests.{and-left, and-right, and-both, either}
 use Rattle.laws.specs.Equal.{equal-true, equal-same}
-use Rattle.laws.specs.All.{All, All.none, All.more}
+use Rattle.laws.specs.All.{All}
 use Rattle.rule_laws.specs.Options.{isSome-is, There, there}
 use Rattle.engine_laws.specs.Bytes.{Bytes}
 use Rattle.rule_laws.specs.Registers.{register-length}
 use Rattle.engine_laws.specs.Limits.{Limits, limits, limits-within}
-use Rattle.engine_laws.specs.Layout.{WrittenBack, part-at, joined-length}
+use Rattle.engine_laws.specs.Layout.{WrittenBack, part-at, written-length, written-each, written-back}
 use Rattle.engine_laws.specs.Several.{Texts, stands-zeros, zeros-stand, text-size, lengths-behind, texts-behind, textsBefore, lengths-same, texts-same}
 use Rattle.engine_laws.specs.EngineIn.{EngineIn, engine-in, positions-kept, references-kept, texts-count}
 use Rattle.engine_laws.specs.Positions.{Good, all-good, good-all}
@@ -34,7 +33,7 @@ use Rattle.engine_laws.specs.Sections.{Of, referencePart, positionPart, 
 use Rattle.engine_laws.specs.Walk.{walk, always}
 use Rattle.engine_laws.specs.Tests.{isZero, countsTest, headerTest, referenceTest, filedTest, referencesTest, positionFits, positionTest, orderTest, positionsTest, areaTest, textCount, registerTest, textsTest}
 use Rattle.engine_laws.specs.Records.{cut-is, zero-bytes, zeros-zero, bytes-zero, bytes-stand, take-part}
-use Rattle.engine_laws.specs.Checked.{each, Rec, Checks, records-bytes, records-length, each-good, each-same, each-test, position-checks, positions-walk, order-walk, referenceFits, reference-checks, references-walk, whole-all, Filed, filed-all, filed-walk}
+use Rattle.engine_laws.specs.Checked.{each, Rec, Checks, records-bytes, reads-length, each-good, each-same, each-test, position-checks, positions-walk, order-walk, referenceFits, reference-checks, references-walk, whole-all, Filed, filed-all, filed-walk}
 use Rattle.engine_laws.specs.References.{Form, all-forms, forms-all}
 
 -- ---- the header
@@ -70,19 +69,11 @@ module _ (m : List ℕ) (two : length m ≡ 2) (d c n k o : ℕ) (rest : List �
 
 -- records one behind the other are the bytes
 joined-records : (n : ℕ) (cs : List ℕ) → joined (records n cs) ≡ take (recordSize * n) cs
-unfolding joined records
+unfolding joined recordsOf
 joined-records zero cs = refl
 joined-records (suc n) cs = let e : recordSize * suc n ≡ recordSize + recordSize * n = omega arith in rw (joined-records n (drop recordSize cs), e, take-add recordSize (recordSize * n) cs)
 
 -- ---- an area that holds an engine passes
-
-each-kept : {A : Type 0} {write : A → List ℕ} {reads : List ℕ → A} {xs : List A} → All (WrittenBack write reads) xs → Each recordSize (map write xs)
-each-kept none = no-record
-each-kept (more k s) = and-record (k .wide) (each-kept s)
-
-kept-back : {A : Type 0} {write : A → List ℕ} {reads : List ℕ → A} {xs : List A} → All (WrittenBack write reads) xs → map reads (map write xs) ≡ xs
-kept-back none = refl
-kept-back (more k s) = rw (k .back, kept-back s)
 
 -- n records at base are those of xs, pass their test, and the room behind them is zero
 record SectionPasses {A : Type 0} (f : List ℕ → Bool) (write : A → List ℕ) (n base room : ℕ) (a : List ℕ) (xs : List A) : Type 0 where
@@ -92,12 +83,12 @@ record SectionPasses {A : Type 0} (f : List ℕ → Bool) (write : A → List �
 
 module _ {A : Type 0} (f : List ℕ → Bool) (write : A → List ℕ) (reads : List ℕ → A) (P : A → Type 0) (c : Checks f write reads P) {p q a : List ℕ} {base : ℕ} (room : ℕ) (xs : List A) (n : ℕ) (b : Bytes a) (t : Stands p (padded room (joined (map write xs))) q base a) (k : All (WrittenBack write reads) xs) (m : n ≡ length xs) (fits : recordSize * length xs ≤ room) (long : base + room ≤ length a) where
   section-records : records n (drop base a) ≡ map write xs
-  section-records = rw (m, records-are) (rw (length-map) at (stands-records room t (each-kept k)))
+  section-records = rw m (rw length-map at (stands-records room t (written-each write reads k)))
 
   section-passes : All P xs → SectionPasses f write n base room a xs
   section-passes g =
-      let e : map reads (records n (drop base a)) ≡ xs = rw section-records (kept-back k) in
-      let j : length (joined (map write xs)) ≡ recordSize * n = joined-length write reads k ∙ rw m in record {
+      let e : map reads (records n (drop base a)) ≡ xs = rw section-records (written-back write reads k) in
+      let j : length (joined (map write xs)) ≡ recordSize * n = written-length write reads k ∙ rw m in record {
         stand = section-records;
         pass = each-test f write reads P c (records-bytes a b n base (omega arith)) (rw e g) (rw e (sym section-records));
         zero = rw j at (stands-zeros room (joined (map write xs)) t (omega arith));
@@ -134,10 +125,10 @@ module _ (a : List ℕ) (b : Bytes a) (e : Engine) (h : EngineIn a e) where
   x = engine-texts a e h
 
   many-positions : numberAt a manyPositionsPlace 1 ≡ length (e .positions)
-  many-positions = sym (records-length positionIn (numberAt a manyPositionsPlace 1) (drop positionsPlace a)) ∙ ap length positions-at
+  many-positions = sym (reads-length positionIn (numberAt a manyPositionsPlace 1) (drop positionsPlace a)) ∙ ap length positions-at
 
   many-references : numberAt a manyReferencesPlace 1 ≡ length (e .references)
-  many-references = sym (records-length referenceIn (numberAt a manyReferencesPlace 1) (drop referencesPlace a)) ∙ ap length references-at
+  many-references = sym (reads-length referenceIn (numberAt a manyReferencesPlace 1) (drop referencesPlace a)) ∙ ap length references-at
 
   header-passes : headerTest a ≡ true
   unfolding header whole
@@ -285,13 +276,13 @@ module _ (a : List ℕ) (b : Bytes a) (t : TestsPassed a) where
   decoded-within = limits-within (decode a) record {
     register = t .register;
     day = t .day;
-    few = rw records-length (t .few);
+    few = rw reads-length (t .few);
     good = good-all positions-good;
     order = sym (order-walk a (numberAt a manyPositionsPlace 1) positionsPlace (records-bytes a b (numberAt a manyPositionsPlace 1) positionsPlace (omega (arith, t .few, t .long)))) ∙ t .order;
-    references-few = rw records-length (t .references-few);
+    references-few = rw reads-length (t .references-few);
     forms = forms-all references-good;
     filed = sym (filed-walk a (numberAt a manyReferencesPlace 1) referencesPlace references-filed) ∙ t .filed;
-    numbered = rw records-length (t .count);
+    numbered = rw reads-length (t .count);
   }
 
   -- the header as it stands
@@ -307,8 +298,8 @@ module _ (a : List ℕ) (b : Bytes a) (t : TestsPassed a) where
   header-same : header (decode a) ≡ take referencesPlace a
   unfolding header decode
   header-same =
-      let p : length (map positionIn (records (numberAt a manyPositionsPlace 1) (drop positionsPlace a))) ≡ numberAt a manyPositionsPlace 1 = records-length positionIn (numberAt a manyPositionsPlace 1) (drop positionsPlace a) in
-      let r : length (map referenceIn (records (numberAt a manyReferencesPlace 1) (drop referencesPlace a))) ≡ numberAt a manyReferencesPlace 1 = records-length referenceIn (numberAt a manyReferencesPlace 1) (drop referencesPlace a) in
+      let p : length (map positionIn (records (numberAt a manyPositionsPlace 1) (drop positionsPlace a))) ≡ numberAt a manyPositionsPlace 1 = reads-length positionIn (numberAt a manyPositionsPlace 1) (drop positionsPlace a) in
+      let r : length (map referenceIn (records (numberAt a manyReferencesPlace 1) (drop referencesPlace a))) ≡ numberAt a manyReferencesPlace 1 = reads-length referenceIn (numberAt a manyReferencesPlace 1) (drop referencesPlace a) in
       rw (p, r, texts-are) (headed mark (t .mark))
 
   reference-same : referencePart (decode a .references) ≡ take referencesRoom (drop referencesPlace a)

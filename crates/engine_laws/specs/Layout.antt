@@ -5,7 +5,7 @@ use mathlib.Core.List.{List, [], _∷_, _++_, map, append-assoc, append-nil}
 use Prim.Native.Nat.{ℕ, zero, suc, _-_, _*_, _^_, _≤_, _<_}
 use native.Mathlib.Omega.{arith}
 use lib.Dec.{eqb}
-use lib.ListN.{length, take, drop, length-append}
+use lib.ListN.{length, take, drop, length-append, length-map}
 use lib.Seq.{take-at, drop-at}
 use borrow.Author.Tests.{leb-true, ne-eqb}
 use Rattle.rules.specs.Text.{isText, every, run, bytes, bigEndian}
@@ -13,7 +13,7 @@ use Rattle.rules.specs.Engine.{Position, Reference, limit, goodPosition, goodRe
 use Rattle.rules.specs.Area.{zeros, padded, joined, referenceRecord, keyBytes, positionRecord, numberAt, untilZero, referenceIn, keyIn, positionIn, records, dateOffset, transferredOffset, detailedOffset, recordSize}
 use Rattle.laws.specs.Digits.{places-length}
 use Rattle.laws.specs.Numbers.{number-bytes}
-use Rattle.laws.specs.Sections.{padded-length}
+use Rattle.laws.specs.Sections.{padded-length, Each, Each.no-record, Each.and-record, joined-length, records-back}
 use Rattle.laws.specs.Tests.{and-left, and-right, cond-left, cond-right, between-low, between-high}
 use Rattle.laws.specs.All.{All, All.none, All.more}
 use Rattle.rule_laws.specs.Dates.{date-small}
@@ -36,17 +36,20 @@ pub record WrittenBack {A : Type 0} (write : A → List ℕ) (reads : List ℕ �
   pub back : reads (write x) ≡ x
 
 module _ {A : Type 0} (write : A → List ℕ) (reads : List ℕ → A) where
-  pub joined-length : {xs : List A} → All (WrittenBack write reads) xs → length (joined (map write xs)) ≡ recordSize * length xs
-  unfolding joined
-  joined-length none = refl
-  joined-length (more {x} {xs} k s) = length-append (write x) (joined (map write xs)) ∙ omega (arith, k .wide, joined-length s)
+  pub written-each : {xs : List A} → All (WrittenBack write reads) xs → Each recordSize (map write xs)
+  written-each none = no-record
+  written-each (more k s) = and-record (k .wide) (written-each s)
+
+  pub written-back : {xs : List A} → All (WrittenBack write reads) xs → map reads (map write xs) ≡ xs
+  written-back none = refl
+  written-back (more k s) = rw (k .back, written-back s)
 
   -- records one behind the other, and what stands behind them
-  pub records-back : {xs : List A} (z : List ℕ) → All (WrittenBack write reads) xs → map reads (records (length xs) (joined (map write xs) ++ z)) ≡ xs
-  unfolding joined records
-  records-back z none = refl
-  records-back z (more {x} {xs} k s) =
-      rw (append-assoc, take-at (write x) (joined (map write xs) ++ z) recordSize (k .wide), drop-at (write x) (joined (map write xs) ++ z) recordSize (k .wide), k .back, records-back z s)
+  pub written-length : {xs : List A} → All (WrittenBack write reads) xs → length (joined (map write xs)) ≡ recordSize * length xs
+  written-length s = joined-length (written-each s) ∙ rw length-map
+
+  pub written-read : {xs : List A} (z : List ℕ) → All (WrittenBack write reads) xs → map reads (records (length xs) (joined (map write xs) ++ z)) ≡ xs
+  written-read z s = ap (map reads) (rw length-map at (records-back z (written-each s))) ∙ written-back s
 
 -- ---- a position's record, and a reference's
 

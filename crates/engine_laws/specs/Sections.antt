@@ -12,9 +12,9 @@ use Rattle.laws.specs.Digits.{places-length}
 use Rattle.laws.specs.Sections.{padded-length}
 use Rattle.laws.specs.Standing.{Stands}
 use Rattle.engine_laws.specs.Limits.{Limits, limits}
-use Rattle.engine_laws.specs.Layout.{joined-length}
 use Rattle.engine_laws.specs.Several.{Texts, lengths-length}
 use Rattle.engine_laws.specs.EngineIn.{EngineIn, engine-parts, positions-kept, references-kept, texts-few, texts-fit}
+use Rattle.engine_laws.specs.Layout.{written-length}
 
 -- the bytes of references, of positions and of texts in their sections
 unfoldable pub referencePart : List Reference → List ℕ
@@ -52,8 +52,8 @@ encode-sections e q w =
     let l : Limits e = limits e w in record {
       whole = simp append-assoc;
       head = header-length e;
-      references = padded-length referencesRoom _ (omega (arith, joined-length referenceRecord referenceIn (references-kept (e .references) (l .forms)), l .references-few));
-      positions = padded-length positionsRoom _ (omega (arith, joined-length positionRecord positionIn (positions-kept (e .day) (e .positions) (l .good)), l .few));
+      references = padded-length referencesRoom _ (omega (arith, written-length referenceRecord referenceIn (references-kept (e .references) (l .forms)), l .references-few));
+      positions = padded-length positionsRoom _ (omega (arith, written-length positionRecord positionIn (positions-kept (e .day) (e .positions) (l .good)), l .few));
       text = padded-length textsRoom _ (texts-fit e l);
     }
 

@@ -7,7 +7,7 @@ use native.Mathlib.Nat.{add-zero, add-comm, mul-zero, mul-suc}
 use native.Mathlib.Omega.{arith}
 use lib.ListN.{length, getD, take, drop, length-append, length-drop, length-replicate, replicate-append-replicate, take-append-drop}
 use lib.Seq.{drop-cons, take-at, drop-at, length-take-le, drop-drop}
-use Rattle.rules.specs.Area.{zeros, padded, joined, records}
+use Rattle.rules.specs.Area.{zeros, padded, joined, recordsOf}
 use Rattle.laws.specs.Laid.{laid, laid-past, laid-front}
 
 -- each record has w bytes
@@ -26,11 +26,6 @@ replaced i x xs = take i xs ++ x ∷ drop (suc i) xs
 unfoldable pub passing : {A : Type 0} → (A → Bool) → List A → List A
 passing p [] = []
 passing p (x ∷ xs) = let r = passing p xs in cond (p x) (x ∷ r) r
-
--- the first n records of w bytes
-unfoldable pub recordsOf : ℕ → ℕ → List ℕ → List (List ℕ)
-recordsOf w zero bs = []
-recordsOf w (suc n) bs = take w bs ∷ recordsOf w n (drop w bs)
 
 -- ---- zeros and padding
 
@@ -210,12 +205,6 @@ pub records-length : (w n : ℕ) (bs : List ℕ) → length (recordsOf w n bs) �
 unfolding recordsOf
 records-length w zero bs = refl
 records-length w (suc n) bs = ap suc (records-length w n (drop w bs))
-
--- as the area's definition reads them
-pub records-are : (n : ℕ) (bs : List ℕ) → records n bs ≡ recordsOf 24 n bs
-unfolding records recordsOf
-records-are zero bs = refl
-records-are (suc n) bs = rw (records-are n (drop 24 bs))
 
 -- ---- what is done to records is done to what they are made of
 

@@ -168,10 +168,14 @@ textPlace a (suc k) = textPlace a k + lengthAt a k
 unfoldable pub textAt : List ℕ → ℕ → List ℕ
 textAt a k = take (lengthAt a k) (drop (textPlace a k) a)
 
--- n records
-unfoldable pub records : ℕ → List ℕ → List (List ℕ)
-records zero cs = []
-records (suc n) cs = take recordSize cs ∷ records n (drop recordSize cs)
+-- n records of w bytes
+unfoldable pub recordsOf : ℕ → ℕ → List ℕ → List (List ℕ)
+recordsOf w zero cs = []
+recordsOf w (suc n) cs = take w cs ∷ recordsOf w n (drop w cs)
+
+-- n records of a section
+abbrev pub records : ℕ → List ℕ → List (List ℕ)
+records n cs = recordsOf recordSize n cs
 
 -- the engine that the bytes say, within the limits or not
 unfoldable pub decode : List ℕ → Engine
