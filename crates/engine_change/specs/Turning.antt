@@ -13,7 +13,7 @@ use Rattle.rules.specs.Calls.{afterTurn}
 use Rattle.rules.specs.Area.{zeros, padded, joined, numberAt, positionRecord, positionIn, encode, decode, holds, areaSize, positionsPlace, positionsRoom, referencesRoom, detailedOffset, textsOf, recordSize, referencesPlace}
 use Rattle.laws.specs.Laid.{laid}
 use Rattle.laws.specs.Writing.{Wrote}
-use Rattle.laws.specs.Sections.{Each, Each.no-record, passing, Agree, Agree.on-none, Agree.on-more, each-map}
+use Rattle.laws.specs.Sections.{Each, passing, Agree, Agree.on-none, Agree.on-more, each-map}
 use Rattle.laws.specs.Moving.{Sifted}
 use Rattle.laws.specs.All.{All, All.none, All.more}
 use Rattle.engine_laws.specs.Limits.{Limits, limits}
@@ -86,5 +86,5 @@ turn-done {a} {b} {c} {d} {x} {j} {m} {r} day count h n s z w =
     let now : b ≡ laid (positionPart (kept ps)) positionsPlace a =
     rw (passing-kept ps) at (section-passing positionRecord positionsRoom ps wide few (positions-section g) agree t) in
     let counted : j ≡ length (kept ps) = section-counted positionRecord positionsRoom ps wide few (positions-section g) agree t ∙ ap length (passing-kept ps) in
-    let fits : Fits (turned (decode a) day count) = record { few = omega (arith, kept-length ps, l .few); references-few = omega arith; wide = no-record } in
+    let fits : Fits (turned (decode a) day count) = record { few = omega (arith, kept-length ps, l .few); references-few = omega arith; wide = none } in
     assembled (turned (decode a) day count) g refl fits now (z .output) (rw counted at w)

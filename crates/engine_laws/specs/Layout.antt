@@ -13,7 +13,7 @@ use Rattle.rules.specs.Engine.{Position, Reference, limit, goodPosition, goodRe
 use Rattle.rules.specs.Area.{zeros, padded, joined, referenceRecord, keyBytes, positionRecord, numberAt, untilZero, referenceIn, keyIn, positionIn, records, dateOffset, transferredOffset, detailedOffset, recordSize}
 use Rattle.laws.specs.Digits.{places-length}
 use Rattle.laws.specs.Numbers.{number-bytes}
-use Rattle.laws.specs.Sections.{padded-length, Each, Each.no-record, Each.and-record, joined-length, records-back}
+use Rattle.laws.specs.Sections.{padded-length, Each, joined-length, records-back}
 use Rattle.laws.specs.Tests.{and-left, and-right, cond-left, cond-right, between-low, between-high}
 use Rattle.laws.specs.All.{All, All.none, All.more}
 use Rattle.rule_laws.specs.Dates.{date-small}
@@ -37,8 +37,8 @@ pub record WrittenBack {A : Type 0} (write : A → List ℕ) (reads : List ℕ �
 
 module _ {A : Type 0} (write : A → List ℕ) (reads : List ℕ → A) where
   pub written-each : {xs : List A} → All (WrittenBack write reads) xs → Each recordSize (map write xs)
-  written-each none = no-record
-  written-each (more k s) = and-record (k .wide) (written-each s)
+  written-each none = none
+  written-each (more k s) = more (k .wide) (written-each s)
 
   pub written-back : {xs : List A} → All (WrittenBack write reads) xs → map reads (map write xs) ≡ xs
   written-back none = refl

@@ -1,4 +1,4 @@
--- What holds of each of a list: it holds of each of a part of it, of one more, and of a list to which it is handed on.
+-- What holds of each of a list: it holds of each of a part of it, of both of two lists, and of a list to which it is handed on.
 use mathlib.Core.List.{List, [], _∷_, _++_}
 use Prim.Native.Nat.{ℕ, zero, suc}
 use lib.ListN.{take, drop}
@@ -18,9 +18,12 @@ module _ {A : Type 0} {P : A → Type 0} where
   all-drop (suc n) none = none
   all-drop (suc n) (more p s) = all-drop n s
 
+  pub all-append : {xs ys : List A} → All P xs → All P ys → All P (xs ++ ys)
+  all-append none t = t
+  all-append (more p s) t = more p (all-append s t)
+
   pub all-last : {xs : List A} {x : A} → All P xs → P x → All P (xs ++ x ∷ [])
-  all-last none p = more p none
-  all-last (more q s) p = more q (all-last s p)
+  all-last s p = all-append s (more p none)
 
   pub all-wider : {Q : A → Type 0} → ((x : A) → P x → Q x) → {xs : List A} → All P xs → All Q xs
   all-wider f none = none

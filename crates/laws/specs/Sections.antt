@@ -9,11 +9,11 @@ use lib.ListN.{length, getD, take, drop, length-append, length-drop, length-repl
 use lib.Seq.{drop-cons, take-at, drop-at, length-take-le, drop-drop}
 use Rattle.rules.specs.Area.{zeros, padded, joined, recordsOf}
 use Rattle.laws.specs.Laid.{laid, laid-past, laid-front}
+use Rattle.laws.specs.All.{All, All.none, All.more, all-append, all-take, all-drop}
 
 -- each record has w bytes
-pub data Each (w : ℕ) : List (List ℕ) → Type 0 where
-  no-record : Each w []
-  and-record : {x : List ℕ} {xs : List (List ℕ)} → length x ≡ w → Each w xs → Each w (x ∷ xs)
+abbrev pub Each : ℕ → List (List ℕ) → Type 0
+Each w xs = All (λ (r : List ℕ). length r ≡ w) xs
 
 -- the list with x before its element i; with x in the place of its element i
 unfoldable pub inserted : {A : Type 0} → ℕ → A → List A → List A
@@ -79,44 +79,30 @@ padded-front n b s h l =
 
 -- ---- records one behind the other
 
-pub each-append : {w : ℕ} {xs ys : List (List ℕ)} → Each w xs → Each w ys → Each w (xs ++ ys)
-each-append no-record t = t
-each-append (and-record e s) t = and-record e (each-append s t)
-
-pub each-take : {w : ℕ} {xs : List (List ℕ)} (i : ℕ) → Each w xs → Each w (take i xs)
-each-take zero s = no-record
-each-take (suc i) no-record = no-record
-each-take (suc i) (and-record e s) = and-record e (each-take i s)
-
-pub each-drop : {w : ℕ} {xs : List (List ℕ)} (i : ℕ) → Each w xs → Each w (drop i xs)
-each-drop zero s = s
-each-drop (suc i) no-record = no-record
-each-drop (suc i) (and-record e s) = each-drop i s
-
 pub each-get : {w : ℕ} {xs : List (List ℕ)} (i : ℕ) → Each w xs → i < length xs → length (getD xs i []) ≡ w
-each-get i no-record h = absurd (omega arith)
-each-get zero (and-record e s) h = e
-each-get (suc i) (and-record e s) h = each-get i s (omega arith)
+each-get i none h = absurd (omega arith)
+each-get zero (more e s) h = e
+each-get (suc i) (more e s) h = each-get i s (omega arith)
 
 pub each-map : {A : Type 0} {w : ℕ} (f : A → List ℕ) → ((x : A) → length (f x) ≡ w) → (xs : List A) → Each w (map f xs)
-each-map f h [] = no-record
-each-map f h (x ∷ xs) = and-record (h x) (each-map f h xs)
+each-map f h [] = none
+each-map f h (x ∷ xs) = more (h x) (each-map f h xs)
 
 pub each-inserted : {w : ℕ} {xs : List (List ℕ)} (i : ℕ) (r : List ℕ) → Each w xs → length r ≡ w → Each w (inserted i r xs)
 unfolding inserted
-each-inserted i r s e = each-append (each-take i s) (and-record e (each-drop i s))
+each-inserted i r s e = all-append (all-take i s) (more e (all-drop i s))
 
 pub each-replaced : {w : ℕ} {xs : List (List ℕ)} (i : ℕ) (r : List ℕ) → Each w xs → length r ≡ w → Each w (replaced i r xs)
 unfolding replaced
-each-replaced i r s e = each-append (each-take i s) (and-record e (each-drop (suc i) s))
+each-replaced i r s e = all-append (all-take i s) (more e (all-drop (suc i) s))
 
 pub each-passing : {w : ℕ} {xs : List (List ℕ)} (p : List ℕ → Bool) → Each w xs → Each w (passing p xs)
 unfolding passing
-each-passing p no-record = no-record
-each-passing {w} p (and-record {x} {xs} e s) = go (p x) (each-passing p s)
+each-passing p none = none
+each-passing {w} p (more {x} {xs} e s) = go (p x) (each-passing p s)
   where
     go : (b : Bool) → Each w (passing p xs) → Each w (cond b (x ∷ passing p xs) (passing p xs))
-    go true t = and-record e t
+    go true t = more e t
     go false t = t
 
 pub joined-append : (xs ys : List (List ℕ)) → joined (xs ++ ys) ≡ joined xs ++ joined ys
@@ -126,15 +112,15 @@ joined-append (x ∷ xs) ys = rw (joined-append xs ys, append-assoc)
 
 pub joined-length : {w : ℕ} {xs : List (List ℕ)} → Each w xs → length (joined xs) ≡ w * length xs
 unfolding joined
-joined-length {w} no-record = sym (mul-zero w)
-joined-length {w} (and-record {x} {xs} e s) = length-append x (joined xs) ∙ omega (arith, joined-length s, mul-suc w (length xs))
+joined-length {w} none = sym (mul-zero w)
+joined-length {w} (more {x} {xs} e s) = length-append x (joined xs) ∙ omega (arith, joined-length s, mul-suc w (length xs))
 
 -- up to record i, and from it on
 pub joined-split : (i : ℕ) (xs : List (List ℕ)) → joined xs ≡ joined (take i xs) ++ joined (drop i xs)
 joined-split i xs = ap joined (sym (take-append-drop i xs)) ∙ joined-append (take i xs) (drop i xs)
 
 pub joined-front : {w : ℕ} {xs : List (List ℕ)} (i : ℕ) → Each w xs → i ≤ length xs → length (joined (take i xs)) ≡ w * i
-joined-front {w} {xs} i s h = joined-length (each-take i s) ∙ rw (length-take-le i xs h)
+joined-front {w} {xs} i s h = joined-length (all-take i s) ∙ rw (length-take-le i xs h)
 
 -- record i and those behind it
 pub joined-record : (i : ℕ) (xs : List (List ℕ)) → i < length xs → joined (drop i xs) ≡ getD xs i [] ++ joined (drop (suc i) xs)
@@ -183,8 +169,8 @@ module _ {w : ℕ} {xs : List (List ℕ)} (n i : ℕ) (s : Each w xs) where
 
 pub records-back : {w : ℕ} {xs : List (List ℕ)} (q : List ℕ) → Each w xs → recordsOf w (length xs) (joined xs ++ q) ≡ xs
 unfolding recordsOf joined
-records-back q no-record = refl
-records-back {w} q (and-record {x} {xs} e s) =
+records-back q none = refl
+records-back {w} q (more {x} {xs} e s) =
     rw (append-assoc, take-at x (joined xs ++ q) w e, drop-at x (joined xs ++ q) w e, records-back q s)
 
 pub records-more : (w i : ℕ) (bs : List ℕ) → recordsOf w (suc i) bs ≡ recordsOf w i bs ++ take w (drop (w * i) bs) ∷ []
@@ -196,10 +182,10 @@ records-more w (suc i) bs =
 
 pub records-each : (w i : ℕ) (bs : List ℕ) → w * i ≤ length bs → Each w (recordsOf w i bs)
 unfolding recordsOf
-records-each w zero bs h = no-record
+records-each w zero bs h = none
 records-each w (suc i) bs h =
     let e : w * suc i ≡ w * i + w = mul-suc w i in
-    and-record (length-take-le w bs (omega arith)) (records-each w i (drop w bs) (rw length-drop (omega arith)))
+    more (length-take-le w bs (omega arith)) (records-each w i (drop w bs) (rw length-drop (omega arith)))
 
 pub records-length : (w n : ℕ) (bs : List ℕ) → length (recordsOf w n bs) ≡ n
 unfolding recordsOf

@@ -10,7 +10,8 @@ use lib.Seq.{set-append-left, take-at, drop-at, drop-append-add}
 use Rattle.rules.specs.Area.{zeros, padded, joined, recordsOf}
 use Rattle.laws.specs.Laid.{laid, laid-append, laid-past, laid-apart}
 use Rattle.laws.specs.Writing.{Wrote}
-use Rattle.laws.specs.Sections.{Each, inserted, replaced, passing, zeros-length, padded-length, padded-front, each-drop, each-passing, passing-length, joined-length, joined-split, joined-front, section-record, section-replaced, section-inserted, records-back}
+use Rattle.laws.specs.Sections.{Each, inserted, replaced, passing, zeros-length, padded-length, padded-front, each-passing, passing-length, joined-length, joined-split, joined-front, section-record, section-replaced, section-inserted, records-back}
+use Rattle.laws.specs.All.{all-drop}
 
 -- a part x stands at a place of an area, behind p and before q
 pub record Stands (p x q : List ℕ) (base : ℕ) (area : List ℕ) : Type 0 where
@@ -80,7 +81,7 @@ module _ (n : ℕ) {w base : ℕ} {p q area : List ℕ} {xs : List (List ℕ)} (
         let M : List ℕ = joined (drop i xs) in
         let Z : List ℕ = zeros (n - length (joined xs)) in
         let f : length (padded n (joined xs)) ≡ n = padded-length n (joined xs) (rw (joined-length s) (omega (arith, mul-suc w (length xs)))) in
-        let k : length M ≡ w * (length xs - i) = joined-length (each-drop i s) ∙ rw length-drop in
+        let k : length M ≡ w * (length xs - i) = joined-length (all-drop i s) ∙ rw length-drop in
         let parts : joined xs ++ Z ++ q ≡ joined (take i xs) ++ (M ++ (Z ++ q)) =
         ap (λ (x : List ℕ). x ++ Z ++ q) (joined-split i xs) ∙ simp append-assoc in
         let g : take (w * (length xs - i)) (drop P area) ≡ M =
