@@ -12,11 +12,11 @@ use borrow.Author.Tests.{eqb-true, eqb-false, eq-eqb, ne-eqb, le-leb, lt-leb}
 use Rattle.rules.specs.Text.{isText, every, bigEndian, ordered, textBefore}
 use Rattle.rules.specs.Engine.{earlier, precedes}
 use Rattle.rules.specs.Area.{zeros, padded, untilZero, numberAt, referenceIn, positionIn, referenceRecord, positionRecord, records, recordSize, recordsOf}
-use Rattle.laws.specs.Numbers.{Within, bytes-within, within-take, within-drop}
+use Rattle.laws.specs.Numbers.{Within, bytes-within}
 use Rattle.laws.specs.Parts.{cut}
 use Rattle.laws.specs.Sections.{zeros-length, records-length}
 use Rattle.laws.specs.Tests.{cond-right, cond-left, cond-both}
-use Rattle.laws.specs.All.{All, All.none, All.more}
+use Rattle.laws.specs.All.{All, All.none, All.more, all-take, all-drop}
 use Rattle.engine_laws.specs.Bytes.{Bytes}
 use Rattle.engine_laws.specs.Layout.{text-byte}
 use Rattle.engine_laws.specs.Positions.{Good}
@@ -47,7 +47,7 @@ unfolding recordsOf
 records-bytes a b zero p h = none
 records-bytes a b (suc n) p h =
     let others : All Rec (records n (drop recordSize (drop p a))) = rw (drop-drop recordSize p a) (records-bytes a b n (p + recordSize) (omega arith)) in
-    more record { bytes = within-take recordSize (within-drop p (bytes-within a b)); wide = length-take-le recordSize (drop p a) (rw length-drop (omega arith)) } others
+    more record { bytes = all-take recordSize (all-drop p (bytes-within a b)); wide = length-take-le recordSize (drop p a) (rw length-drop (omega arith)) } others
 
 pub reads-length : {A : Type 0} (reads : List ℕ → A) (n : ℕ) (cs : List ℕ) → length (map reads (records n cs)) ≡ n
 reads-length reads n cs = length-map (records n cs) reads ∙ records-length recordSize n cs

@@ -14,13 +14,14 @@ use Rattle.rules.specs.Accounts.{isBic}
 use Rattle.rules.specs.Engine.{isBank, goodReference, slashed, lastBank}
 use Rattle.rules.specs.Area.{zeros, padded, numberAt, untilZero, referenceIn, keyIn, positionIn, referenceRecord, keyBytes, positionRecord, dateOffset, blockOffset, transferredOffset, detailedOffset, recordSize}
 use Rattle.laws.specs.Digits.{places-length}
-use Rattle.laws.specs.Numbers.{Within, bytes-number, within-take, within-drop}
+use Rattle.laws.specs.Numbers.{Within, bytes-number}
 use Rattle.laws.specs.Parts.{cut, from, cut-cut, cut-drop, cut-take, from-take}
 use Rattle.laws.specs.Tests.{and-left, and-right, cond-right, cond-left}
 use Rattle.engine_laws.specs.Layout.{part-at}
 use Rattle.engine_laws.specs.Positions.{Good}
 use Rattle.engine_laws.specs.Accepted.{bic-bank}
 use Rattle.engine_laws.specs.Tests.{isZero, textFits, referenceTest, dateTest, valuesTest, positionFits}
+use Rattle.laws.specs.All.{all-take, all-drop}
 
 -- a part, as the definitions say it
 pub cut-is : (s : List ℕ) (i w : ℕ) → cut s i (i + w) ≡ take w (drop i s)
@@ -66,7 +67,7 @@ bank-bic n h = and-right (leb n lastBank) _ h
 pub bytes-stand : (s : List ℕ) (i w : ℕ) → Within 256 0 s → i + w ≤ length s → bytes w (numberAt s i w) ≡ take w (drop i s)
 bytes-stand s i w h l =
     let n : length (take w (drop i s)) ≡ w = length-take-le w (drop i s) (rw length-drop (omega arith)) in
-    rw n at (bytes-number (within-take w (within-drop i h)))
+    rw n at (bytes-number (all-take w (all-drop i h)))
 
 -- a list in parts
 pub take-part : (s : List ℕ) (i w : ℕ) → take (i + w) s ≡ take i s ++ take w (drop i s)

@@ -8,12 +8,13 @@ use native.Mathlib.Nat.{pow-zero, pow-suc, pow-succ', mul-assoc, add-mul, mul-on
 use native.Mathlib.Omega.{arith}
 use lib.Arith.{mod-mul, digits-div, digits-mod}
 use lib.Dec.{lit<, eqb}
-use lib.ListN.{length, getD, take, drop}
+use lib.ListN.{length, getD}
 use borrow.Author.Tests.{le-leb, eqb-true}
 use Rattle.rules.specs.Text.{ascii, isDigit, isLetter, isAlnum, fits, fitsSign, places, width, fixed, bytes, decimal, digits, digitsFrom, bigEndian, numberFrom}
 use Rattle.rules.specs.Accounts.{isBic}
 use Rattle.laws.specs.Parts.{cut}
 use Rattle.laws.specs.Tests.{between-high, cond-right, cond-left, never, none-some}
+use Rattle.laws.specs.All.{All, All.none, All.more, all-take, all-drop}
 use Rattle.laws.specs.Digits.{width-power}
 use Rattle.laws.specs.Reading.{digit-low, digit-high, fits-length}
 
@@ -22,10 +23,14 @@ unfoldable valueFrom : ℕ → ℕ → ℕ → List ℕ → ℕ
 valueFrom base null v [] = v
 valueFrom base null v (c ∷ cs) = valueFrom base null (v * base + (c - null)) cs
 
--- each byte is a place to the base
-pub data Within (base null : ℕ) : List ℕ → Type 0 where
-  no-place : Within base null []
-  and-place : {c : ℕ} {cs : List ℕ} → null ≤ c → c - null < base → Within base null cs → Within base null (c ∷ cs)
+-- a byte that is a place to the base
+pub record IsPlace (base null c : ℕ) : Type 0 where
+  pub low : null ≤ c
+  pub high : c - null < base
+
+-- each byte is one
+abbrev pub Within : ℕ → ℕ → List ℕ → Type 0
+Within base null cs = All (IsPlace base null) cs
 
 -- ---- written, then read
 
@@ -42,39 +47,39 @@ value-places base null v (suc k) x h =
 
 pub places-within : (base null k x : ℕ) → 0 < base → Within base null (places base null k x)
 unfolding places
-places-within base null zero x h = no-place
+places-within base null zero x h = none
 places-within base null (suc k) x h =
     let d : ℕ = x / base ^ k % base in
     let e : null + d - null ≡ d = add-sub-cancel-left null d in
-    and-place {c = null + d} (omega arith) (rw e (mod-lt (x / base ^ k) h)) (places-within base null k x h)
+    more {x = null + d} record { low = omega arith; high = rw e (mod-lt (x / base ^ k) h) } (places-within base null k x h)
 
 -- ---- read, then written
 
 -- the places in front of the last ones are those of v
 value-front : {base null : ℕ} {cs : List ℕ} (v : ℕ) → Within base null cs → valueFrom base null v cs / base ^ length cs ≡ v
 unfolding valueFrom
-value-front {base} v no-place = rw (pow-zero, div-one)
-value-front {base} {null} v (and-place {c} {cs} h l s) =
+value-front {base} v none = rw (pow-zero, div-one)
+value-front {base} {null} v (more {x = c} {xs = cs} d s) =
     ap (λ (n : ℕ). valueFrom base null (v * base + (c - null)) cs / n) (pow-suc base (length cs))
     ∙ sym (div-div-eq-div-mul (valueFrom base null (v * base + (c - null)) cs) (base ^ length cs) base)
     ∙ ap (λ (n : ℕ). n / base) (value-front (v * base + (c - null)) s)
-    ∙ digits-div v l
+    ∙ digits-div v (d .high)
 
 places-value : {base null : ℕ} {cs : List ℕ} (v : ℕ) → Within base null cs → places base null (length cs) (valueFrom base null v cs) ≡ cs
 unfolding valueFrom places
-places-value v no-place = refl
-places-value {base} {null} v (and-place {c} {cs} h l s) =
+places-value v none = refl
+places-value {base} {null} v (more {x = c} {xs = cs} d s) =
     let w : ℕ = v * base + (c - null) in
     let e : null + valueFrom base null w cs / base ^ length cs % base ≡ c =
-    ap (λ (n : ℕ). null + n % base) (value-front w s) ∙ ap (λ (n : ℕ). null + n) (digits-mod v l) ∙ omega arith in
+    ap (λ (n : ℕ). null + n % base) (value-front w s) ∙ ap (λ (n : ℕ). null + n) (digits-mod v (d .high)) ∙ omega (arith, d .low) in
     ap (λ (x : ℕ). x ∷ places base null (length cs) (valueFrom base null w cs)) e ∙ ap (λ (xs : List ℕ). c ∷ xs) (places-value w s)
 
 value-small : {base null : ℕ} {cs : List ℕ} (v : ℕ) → Within base null cs → valueFrom base null v cs < suc v * base ^ length cs
 unfolding valueFrom
-value-small v no-place = rw (pow-zero, mul-one) (omega arith)
-value-small {base} {null} v (and-place {c} {cs} h l s) =
+value-small v none = rw (pow-zero, mul-one) (omega arith)
+value-small {base} {null} v (more {x = c} {xs = cs} d s) =
     let w : ℕ = v * base + (c - null) in
-    let m : suc w * base ^ length cs ≤ suc v * base * base ^ length cs = mul-le-mul-right (base ^ length cs) (omega (arith, suc-mul v base)) in
+    let m : suc w * base ^ length cs ≤ suc v * base * base ^ length cs = mul-le-mul-right (base ^ length cs) (omega (arith, suc-mul v base, d .high)) in
     rw (pow-succ', ← mul-assoc (suc v) base (base ^ length cs)) (lt-of-lt-of-le (value-small w s) m)
 
 -- ---- big-endian bytes
@@ -85,8 +90,8 @@ number-value v [] = refl
 number-value v (b ∷ bs) = let e : b - 0 ≡ b = omega arith in rw e (number-value (v * 256 + b) bs)
 
 pub bytes-within : (bs : List ℕ) → ((i : ℕ) → getD bs i 0 < 256) → Within 256 0 bs
-bytes-within [] h = no-place
-bytes-within (b ∷ bs) h = and-place {c = b} (omega arith) (omega (arith, h 0)) (bytes-within bs (λ i. h (suc i)))
+bytes-within [] h = none
+bytes-within (b ∷ bs) h = more {x = b} record { low = omega arith; high = omega (arith, h 0) } (bytes-within bs (λ i. h (suc i)))
 
 pub number-bytes : (k v : ℕ) → v < 256 ^ k → bigEndian (bytes k v) ≡ v
 number-bytes k v h = number-value 0 (bytes k v) ∙ value-places 256 0 0 k v (lit< tt) ∙ rw (mod-eq-of-lt h) (omega arith)
@@ -101,16 +106,16 @@ number-small {bs} s = let l : valueFrom 256 0 0 bs < 1 * 256 ^ length bs = value
 
 digits-value : {cs : List ℕ} (v : ℕ) → Within 10 48 cs → digitsFrom v cs ≡ some (valueFrom 10 48 v cs)
 unfolding digitsFrom valueFrom isDigit
-digits-value v no-place = refl
-digits-value v (and-place {c} {cs} h l s) = rw (le-leb 48 c h, le-leb c 57 (omega arith)) (digits-value (v * 10 + (c - 48)) s)
+digits-value v none = refl
+digits-value v (more {x = c} {xs = cs} d s) = rw (le-leb 48 c (d .low), le-leb c 57 (omega (arith, d .low, d .high))) (digits-value (v * 10 + (c - 48)) s)
 
 pub digits-within : (cs : List ℕ) (v n : ℕ) → digitsFrom v cs ≡ some n → Within 10 48 cs
 unfolding digitsFrom
-digits-within [] v n h = no-place
+digits-within [] v n h = none
 digits-within (c ∷ cs) v n h = go (isDigit c) refl (digits-within cs (v * 10 + (c - 48)) n)
   where
     go : (t : Bool) → isDigit c ≡ t → (digitsFrom (v * 10 + (c - 48)) cs ≡ some n → Within 10 48 cs) → Within 10 48 (c ∷ cs)
-    go true e f = and-place (digit-low c e) (omega (arith, digit-high c e)) (f (rw e at h))
+    go true e f = more record { low = digit-low c e; high = omega (arith, digit-high c e) } (f (rw e at h))
     go false e f = let g : _≡_ {A = Option ℕ} none (some n) = rw e at h in none-some g
 
 pub digits-fixed : (k v : ℕ) → v < 10 ^ k → digits (fixed k v) ≡ some v
@@ -130,19 +135,9 @@ digits-small cs n h =
 
 -- ---- parts, and banks
 
-pub within-take : {base null : ℕ} {cs : List ℕ} (k : ℕ) → Within base null cs → Within base null (take k cs)
-within-take zero s = no-place
-within-take (suc k) no-place = no-place
-within-take (suc k) (and-place h l s) = and-place h l (within-take k s)
-
-pub within-drop : {base null : ℕ} {cs : List ℕ} (k : ℕ) → Within base null cs → Within base null (drop k cs)
-within-drop zero s = s
-within-drop (suc k) no-place = no-place
-within-drop (suc k) (and-place h l s) = within-drop k s
-
 pub within-cut : {base null : ℕ} {cs : List ℕ} (a b : ℕ) → Within base null cs → Within base null (cut cs a b)
 unfolding cut
-within-cut a b s = within-drop a (within-take b s)
+within-cut a b s = all-drop a (all-take b s)
 
 -- what fits a pattern of bytes is bytes
 sign-within : (p c : ℕ) → p < 256 → fitsSign p c ≡ true → c < 256
@@ -161,11 +156,11 @@ sign-within p c l h = go (eqb p 110) (eqb p 97) (eqb p 99) h
 
 pub fits-within : {ps : List ℕ} (cs : List ℕ) → Within 256 0 ps → fits ps cs ≡ true → Within 256 0 cs
 unfolding fits
-fits-within [] s h = no-place
-fits-within (c ∷ cs) no-place h = never h
-fits-within (c ∷ cs) (and-place {c = p} {cs = ps} k l s) h =
+fits-within [] s h = none
+fits-within (c ∷ cs) none h = never h
+fits-within (c ∷ cs) (more {x = p} {xs = ps} d s) h =
     let f : fitsSign p c ≡ true = cond-left (fitsSign p c) (fits ps cs) h in
-    and-place {c = c} (omega arith) (omega (arith, sign-within p c (omega arith) f)) (fits-within cs s (cond-right (fitsSign p c) (fits ps cs) h))
+    more {x = c} record { low = omega arith; high = omega (arith, sign-within p c (omega (arith, d .high)) f) } (fits-within cs s (cond-right (fitsSign p c) (fits ps cs) h))
 
 -- a BIC is the bytes of its number
 bic-within : (cs : List ℕ) → isBic cs ≡ true → Within 256 0 cs
