@@ -2,7 +2,7 @@
 use mathlib.Core.Path.{_≡_, sym, ap, _∙_}
 use mathlib.Core.Bool.{true}
 use mathlib.Core.List.{List}
-use Prim.Native.Nat.{ℕ, _≤_}
+use Prim.Native.Nat.{ℕ, _+_, _*_, _≤_}
 use native.Mathlib.Omega.{arith}
 use lib.ListN.{length}
 use Rattle.rules.specs.Text.{bigEndian, isSome}
@@ -48,7 +48,7 @@ pub record HeaderOf (a : List ℕ) (h : Header) : Type 0 where
   pub references : h .references ≡ length (decode a .references)
   pub positions-few : h .positions ≤ 32
   pub references-few : h .references ≤ 64
-  pub count-small : h .count ≤ 1184
+  pub count-small : h .count ≤ 32 + 18 * 64
 
 pub header-told : (a : List ℕ) (x : Header) → isSome (holds a) ≡ true → HeaderAt a x → HeaderOf a x
 unfolding decode

@@ -4,12 +4,13 @@ use put::move_up;
 ghost use mathlib.Core.Path.{_≡_};
 ghost use Prim.Native.Nat.{_+_, _-_, _*_, _≤_};
 ghost use lib.ListN.{length};
+ghost use Rattle.rules.specs.Area.{areaSize};
 ghost use Rattle.laws.specs.Standing.{moved};
 ghost use Rattle.laws.specs.Moving.{RoomFor, Lowers};
 
 // Room before record i of some records of w bytes at base: those from i on are moved up by a record.
 pub fn open_record(area: &mut [u8], base: usize, w: u32, count: u32, i: u32)
-    requires { ⌜ w * count ≤ 6144 ⌝ }
+    requires { ⌜ w * count ≤ areaSize ⌝ }
     requires { ⌜ RoomFor base w count i (length (now area)) ⌝ }
     ensures { λ _. ⌜ now (area .exit) ≡ moved (base + w * i) (base + w * i + w) (w * (count - i)) (now (area .entry)) ⌝ }
 {
@@ -19,7 +20,7 @@ pub fn open_record(area: &mut [u8], base: usize, w: u32, count: u32, i: u32)
 
 // Record i of w bytes at base, kept as record j.
 pub fn keep_record(area: &mut [u8], base: usize, w: u32, i: u32, j: u32)
-    requires { ⌜ w * i ≤ 6144 ⌝ }
+    requires { ⌜ w * i ≤ areaSize ⌝ }
     requires { ⌜ Lowers base w i j (length (now area)) ⌝ }
     ensures { λ _. ⌜ now (area .exit) ≡ moved (base + w * i) (base + w * j) w (now (area .entry)) ⌝ }
 {

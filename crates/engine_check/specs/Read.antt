@@ -21,6 +21,7 @@ use borrow.Author.Tests.{not-false}
 use Rattle.engine_laws.specs.Several.{first-room}
 use Rattle.engine.specs.Texts.{PlaceAt}
 use Rattle.engine.specs.declared.header.Header.{Header}
+use Rattle.rule_laws.specs.Registers.{longestRegister}
 
 module _ (a : List ℕ) (x : Header) (n : HeaderAt a x) (t : Bool) where
   pub day-read : t ≡ exists (x .day) → t ≡ exists (bigEndian (cut a dayPlace countPlace))
@@ -57,7 +58,7 @@ pub ruleset positions = (bank-part, block-part, values-told, order-told)
 -- texts that passed end at p, within the area
 module _ (a : List ℕ) (t : Bool) (u : t ≡ registerTest a 0) (h : not t ≡ false) {p : ℕ} (q : PlaceAt a textCount p) where
   pub texts-within : areaSize ≤ length a → p ≤ areaSize
-  texts-within l = omega (arith, q .value, register-behind a 0 0 t (first-room a 1544 l (omega arith)) u h .fits)
+  texts-within l = omega (arith, q .value, register-behind a 0 0 t (first-room a longestRegister l (omega arith)) u h .fits)
 
   pub texts-read : (r : Bool) → r ≡ every isZero (cut a p areaSize) → r ≡ textsTest a
   unfolding textsTest

@@ -8,21 +8,23 @@ use engine::layout::AREA;
 use engine::length_at;
 use engine::text_at;
 use engine::text_place;
+use register::LONGEST;
 ghost use mathlib.Core.Path.{_≡_};
 ghost use Prim.Native.Nat.{_<_, _≤_};
 ghost use lib.ListN.{length};
 ghost use Rattle.rules.specs.Text.{isSome};
 ghost use Rattle.rules.specs.Area.{holds, areaSize};
+ghost use Rattle.rule_laws.specs.Registers.{longestRegister};
 ghost use Rattle.engine_laws.specs.Several.{TextRoom};
 ghost use Rattle.engine_laws.specs.Tests.{registerTest, textsTest, areaTest};
 
 // Is text k a register?
 fn register_holds(area: &[u8], k: u32) -> bool
     requires { ⌜ k < 3 ⌝ }
-    requires { ⌜ TextRoom (now area) k 1544 ⌝ }
+    requires { ⌜ TextRoom (now area) k longestRegister ⌝ }
     ensures { λ r. ⌜ r ≡ registerTest (now (area .entry)) k ⌝ }
 {
-    if length_at(area, k) > 1544 {
+    if length_at(area, k) > LONGEST {
         return false;
     }
     register::register_passes(text_at(area, k))

@@ -23,7 +23,7 @@ use Rattle.laws.specs.Equal.{equal-true, equal-same}
 use Rattle.laws.specs.All.{All}
 use Rattle.rule_laws.specs.Options.{isSome-is, There, there}
 use Rattle.engine_laws.specs.Bytes.{Bytes}
-use Rattle.rule_laws.specs.Registers.{register-length}
+use Rattle.rule_laws.specs.Registers.{register-length, longestRegister}
 use Rattle.engine_laws.specs.Limits.{Limits, limits, limits-within}
 use Rattle.engine_laws.specs.Layout.{WrittenBack, part-at, written-length, written-each, written-back}
 use Rattle.engine_laws.specs.Several.{Texts, stands-zeros, zeros-stand, text-size, lengths-behind, texts-behind, textsBefore, lengths-same, texts-same}
@@ -212,7 +212,7 @@ record TestsPassed (a : List ℕ) : Type 0 where
   positions : walk (always (positionTest (numberAt a dayPlace 3) a)) (numberAt a manyPositionsPlace 1) positionsPlace ≡ true
   order : walk (always (orderTest a)) (numberAt a manyPositionsPlace 1 - 1) positionsPlace ≡ true
   behind-positions : every isZero (cut a (positionsPlace + recordSize * numberAt a manyPositionsPlace 1) textsPlace) ≡ true
-  short : lengthAt a 0 ≤ 1544
+  short : lengthAt a 0 ≤ longestRegister
   register : isSome (register (textAt a 0)) ≡ true
   behind-texts : every isZero (cut a (textPlace a textCount) areaSize) ≡ true
 

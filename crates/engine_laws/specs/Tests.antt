@@ -12,6 +12,7 @@ use Rattle.rules.specs.Engine.{Key, Position, keyBefore, limit, slashed}
 use Rattle.rules.specs.Area.{mark, untilZero, keyIn, positionIn, areaSize, positionsPlace, textsPlace, recordSize, blockOffset, lengthAt, textPlace, textAt, currencyPlace, lengthsPlace, referencesPlace, dayPlace, countPlace, manyPositionsPlace, manyReferencesPlace}
 use Rattle.laws.specs.Parts.{cut}
 use Rattle.engine_laws.specs.Walk.{walk, always}
+use Rattle.rule_laws.specs.Registers.{longestRegister}
 
 -- "unused room is zero"
 unfoldable pub isZero : ℕ → Bool
@@ -94,7 +95,7 @@ positionsTest day a n = walk (always (positionTest day a)) n positionsPlace && (
 
 -- text k is a register, which has at most 1,544 bytes
 unfoldable pub registerTest : List ℕ → ℕ → Bool
-registerTest a k = leb (lengthAt a k) 1544 && isSome (register (textAt a k))
+registerTest a k = leb (lengthAt a k) longestRegister && isSome (register (textAt a k))
 
 -- each text passes its own test, and zeros stand behind the last
 unfoldable pub textsTest : List ℕ → Bool

@@ -19,6 +19,7 @@ use Rattle.engine_laws.specs.Walk.{walking}
 use Rattle.engine_laws.specs.Records.{cut-is, in-record}
 use Rattle.engine_laws.specs.Tests.{countsTest, headerTest, precedesBy, filedTest, isZero, registerTest}
 use Rattle.engine_laws.specs.Several.{TextRoom, first-room, next-room}
+use Rattle.rule_laws.specs.Registers.{longestRegister}
 
 -- ---- a limit, and the tests behind it
 
@@ -94,18 +95,18 @@ text-stands a k m n r e h = record { long = r .long; fits = omega (arith, r .fit
 
 -- the test of text k, n being its length
 module _ (a : List ℕ) (k n : ℕ) (e : n ≡ lengthAt a k) where
-  pub register-long : 1544 < n → false ≡ registerTest a k
+  pub register-long : longestRegister < n → false ≡ registerTest a k
   unfolding registerTest
-  register-long h = rw (← e, lt-leb n 1544 h)
+  register-long h = rw (← e, lt-leb n longestRegister h)
 
-  pub register-short : n ≤ 1544 → {t : List ℕ} → t ≡ textAt a k → (r : Bool) → r ≡ isSome (register t) → r ≡ registerTest a k
+  pub register-short : n ≤ longestRegister → {t : List ℕ} → t ≡ textAt a k → (r : Bool) → r ≡ isSome (register t) → r ≡ registerTest a k
   unfolding registerTest
-  register-short h f r g = rw (← e, le-leb n 1544 h, ← f) g
+  register-short h f r g = rw (← e, le-leb n longestRegister h, ← f) g
 
 -- behind a register that passed the next text has the room that is left
-pub register-behind : (a : List ℕ) (k n : ℕ) (t : Bool) → TextRoom a k (1544 + n) → t ≡ registerTest a k → not t ≡ false → TextRoom a (suc k) n
+pub register-behind : (a : List ℕ) (k n : ℕ) (t : Bool) → TextRoom a k (longestRegister + n) → t ≡ registerTest a k → not t ≡ false → TextRoom a (suc k) n
 unfolding registerTest
-register-behind a k n t r u h = next-room a k 1544 n r (leb-true _ _ (and-left _ _ (sym u ∙ not-false t h)))
+register-behind a k n t r u h = next-room a k longestRegister n r (leb-true _ _ (and-left _ _ (sym u ∙ not-false t h)))
 
 pub ruleset filing = (lower-sender, higher-sender, same-sender)
 

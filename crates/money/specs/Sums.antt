@@ -89,7 +89,7 @@ module _ (s : List ℕ) (a b k v : ℕ) (h : a ≤ b) (l : b ≤ length s) (p : 
     levs-bad c = rw (byte, ne-eqb _ _ c)
 
     -- the levs before the comma leave room for the stotinki
-    pub levs-room : b - a ≤ 15 → v < 100000000000000
+    pub levs-room : b - a ≤ 15 → v < 10 ^ 14
     levs-room m = lt-of-lt-of-le (w .small) (pow-le-pow-right (omega arith) {i = k} {j = 14} (omega (arith, short)))
 
 -- ---- the whole

@@ -1,7 +1,7 @@
 // Amounts, read in stotinki.
 use text::Num;
 ghost use mathlib.Core.Path.{_≡_};
-ghost use Prim.Native.Nat.{_-_, _<_, _≤_};
+ghost use Prim.Native.Nat.{_-_, _^_, _<_, _≤_};
 ghost use lib.ListN.{length};
 ghost use Rattle.rules.specs.Amounts.{decimals, levs, amount};
 ghost use Rattle.laws.specs.Parts.{cut};
@@ -10,7 +10,7 @@ ghost use Rattle.money.specs.Sums.{Worth};
 
 // The levs v with two decimals, in stotinki.
 fn stotinki(v: u64, c: u8, d: u8) -> u64
-    requires { ⌜ v < 100000000000000 ⌝ }
+    requires { ⌜ v < 10 ^ 14 ⌝ }
     ensures { λ r. ⌜ Worth v c d r ⌝ }
 {
     let over = text::less(c, 48) * 10 + text::less(d, 48);
@@ -19,7 +19,7 @@ fn stotinki(v: u64, c: u8, d: u8) -> u64
 
 // Zero to two digits behind the comma, from a up to b, with v levs before it: a digit that is left out is a zero.
 fn read_decimals(v: u64, s: &[u8], a: usize, b: usize) -> Num
-    requires { ⌜ v < 100000000000000 ⌝ }
+    requires { ⌜ v < 10 ^ 14 ⌝ }
     requires { ⌜ a ≤ b ⌝ }
     requires { ⌜ b ≤ length (now s) ⌝ }
     ensures { λ r. ⌜ numOf r ≡ decimals v (cut (now (s .entry)) a b) ⌝ }

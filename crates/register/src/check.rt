@@ -9,6 +9,9 @@ ghost use Rattle.rules.specs.Text.{isSome};
 ghost use Rattle.rules.specs.Register.{register};
 ghost use Rattle.register.specs.Places.{lengthIn, linesIn, standsIn, againIn};
 
+// The longest text that passes: a first line and 40 account lines.
+pub const LONGEST: usize = 1544;
+
 // Is the text as long as n account lines, 40 at most?
 fn length_passes(text: &[u8], n: usize) -> bool
     ensures { λ r. ⌜ r ≡ lengthIn (now (text .entry)) n ⌝ }

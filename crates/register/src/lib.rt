@@ -3,6 +3,7 @@ mod check;
 mod lines;
 mod search;
 
+pub use check::LONGEST;
 pub use check::register_passes;
 pub use lines::bound_at;
 pub use search::Found;

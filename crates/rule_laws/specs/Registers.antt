@@ -79,5 +79,9 @@ module _ (s : List ℕ) (r : Register) (h : register s ≡ some r) where
       go : {t : List ℕ} {ls : List Line} → Lined t (r .temporary ∷ ls) → AccountsRead ls (r .accounts) → length t ≡ 24 + 38 * length (r .accounts)
       go (next {cs = cs} p t) a = omega (arith, length-append (r .temporary) (13 ∷ 10 ∷ cs), first, accounts-length t a)
 
-pub register-length : (s : List ℕ) → isSome (register s) ≡ true → length s ≤ 1544
+-- the longest text
+abbrev pub longestRegister : ℕ
+longestRegister = 24 + 38 * 40
+
+pub register-length : (s : List ℕ) → isSome (register s) ≡ true → length s ≤ longestRegister
 register-length s h = let r : There (register s) = there (register s) h in omega (arith, register-size s (r .value) (r .is), register-few s (r .value) (r .is))

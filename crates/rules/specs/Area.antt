@@ -8,6 +8,7 @@ use lib.IntN.{ℤ, pos}
 use lib.ListN.{length, take, drop, replicate}
 use Rattle.rules.specs.Text.{ascii, equal, bytes, bigEndian, given, over}
 use Rattle.rules.specs.Engine.{Key, Position, Reference, Engine, within}
+pub use Rattle.rules.specs.Engine.{areaSize}
 use Rattle.rules.specs.Calls.{Answer, openCall, messageCall, turnCall}
 
 -- ---- layout: numbers are big-endian, unused room is zero
@@ -44,9 +45,6 @@ positionsPlace = 1552
 
 abbrev pub textsPlace : ℕ
 textsPlace = 2320
-
-abbrev pub areaSize : ℕ
-areaSize = 6144
 
 -- the room of the lengths, of each section, and of a record
 abbrev pub lengthsRoom : ℕ

@@ -13,7 +13,7 @@ use Rattle.rules.specs.Lines.{framed, type, receiver}
 use Rattle.rules.specs.Messages.{Message, mt103, mt101, Detail, currency32A, account103, field21, currency32B, payer, account59, read, senderOf, referenceOf, detailsOf, dateOf, transferredBy, detailedBy, firstDate}
 use Rattle.rules.specs.Register.{Register, register, registerOf}
 use Rattle.rules.specs.Verdict.{Verdict, credited, returned, verdict, isReturned, accountAt}
-use Rattle.rules.specs.Engine.{Key, Position, Reference, Engine, limit, positionOf, isOpen, booked, kept, slashed, sameReference, filed, hasDetails}
+use Rattle.rules.specs.Engine.{Key, Position, Reference, Engine, areaSize, limit, positionOf, isOpen, booked, kept, slashed, sameReference, filed, hasDetails}
 use Rattle.rules.specs.Written.{Book, fromBank, toAccount, toBank, verdicts, partsOf, correctionPostings, corrections, correctedCount}
 
 -- ---- conditions of refusal
@@ -57,7 +57,7 @@ holdsOf p (some a) = p a
 -- size is the engine area's
 unfoldable pub openStops : ℕ → List ℕ → ℕ → List Stop
 openStops size text day =
-    stop 10 (not (leb 6144 size))
+    stop 10 (not (leb areaSize size))
     ∷ stop 3 (not (exists day))
     ∷ stop 9 (not (isSome (register text)))
     ∷ []

@@ -33,6 +33,10 @@ pub record Engine : Type 0 where
   pub references : List Reference
   pub count : ℕ
 
+-- "the first 6,144 bytes of a lent area"
+abbrev pub areaSize : ℕ
+areaSize = 6144
+
 -- "Each total is at most 99,999,999,999,999."
 abbrev pub limit : ℕ
 limit = 99999999999999

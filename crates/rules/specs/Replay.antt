@@ -8,7 +8,7 @@ use lib.IntN.{ℤ, pos, negsuc}
 use lib.ListN.{length, take, drop}
 use Rattle.rules.specs.Text.{ascii, digits, decimal, fits, equal, then, given}
 use Rattle.rules.specs.Lines.{takeLine}
-use Rattle.rules.specs.Engine.{Engine}
+use Rattle.rules.specs.Engine.{Engine, areaSize}
 use Rattle.rules.specs.Calls.{Answer, openCall, messageCall, turnCall}
 
 -- a command: "`O,day,length` and a register, `M,length` and a message, `T,day`"
@@ -58,7 +58,7 @@ printed a = decimal (a .number) ++ ascii "," ++ signed (a .difference) ++ ascii 
 
 -- the call that a command makes
 unfoldable pub called : ℕ → Option Engine → Command → Answer
-called room engine (opens day text) = openCall 6144 engine text day
+called room engine (opens day text) = openCall areaSize engine text day
 called room engine (sends s) = messageCall room engine s
 called room engine (turns day) = turnCall room engine day
 
