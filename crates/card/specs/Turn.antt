@@ -80,7 +80,7 @@ turned-done day {a} x l w t d c = record {
   difference = d ∙ rw (t .refunded, t .collected) refl;
   area = c ∙ rw (w .count, turned-after (decode a) day) refl;
   output = wrote-over (w .wrote) l;
-  small = rw d (difference-small (x .refunded) (x .collected) (omega (arith, t .small)) (omega (arith, t .little)));
+  small = rw d (difference-small (x .refunded) (x .collected) (omega (arith, t .refunded-small)) (omega (arith, t .collected-small)));
 }
 
 module _ (day : ℕ) (area out : List ℕ) (h : isSome (holds area) ≡ true) where

@@ -69,13 +69,13 @@ module _ (a : Answer) (area out : List ℕ) where
       go true e = absurd (h (rw e))
       go false e = record { written = rw e; difference = rw e; area = rw e; output = rw e }
 
--- a call's result: where its number is 0 no condition held, else all stays
+-- a call's result: where its number is 0 no condition holds, else all stays
 pub record Ends (ss : List Stop) (r : Result) (area out : List ℕ) : Type 0 where
   pub accepted : r .number ≡ 0 → firstOf ss ≡ 0
   pub refused : (r .number ≡ 0 → ⊥) → Stays r area out
 
-on-ends : (ss : List Stop) (engine-in : Option Engine) (a : Answer) (area out : List ℕ) → Ends ss (onAreas (answered ss engine-in a) area out) area out
-on-ends ss engine-in a area out = record { accepted = λ h. answered-zero ss engine-in a (on-zero _ area out h); refused = on-stays _ area out }
+on-ends : (ss : List Stop) (engine : Option Engine) (a : Answer) (area out : List ℕ) → Ends ss (onAreas (answered ss engine a) area out) area out
+on-ends ss engine a area out = record { accepted = λ h. answered-zero ss engine a (on-zero _ area out h); refused = on-stays _ area out }
 
 on-done : (text : List ℕ) (d : ℤ) (next : Engine) (area out : List ℕ) → within next ≡ true → Done (onAreas record { number = 0; text = text; difference = d; next = some next } area out) area out text d next
 unfolding onAreas stored

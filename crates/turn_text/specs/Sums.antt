@@ -38,8 +38,8 @@ pub record Adds (p : Position) (s r : Sums) : Type 0 where
 pub record SumsOf (ps : List Position) (r : Sums) : Type 0 where
   pub refunded : r .refunded ≡ refunded ps
   pub collected : r .collected ≡ collected ps
-  pub small : r .refunded ≤ 2 ^ 53
-  pub little : r .collected ≤ 2 ^ 53
+  pub refunded-small : r .refunded ≤ 2 ^ 53
+  pub collected-small : r .collected ≤ 2 ^ 53
 
 -- ---- one position
 
@@ -84,8 +84,8 @@ pub record SumsLeft (area : List ℕ) (i k n : ℕ) (s : Sums) : Type 0 where
   pub place : i + k ≡ n
   pub refunded : s .refunded + refunded (positionsFrom area i k) ≡ refunded (positionsFrom area 0 n)
   pub collected : s .collected + collected (positionsFrom area i k) ≡ collected (positionsFrom area 0 n)
-  pub small : s .refunded + 2 ^ 48 * k ≤ 2 ^ 48 * n
-  pub little : s .collected + 2 ^ 48 * k ≤ 2 ^ 48 * n
+  pub refunded-small : s .refunded + 2 ^ 48 * k ≤ 2 ^ 48 * n
+  pub collected-small : s .collected + 2 ^ 48 * k ≤ 2 ^ 48 * n
 
 module _ (p : Position) (ps : List Position) where
   refunded-first : refunded (p ∷ ps) ≡ refundOf p + refunded ps
@@ -97,7 +97,7 @@ module _ (p : Position) (ps : List Position) where
   collected-first = above-first p (p .detailed) (p .transferred) (collected ps)
 
 pub sums-all : (area : List ℕ) (n : ℕ) → SumsLeft area 0 n n (record { refunded = 0; collected = 0 })
-sums-all area n = record { place = omega arith; refunded = omega arith; collected = omega arith; small = omega arith; little = omega arith }
+sums-all area n = record { place = omega arith; refunded = omega arith; collected = omega arith; refunded-small = omega arith; collected-small = omega arith }
 
 module _ (area : List ℕ) (i k n : ℕ) (s : Sums) (l : SumsLeft area i k n s) where
   pub sums-more : 0 < k → {q : P.Position} → PositionAt area (positionsPlace + recordSize * i) q → {r : Sums} → Adds (positionValue q) s r → SumsLeft area (i + 1) (k - 1) n r
@@ -109,8 +109,8 @@ module _ (area : List ℕ) (i k n : ℕ) (s : Sums) (l : SumsLeft area i k n s) 
         place = omega (arith, l .place);
         refunded = omega (arith, l .refunded, ap refunded e, refunded-first x xs, d .refunded);
         collected = omega (arith, l .collected, ap collected e, collected-first x xs, d .collected);
-        small = omega (arith, l .small, d .refunded, above-small x (x .transferred) (x .detailed), a .transferred);
-        little = omega (arith, l .little, d .collected, above-small x (x .detailed) (x .transferred), a .detailed);
+        refunded-small = omega (arith, l .refunded-small, d .refunded, above-small x (x .transferred) (x .detailed), a .transferred);
+        collected-small = omega (arith, l .collected-small, d .collected, above-small x (x .detailed) (x .transferred), a .detailed);
       }
 
   pub sums-end : k ≤ 0 → n ≤ 32 → SumsOf (positionsFrom area 0 n) s
@@ -120,8 +120,8 @@ module _ (area : List ℕ) (i k n : ℕ) (s : Sums) (l : SumsLeft area i k n s) 
       record {
         refunded = omega (arith, l .refunded, ap refunded e);
         collected = omega (arith, l .collected, ap collected e);
-        small = omega (arith, l .small);
-        little = omega (arith, l .little);
+        refunded-small = omega (arith, l .refunded-small);
+        collected-small = omega (arith, l .collected-small);
       }
 
 -- the positions of the engine that the area holds

@@ -1,4 +1,4 @@
--- `account::control::iban_control` meets its contract: the head behind the rest makes the whole number, then the control digits are held to their bounds.
+-- `account::control::iban_control` meets its contract: the head behind the rest makes the whole number, then the control digits are compared with their bounds.
 use Rattle.account.specs.Control.{controls}
 use borrow.Author.Needs.{needs}
 use Rattle.account.proofs.control.iban_control.Statement.{statement}

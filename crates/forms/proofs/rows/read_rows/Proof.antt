@@ -70,10 +70,10 @@ use Rattle.forms.proofs.rows.Matched as D
 use Rattle.forms.proofs.rows.Matched.Laws as D′
 use Rattle.forms.proofs.rows.Rows as R
 use Rattle.forms.proofs.rows.Rows.Laws as R′
-use Rattle.forms.proofs.rows.match_line as hold
-use Rattle.forms.proofs.rows.match_line.Symbol as hold-def
+use Rattle.forms.proofs.rows.match_line as matches
+use Rattle.forms.proofs.rows.match_line.Symbol as matches-def
 use Rattle.forms.proofs.rows.match_line.Symbol.{name as #match-line}
-use Rattle.forms.proofs.rows.match_line.Met as hold-thm
+use Rattle.forms.proofs.rows.match_line.Met as matches-thm
 use Rattle.forms.proofs.rows.read_rows.Key.{name as #read-rows}
 use Rattle.forms.proofs.rows.read_rows as f
 use Rattle.forms.proofs.rows.read_rows.Statement as stated
@@ -119,7 +119,7 @@ none-are : Parts (replicate 23 noSpan) (replicate 23 noVal)
 none-are = each-alike (F .row .Denot) (F .row .own) (F .into) noSpan noVal none-is 23
 
 module _ {M : Type 1} (𝓤 : URA M) (H : Heap 𝓤) (A : Atoms 𝓤) (W : Given 𝓤 H A) (mem : Memory → SProp 𝓤) (run : Routine → Fun 𝓤) (𝓣 : Tables 𝓤 H) (known-made : Triple 𝓤 (𝓣 .C #reader-over) (Promise 𝓤 H A made.ended (made.clauses 𝓤 H A mem run)))
-    (known-taken : Triple 𝓤 (𝓣 .C #take-line) (Promise 𝓤 H A taken.ended (taken.clauses 𝓤 H A mem run))) (known-hold : Triple 𝓤 (𝓣 .C #match-line) (Promise 𝓤 H A hold.ended (hold.clauses 𝓤 H A mem run))) where
+    (known-taken : Triple 𝓤 (𝓣 .C #take-line) (Promise 𝓤 H A taken.ended (taken.clauses 𝓤 H A mem run))) (known-matches : Triple 𝓤 (𝓣 .C #match-line) (Promise 𝓤 H A matches.ended (matches.clauses 𝓤 H A mem run))) where
   spans-typed : (l : List Span) (us : List Val) → length l ≡ 23 → Parts l us → Holds (hasTy parts (arrayVal us)) × WT (arrayVal us)
   spans-typed l us size are = R′.the-laws .1 .1 .0 .lawful 𝓤 H A W .typed (map (F .into) l) (arrayVal us ∷ []) (spans-are l us size are) .0
 
@@ -146,8 +146,8 @@ module _ {M : Type 1} (𝓤 : URA M) (H : Heap 𝓤) (A : Atoms 𝓤) (W : Given
     abbrev to-taken : ℕ → Promise 𝓤 H A taken.ended (taken.clauses 𝓤 H A mem run) .Ghost
     to-taken n = (((κ, tt), (q, tt), tt, (over s n, tt), (readerVal κ s n ∷ [], tt)), tt)
 
-    abbrev to-hold : Val → Next → ℕ → ℕ → Promise 𝓤 H A hold.ended (hold.clauses 𝓤 H A mem run) .Ghost
-    to-hold w t n k = (((κ, tt), (q, tt), tt, (s, (n, (t, (k, tt)))), (v ∷ [], (vint w64 n ∷ [], (w ∷ [], (vint w64 k ∷ [], tt))))), tt)
+    abbrev to-match : Val → Next → ℕ → ℕ → Promise 𝓤 H A matches.ended (matches.clauses 𝓤 H A mem run) .Ghost
+    to-match w t n k = (((κ, tt), (q, tt), tt, (s, (n, (t, (k, tt)))), (v ∷ [], (vint w64 n ∷ [], (w ∷ [], (vint w64 k ∷ [], tt))))), tt)
 
     -- the plain data beside the text
     abbrev at-place : Fml
@@ -238,7 +238,7 @@ module _ {M : Type 1} (𝓤 : URA M) (H : Heap 𝓤) (A : Atoms 𝓤) (W : Given
             nothing ! $ owned ! usize (Is usize) (uint-makes 𝓤 H A W w64) k (vint w64 k ∷ []) (refl, row-fits) $ fjoin ! $ move ! (2 ∷ 0 ∷ []) $ fjoin ! $
             owned ! usize (Is usize) (uint-makes 𝓤 H A W w64) n (vint w64 n ∷ []) (refl, fits) $ fjoin ! $ move ! (3 ∷ 0 ∷ []) $
             use2 W (‵ Own ⊛ ‵ (fsep Own (line-at w t n k))) (lends-text κ s 𝓤 H A W (line-at w t n k)) $ split ! $ move ! (2 ∷ 1 ∷ []) $
-            calls {𝓤 = 𝓤} {H = H} {A = A} {C = 𝓣 .C} ! (fmOf 𝓤 H (W .laws) 𝓣) hold.ended (hold.clauses 𝓤 H A mem run) known-hold (to-hold w t n k) (factI 𝓤 _ (emp 𝓤) (record { place = in-text; short = short; row = omega arith; told = told }))
+            calls {𝓤 = 𝓤} {H = H} {A = A} {C = 𝓣 .C} ! (fmOf 𝓤 H (W .laws) 𝓣) matches.ended (matches.clauses 𝓤 H A mem run) known-matches (to-match w t n k) (factI 𝓤 _ (emp 𝓤) (record { place = in-text; short = short; row = omega arith; told = told }))
             (and-then ! (load ! (from ! (stop !)) (look ! 41 refl)) (and-then ! (load ! (from ! (stop !)) (look ! 17 refl)) (and-then ! (load ! (from ! (stop !)) (look ! 27 refl)) (and-then ! (load ! (from ! (stop !)) (look ! 15 refl)) (no-more !)))))
             (λ d _. MatchedAt (now s) n k d) (λ d ws′. id⊢ 𝓤 _) (λ u d ws′ matched is′.
             -- [the token; what is owned of the line matched; true; what the text owns; true; _20; …]: local i stands at 2 · (20 − i) + 5
@@ -328,4 +328,4 @@ read-rows-spec 𝓤 H 𝓜 𝓖 𝓡 =
     (meets 𝓤 H (𝓖 .A) (givenOf 𝓤 H 𝓜 𝓖) (𝓜 .mem) (𝓡 .run) (tablesOf 𝓤 H 𝓜 (tables 𝓤 H 𝓜 𝓡 code.env))
     (cited 𝓤 H (tripleOf 𝓤 H (𝓖 .A) made.signature (made.spec 𝓤 H (𝓖 .A) (𝓜 .mem) (𝓡 .run))) 𝓜 𝓡 code.env #reader-over made-def.routine code.calls-lines·reader-over (made-thm.met 𝓤 H 𝓜 𝓖 𝓡))
     (cited 𝓤 H (tripleOf 𝓤 H (𝓖 .A) taken.signature (taken.spec 𝓤 H (𝓖 .A) (𝓜 .mem) (𝓡 .run))) 𝓜 𝓡 code.env #take-line taken-def.routine code.calls-lines·take-line (taken-thm.met 𝓤 H 𝓜 𝓖 𝓡))
-    (cited 𝓤 H (tripleOf 𝓤 H (𝓖 .A) hold.signature (hold.spec 𝓤 H (𝓖 .A) (𝓜 .mem) (𝓡 .run))) 𝓜 𝓡 code.env #match-line hold-def.routine code.calls-forms·rows·match-line (hold-thm.met 𝓤 H 𝓜 𝓖 𝓡)))
+    (cited 𝓤 H (tripleOf 𝓤 H (𝓖 .A) matches.signature (matches.spec 𝓤 H (𝓖 .A) (𝓜 .mem) (𝓡 .run))) 𝓜 𝓡 code.env #match-line matches-def.routine code.calls-forms·rows·match-line (matches-thm.met 𝓤 H 𝓜 𝓖 𝓡)))
