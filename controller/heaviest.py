@@ -2,7 +2,8 @@
 """Writes days, inputs of the replay program, whose last call is one that costs the card most into a folder: heaviest.py FOLDER
 
 A full book has 32 positions, each with details of the largest amount, and 63 messages of one sender; the register has 40 account lines. A large
-message has 4,096 bytes and 16 details.
+message has 4,096 bytes and 16 details, each with every line of text that it may have; what is left of the bytes goes first to those lines that the
+MT103 of a return repeats. Where all details are returned, the card writes 16 posting lines, two MT199 and 16 MT103.
 
   opening       an opening with this register
   returned      a large message for the last position of a full book, all details returned
@@ -23,6 +24,8 @@ TODAY, TOMORROW = "060305", "060306"
 SENDER = "AAAABGSF"
 ACCOUNTS = 41
 LARGE = 99  # the large message's number; the others count from 0
+# a detail's lines of text, by field (50H, 52D, 59, 70) and place, in the order in which they are filled: those that a return repeats, then the others
+FILLED = [(0, 0), (0, 1), (0, 2), (1, 0), (0, 3), (2, 0), (2, 1), (2, 2), (3, 0), (3, 1)]
 
 
 def iban(account):
@@ -88,11 +91,10 @@ class Kind:
             return self.mt101(number, [self.detail(k + 1, "059999999999,99", date, self.accounts[-1] + "PAY" + code, texts) for k in range(16)])
 
         left = (4096 - len(whole())) // 16
-        for part in room:
-            for k in range(len(part)):
-                more = min(34, left)
-                part[k] += more
-                left -= more
+        for field, k in FILLED:
+            more = min(34, left)
+            room[field][k] += more
+            left -= more
         message = whole()
         last = message.rindex("T\r\n") + 1
         return message[:last] + "T" * min(4096 - len(message), 15) + message[last:]

@@ -8,12 +8,12 @@ use Rattle.rules.specs.Messages.{Message, mt103, mt101, Detail, account59, deta
 use Rattle.rules.specs.Register.{Register, registerOf}
 use Rattle.rules.specs.Verdict.{Verdict, credited, returned, isReturned, accountAt}
 use Rattle.rules.specs.Engine.{Engine, bic}
-use Rattle.rules.specs.Written.{Book, posting, verdicts}
-use Rattle.rules.specs.Calls.{bankOf, verdictOf, returnedOf, detailPosting, detailPostings, postings, hasVerdict, positionAfter, messageText}
+use Rattle.rules.specs.Written.{Book, posting, verdicts, returns}
+use Rattle.rules.specs.Calls.{bankOf, verdictOf, returnedOf, detailPosting, detailPostings, postings, hasVerdict, positionAfter, partsWritten, messageText}
 use Rattle.rules.specs.Ledger.{Kind, Request, isParty}
 use Rattle.laws.specs.All.{All, All.none, All.more}
 use Rattle.balance_laws.specs.Told.{Tells, tells-none, tells-join, tells-same, tells-mute, Mute, mute-none}
-use Rattle.balance_laws.specs.Mute.{DetailSent, mute-verdicts}
+use Rattle.balance_laws.specs.Mute.{DetailSent, mute-verdicts, mute-returns}
 use Rattle.balance_laws.specs.Accounts.{credited-shape}
 use Rattle.balance_laws.specs.Kinds.{comesIn, goesOut, Readable, mine, mine-none, mine-adds, bank-party, iban-party, in-from, out-from, in-paid, out-paid}
 
@@ -95,13 +95,19 @@ module _ (e : Engine) (m : Message) (w : Postable e m) where
       go true = mute-verdicts (e .day) (e .count) (positionAfter e m) (w .book .known) (returned-sent (registerOf (e .register)) (w .details))
       go false = mute-none
 
+  -- nor do the returns: a message tells what its posting lines do
+  tells-message : {kind : Kind} {f : Request} {v : ℕ} → Tells kind f (postings (registerOf (e .register)) (bookOf e m) m) v → Tells kind f (messageText e m) v
+  unfolding messageText bookOf
+  tells-message t =
+      let back : Mute (returns (bookOf e m) (e .count + partsWritten e m) (returnedOf (registerOf (e .register)) (detailsOf m))) =
+      mute-returns (bookOf e m) (e .count + partsWritten e m) (w .book .known) (w .book .account) (returned-sent (registerOf (e .register)) (w .details)) in
+      tells-same (tells-join (tells-join t (tells-mute mute-judged)) (tells-mute back)) (omega arith)
+
   module _ (bank : ℕ) (f : Request) (s : bank < 2 ^ 64) where
     pub message-in : Tells (comesIn bank) f (messageText e m) (mine bank (bankOf m) (transferredBy m))
-    unfolding messageText bookOf
-    message-in =
-        tells-same (tells-join (postings-in bank f s (registerOf (e .register)) (bookOf e m) (w .book) m (w .transferred) (w .detailed)) (tells-mute mute-judged)) (omega arith)
+    unfolding bookOf
+    message-in = tells-message (postings-in bank f s (registerOf (e .register)) (bookOf e m) (w .book) m (w .transferred) (w .detailed))
 
     pub message-out : Tells (goesOut (registerOf (e .register) .temporary) bank) f (messageText e m) (mine bank (bankOf m) (detailedBy m))
-    unfolding messageText bookOf
-    message-out =
-        tells-same (tells-join (postings-out bank f s (registerOf (e .register)) (bookOf e m) (w .book) m (w .transferred) (w .detailed)) (tells-mute mute-judged)) (omega arith)
+    unfolding bookOf
+    message-out = tells-message (postings-out bank f s (registerOf (e .register)) (bookOf e m) (w .book) m (w .transferred) (w .detailed))

@@ -1,5 +1,5 @@
--- Written messages are mute: no line of an MT199, MT204 or MT205 is long enough for a posting line.
-use mathlib.Core.Path.{_≡_, refl, subst}
+-- Written messages are mute: no line of an MT199, of the MT103 of a return, of an MT204 or of an MT205 is long enough for a posting line.
+use mathlib.Core.Path.{_≡_, refl, sym, subst}
 use mathlib.Core.Bool.{Bool, true, false, cond}
 use mathlib.Core.List.{List, [], _++_, append-assoc}
 use Prim.Native.Nat.{ℕ, zero, suc, _+_, _/_, _%_, _≤_}
@@ -9,13 +9,13 @@ use lib.ListN.{length}
 use Rattle.rules.specs.Text.{ascii, every, decimal}
 use Rattle.rules.specs.Amounts.{written, withComma, withPoint}
 use Rattle.rules.specs.Accounts.{isBic, ibanShape}
-use Rattle.rules.specs.Messages.{Detail, branch, account59, baerefDate, baerefName}
+use Rattle.rules.specs.Messages.{Detail, branch, payerLines, branchLines, account59, baerefDate, baerefName}
 use Rattle.rules.specs.Engine.{Position, bic, limit}
-use Rattle.rules.specs.Written.{reference, firstLine, field, size, returnedRows, allReturned, linked, position79, closed79, mt199, partsOf, mt199s, verdicts, field72, mt204, mt205}
+use Rattle.rules.specs.Written.{Book, reference, firstLine, field, field32A, temporaryField, baerefRow, size, returnedRows, allReturned, linked, position79, closed79, mt199, partsOf, mt199s, verdicts, return103, returnOf, returns, field72, mt204, mt205}
 use Rattle.laws.specs.Digits.{places-length, width-bound, width-most}
 use Rattle.laws.specs.All.{All, All.none, All.more, all-take, all-drop}
 use Rattle.rule_laws.specs.Lines.{inLine}
-use Rattle.balance_laws.specs.Told.{Short, short-join, short-text, Mute, mute-none, mute-line, mute-join}
+use Rattle.balance_laws.specs.Told.{Short, short-join, short-text, short-part, Mute, mute-none, mute-line, mute-join}
 use Rattle.balance_laws.specs.Signs.{short-fixed, short-decimal, short-written, short-bic, short-iban}
 
 infixl 65 _⊕_
@@ -40,14 +40,34 @@ mute-opened : (bank : ℕ) (type : List ℕ) → Short 3 type → isBic (bic ban
 unfolding firstLine every inLine
 mute-opened bank type s h = mute-line (s ⊕ short-text (ascii ",BNBGBGSD,") refl ⊕ short-bic (bic bank) h) refl
 
--- ---- MT199
+short-comma : (v : ℕ) → Short 23 (withComma v)
+unfolding every inLine
+short-comma v = short-written v (short-text (ascii ",") refl)
 
--- what an accepted message's detail gives two rows for
+mute-32A : (day v : ℕ) → Mute (field32A day v)
+unfolding field32A every inLine
+mute-32A day v = mute-line (short-text (ascii ":32A:") refl ⊕ short-fixed 6 day ⊕ short-text (ascii "BGN") refl ⊕ short-comma v) refl
+
+mute-temporary : {m : ℕ} {tag : List ℕ} (temporary : List ℕ) → Short m tag → ibanShape temporary ≡ true → leb (m + 22) 41 ≡ true → Mute (temporaryField tag temporary)
+unfolding temporaryField every inLine
+mute-temporary temporary s t h = mute-field s (short-iban temporary t) h ▹ mute-line (short-text (ascii "SMETKA ZA RAZPREDELENIE NA PREVODI") refl) refl
+
+mute-baeref : {m : ℕ} {tag : List ℕ} (day n : ℕ) → Short m tag → leb (m + 6 + 6) 41 ≡ true → Mute (baerefRow tag day n)
+unfolding baerefRow
+mute-baeref day n s h = mute-line (s ⊕ short-fixed 6 day ⊕ short-fixed 6 n) h
+
+-- ---- a detail
+
+-- what is repeated of an accepted message's detail: in two rows of an MT199, and in 57D and 59 of a return
 pub record DetailSent (d : Detail) : Type 0 where
   pub code : Short 8 (branch d)
   pub dated : Short 6 (baerefDate d)
   pub named : Short 12 (baerefName d)
   pub account : Short 34 (account59 d)
+  pub lines57D : Mute (ascii ":57D:" ++ branchLines d)
+  pub lines59 : Mute (ascii ":59:" ++ payerLines d)
+
+-- ---- MT199
 
 mute-returned : {ds : List Detail} → All DetailSent ds → Mute (allReturned ds)
 unfolding allReturned returnedRows every inLine
@@ -64,10 +84,6 @@ mute-linked day n part = go (leb 2 part)
     go : (t : Bool) → Mute (cond t (field (ascii ":21:") (reference day (n + 1))) [])
     go true = mute-field (short-text (ascii ":21:") refl) (short-reference day (n + 1)) refl
     go false = mute-none
-
-short-comma : (v : ℕ) → Short 23 (withComma v)
-unfolding every inLine
-short-comma v = short-written v (short-text (ascii ",") refl)
 
 mute-position : (date transferred detailed : ℕ) → Mute (position79 date transferred detailed)
 unfolding position79 every inLine
@@ -101,6 +117,29 @@ pub mute-verdicts : (day n : ℕ) (p : Position) {ds : List Detail} → isBic (b
 unfolding verdicts
 mute-verdicts day n p {ds} h s = mute-199s (partsOf (length ds)) day n p 1 (partsOf (length ds)) h s
 
+-- ---- MT103 of a return
+
+mute-return : (b : Book) (n : ℕ) {d : Detail} → isBic (bic (b .bank)) ≡ true → ibanShape (b .temporary) ≡ true → DetailSent d → Mute (returnOf b n d)
+unfolding returnOf return103 every inLine
+mute-return b n {d} h t s =
+    (mute-opened (b .bank) (ascii "103") (short-text (ascii "103") refl) h
+    ▹ mute-field (short-text (ascii ":20:") refl) (short-reference (b .day) n) refl
+    ▹ mute-line (short-text (ascii ":23B:CRED") refl) refl
+    ▹ mute-32A (b .day) (d .amount))
+    ▹ (mute-temporary (b .temporary) (short-text (ascii ":50K:/") refl) t refl
+    ▹ mute-field (short-text (ascii ":52D:") refl) (short-part 8 4 (b .temporary) (short-iban (b .temporary) t .plain)) refl
+    ▹ mute-line (short-text (ascii "BNB") refl) refl)
+    ▹ subst Mute (sym (append-assoc (ascii ":57D:" ++ branchLines d) (ascii ":59:") (payerLines d))) (s .lines57D ▹ s .lines59)
+    ▹ (mute-field (short-text (ascii ":70:VRASHTANE CENTRB") refl) (short-fixed 6 (b .date)) refl
+    ▹ (mute-line (short-text (ascii ":71A:OUR") refl) refl ▹ mute-line (short-text (ascii ":72:/DTYPE/PORD") refl) refl)
+    ▹ mute-baeref (b .day) n (short-text (ascii "/BAEREF/") refl) refl
+    ▹ mute-line (short-text (ascii "-") refl) refl)
+
+pub mute-returns : (b : Book) (n : ℕ) {ds : List Detail} → isBic (bic (b .bank)) ≡ true → ibanShape (b .temporary) ≡ true → All DetailSent ds → Mute (returns b n ds)
+unfolding returns
+mute-returns b n h t none = mute-none
+mute-returns b n h t (more d s) = mute-return b (n + 1) h t d ▹ mute-returns b (n + 1) h t s
+
 -- ---- corrections
 
 -- a sum within the limit has a digit less than the longest number
@@ -114,7 +153,7 @@ short-point v h = levs ⊕ short-text (ascii ".") refl ⊕ short-fixed 2 (v % 10
 mute-72 : (day n : ℕ) (p : Position) → p .detailed ≤ limit → Mute (field72 day n p)
 unfolding field72 every inLine
 mute-72 day n p h =
-    mute-line (short-text (ascii ":72:/BAEREF/") refl ⊕ short-fixed 6 day ⊕ short-fixed 6 n) refl
+    mute-baeref day n (short-text (ascii ":72:/BAEREF/") refl) refl
     ▹ mute-field (short-text (ascii "/RELREF/ERRCENTRB") refl) (short-fixed 6 (p .key .date)) refl
     ▹ mute-line (short-text (ascii "//RAZLIKA OT CENTRALIZACIA NA BS") refl) refl
     ▹ mute-field (short-text (ascii "//SUMA PREZ RINGS ") refl) (short-written (p .transferred) (short-text (ascii ".") refl)) refl
@@ -127,9 +166,7 @@ mute-204 day temporary n p v h t l =
     ▹ mute-field (short-text (ascii ":20:") refl) (short-reference day n) refl
     ▹ mute-field (short-text (ascii ":19:") refl) (short-comma v) refl
     ▹ mute-field (short-text (ascii ":30:") refl) (short-fixed 6 day) refl)
-    ▹ (mute-field (short-text (ascii ":58D:/") refl) (short-iban temporary t) refl
-    ▹ mute-line (short-text (ascii "SMETKA ZA RAZPREDELENIE NA PREVODI") refl) refl
-    ▹ mute-field (short-text (ascii ":20:") refl) (short-reference day n) refl)
+    ▹ (mute-temporary temporary (short-text (ascii ":58D:/") refl) t refl ▹ mute-field (short-text (ascii ":20:") refl) (short-reference day n) refl)
     ▹ (mute-field (short-text (ascii ":32B:BGN") refl) (short-comma v) refl ▹ mute-field (short-text (ascii ":53A:") refl) (short-bic (bic (p .key .bank)) h) refl)
     ▹ mute-72 day n p l
 
@@ -139,6 +176,6 @@ mute-205 day n p v h l =
     (mute-opened (p .key .bank) (ascii "205") (short-text (ascii "205") refl) h
     ▹ mute-field (short-text (ascii ":20:") refl) (short-reference day n) refl
     ▹ mute-field (short-text (ascii ":21:") refl) (short-reference day n) refl)
-    ▹ mute-line (short-text (ascii ":32A:") refl ⊕ short-fixed 6 day ⊕ short-text (ascii "BGN") refl ⊕ short-comma v) refl
+    ▹ mute-32A day v
     ▹ (mute-line (short-text (ascii ":52A:BNBGBGSD") refl) refl ▹ mute-field (short-text (ascii ":58A:") refl) (short-bic (bic (p .key .bank)) h) refl)
     ▹ mute-72 day n p l

@@ -6,7 +6,7 @@ use mathlib.Core.Option.{none, Option·getD}
 use Prim.Native.Nat.{ℕ, suc, _+_, _≤_, _<_}
 use native.Mathlib.Omega.{arith}
 use lib.Dec.{leb, eqb}
-use lib.ListN.{length, getD, drop, length-append}
+use lib.ListN.{length, getD, take, drop, length-append, length-take}
 use lib.Seq.{drop-cons}
 use borrow.Author.Tests.{leb-true, eqb-true, le-leb}
 use Rattle.rules.specs.Text.{ascii, every, fits, given}
@@ -15,7 +15,7 @@ use Rattle.rules.specs.Lines.{begun, Line, lines}
 use Rattle.rules.specs.Ledger.{parted, isParty, isNumber, isPosting, posted, Kind, Request, amountIf, sumOfLines}
 use Rattle.laws.specs.Reading.{fits-length}
 use Rattle.laws.specs.Tests.{and-left, and-right, cond-right, cond-left, cond-both}
-use Rattle.laws.specs.Every.{every-join}
+use Rattle.laws.specs.Every.{every-join, every-take, every-drop}
 use Rattle.rule_laws.specs.Lines.{inLine, Lined, Lined.end, Lined.next, lined-lines, lined-join}
 
 -- ---- a posting line is long
@@ -83,6 +83,10 @@ short-join {a = a} {b} s t = record { plain = every-join inLine a b (s .plain) (
 -- a part as it is printed
 pub short-text : (cs : List ℕ) → every inLine cs ≡ true → Short (length cs) cs
 short-text cs h = record { plain = h; size = omega arith }
+
+-- a part of a line
+pub short-part : (n i : ℕ) (cs : List ℕ) → every inLine cs ≡ true → Short n (take n (drop i cs))
+short-part n i cs h = record { plain = every-take inLine n _ (every-drop inLine i cs h); size = rw length-take (omega arith) }
 
 -- ---- texts of short lines
 

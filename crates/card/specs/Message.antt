@@ -38,7 +38,8 @@ use Rattle.conditions.specs.declared.message.Checked.the-variants.{Refused}
 use Rattle.verdict.specs.Details.{VerdictsIn, JudgedIn}
 use Rattle.state_conditions.specs.Stops.{additionBy}
 use Rattle.detail_lines.specs.Returned.{ReturnedCount}
-use Rattle.message_text.specs.Message.{AfterOf, amount-part, after-is, WritesOf, Writes, writes-told, TextPut}
+use Rattle.message_text.specs.Message.{AfterOf, amount-part, after-is, DueFor, DueIn, due-told, TextPut}
+use Rattle.message_text.specs.declared.numbered.Due.{Due}
 use Rattle.position.specs.Values.{keyValue, positionValue}
 use Rattle.position.specs.declared.Position as P
 use Rattle.card.specs.Answers.{Answers, answers-refused, answers-accepted}
@@ -118,13 +119,13 @@ pub record Leaves (a s : List ℕ) (p : P.Position) : Type 0 where
   pub detailed-small : p .detailed < 2 ^ 62
 
 -- a message that none of 1 to 15 stops, to be written and booked
-pub record Ready (s a : List ℕ) (b : Booking) (p : P.Position) (parts : ℕ) (amounts places verdicts : List ℕ) : Type 0 where
+pub record Ready (s a : List ℕ) (b : Booking) (p : P.Position) (due : Due) (amounts places verdicts : List ℕ) : Type 0 where
   pub engine : isSome (holds a) ≡ true
   pub books : Books s (messageIn s) b
   pub none-holds : 0 ≡ firstOf (limitStops (decode a) (some (messageIn s)))
   pub judged : JudgedIn (decode a .register) s amounts places verdicts (b .count)
   pub leaves : Leaves a s p
-  pub parts-are : Writes (decode a) (messageIn s) parts
+  pub dues : DueIn (decode a) (messageIn s) due
 
 pub leaves-told : (a s : List ℕ) (b : Booking) → Books s (messageIn s) b → (x : Totals) → TotalsOf (decode a .positions) (keyValue (b .key)) x → (p : P.Position) → AfterOf b x p → Leaves a s p
 leaves-told a s b k x y p q = record {
@@ -138,7 +139,7 @@ pub judged-told : (a s t : List ℕ) → RegisterOf a t → {verdicts : List ℕ
 judged-told a s t r v = rw (r .same) at v
 
 module _ (s area : List ℕ) (h : isSome (holds area) ≡ true) (b : Booking) {amounts places : List ℕ} (k : Passes (temporaryOf (decode area)) s b amounts places) (p : P.Position) (q : Leaves area s p) (z : 0 ≡ firstOf (limitStops (decode area) (some (messageIn s)))) where
-  pub ready : {verdicts : List ℕ} → VerdictsIn (decode area .register) s verdicts (b .count) → {n : ℕ} → ReturnedCount verdicts (b .count) n → {parts : ℕ} → WritesOf b p n parts → Ready s area b p parts amounts places verdicts
+  pub ready : {verdicts : List ℕ} → VerdictsIn (decode area .register) s verdicts (b .count) → {n : ℕ} → ReturnedCount verdicts (b .count) n → {due : Due} → DueFor b p n due → Ready s area b p due amounts places verdicts
   ready {verdicts} v c w =
       let j : JudgedIn (decode area .register) s amounts places verdicts (b .count) = record { lines-kept = k .lines-kept; amounts-kept = k .amounts-kept; verdicts-kept = v } in record {
         engine = h;
@@ -146,7 +147,7 @@ module _ (s area : List ℕ) (h : isSome (holds area) ≡ true) (b : Booking) {a
         none-holds = z;
         judged = j;
         leaves = q;
-        parts-are = writes-told area s b (k .books) p (q .same) amounts places verdicts j c w;
+        dues = due-told area s b (k .books) p (q .same) amounts places verdicts j c w;
       }
 
 module _ (s area : List ℕ) (h : isSome (holds area) ≡ true) where
@@ -173,7 +174,7 @@ module _ (s area : List ℕ) (h : isSome (holds area) ≡ true) where
           → a' ≡ encode (bookedWith (decode area) (positionValue p) (ofBank (p .key .bank) (cut s (b .reference .start) (b .reference .end))) w) ++ drop areaSize area → AreaBooked s area a'
       booked-done f c = record { area = c ∙ rw (position-is, bank-is, k .reference, f, booked-after) refl }
 
-pub sent-done : {s area : List ℕ} {b : Booking} {p : P.Position} {parts : ℕ} {amounts places verdicts : List ℕ} → Ready s area b p parts amounts places verdicts → {out out' a' : List ℕ} {r : Numbered} {z : ℤ} → length (messageText (decode area) (messageIn s)) ≤ length out
+pub sent-done : {s area : List ℕ} {b : Booking} {p : P.Position} {due : Due} {amounts places verdicts : List ℕ} → Ready s area b p due amounts places verdicts → {out out' a' : List ℕ} {r : Numbered} {z : ℤ} → length (messageText (decode area) (messageIn s)) ≤ length out
     → TextPut (decode area) (messageIn s) 0 out r out' → z ≡ subℕ (p .transferred) (p .detailed) → AreaBooked s area a' → Sent s area out (r .at) z a' out'
 sent-done {s} {area} {b} {p} m l w e c = record {
   written = wrote-exact (w .wrote) l;
@@ -216,11 +217,11 @@ checked-refused s area h r {amounts} {places} c out k e =
     message-input s area out (decode area) (holds-decode area h) k (sym (refused-told _ s r amounts places c k e)) (ne-eqb k 0 (λ z. omega (arith, refused-some _ s r amounts places c k e)))
 
 -- room for 16 details
-pub room-made : DetailRoom (replicate 16 0) (replicate 96 0)
+pub room-made : DetailRoom (replicate 16 0) (replicate 128 0)
 room-made = record { amounts-size = refl; places-size = refl }
 
 -- 10
 pub message-no-engine : (s area out : List ℕ) (t : Bool) → t ≡ isSome (holds area) → t ≡ false → Answers (cardMessage s area out) 10 0 (pos 0) area out
 message-no-engine s area out t u d = message-engine s area out (sym u ∙ d)
 
-pub ruleset sending = (holds-told, measured, judged-told, leaves-told, ready, booking-of, booked-done, sent-done, sent-state, sent-room, sent-made, state-none, text-fits, room-made, check-told, checked-refused, passed-told, message-no-engine)
+pub ruleset sending = (holds-told, measured, judged-told, leaves-told, ready, booking-of, booked-done, sent-done, sent-state, sent-made, state-none, text-fits, room-made, check-told, checked-refused, passed-told, message-no-engine)

@@ -2,6 +2,7 @@
 use crate::difference::minus;
 use conditions::Booking;
 use conditions::Checked;
+use message_text::Due;
 use position::Position;
 ghost use mathlib.Core.Path.{_≡_};
 ghost use mathlib.Core.Bool.{true};
@@ -21,7 +22,12 @@ ghost use Rattle.card.specs.Measured.{Measured};
 ghost use Rattle.card.specs.Message.{Sent, AreaBooked, Leaves, Ready, temporaryOf};
 
 // 1 to 8, with the temporary account of the engine that the area holds.
-fn check_in(message: &[u8], area: &[u8], amounts: &mut [u64; 16], places: &mut [u16; 96]) -> Checked
+fn check_in(
+    message: &[u8],
+    area: &[u8],
+    amounts: &mut [u64; 16],
+    places: &mut [u16; 128],
+) -> Checked
     requires { ⌜ isSome (holds (now area)) ≡ true ⌝ }
     requires { ⌜ DetailRoom (now amounts) (now places) ⌝ }
     ensures { λ r. ⌜ CheckedAs (temporaryOf (decode (now (area .entry)))) (now (message .entry)) r (now (amounts .exit)) (now (places .exit)) ⌝ }
@@ -30,7 +36,7 @@ fn check_in(message: &[u8], area: &[u8], amounts: &mut [u64; 16], places: &mut [
 }
 
 // The verdicts of the message's n details, by the register of the engine that the area holds.
-fn judge_in(message: &[u8], area: &[u8], places: &[u16; 96], n: u32, verdicts: &mut [u8; 16])
+fn judge_in(message: &[u8], area: &[u8], places: &[u16; 128], n: u32, verdicts: &mut [u8; 16])
     requires { ⌜ isSome (holds (now area)) ≡ true ⌝ }
     requires { ⌜ LinesIn (now message) (now places) n ⌝ }
     requires { ⌜ length (now verdicts) ≡ 16 ⌝ }
@@ -43,14 +49,14 @@ fn judge_in(message: &[u8], area: &[u8], places: &[u16; 96], n: u32, verdicts: &
 fn message_size(
     message: &[u8],
     amounts: &[u64; 16],
-    places: &[u16; 96],
+    places: &[u16; 128],
     verdicts: &[u8; 16],
     area: &[u8],
     b: Booking,
     p: Position,
-    parts: u32,
+    due: Due,
 ) -> usize
-    requires { ⌜ Ready (now message) (now area) b p parts (now amounts) (now places) (now verdicts) ⌝ }
+    requires { ⌜ Ready (now message) (now area) b p due (now amounts) (now places) (now verdicts) ⌝ }
     ensures { λ r. ⌜ Measured (messageText (decode (now (area .entry))) (messageIn (now (message .entry)))) r ⌝ }
 {
     let mut nothing = [0u8; 0];
@@ -64,7 +70,7 @@ fn message_size(
         area,
         b,
         p,
-        parts,
+        due,
     );
     text.at
 }
@@ -92,17 +98,17 @@ fn book_in(message: &[u8], area: &mut [u8], b: Booking, count: u32)
 fn accept_message(
     message: &[u8],
     amounts: &[u64; 16],
-    places: &[u16; 96],
+    places: &[u16; 128],
     verdicts: &[u8; 16],
     b: Booking,
     p: Position,
-    parts: u32,
+    due: Due,
     area: &mut [u8],
     output: &mut [u8],
     written: &mut usize,
     difference: &mut i64,
 )
-    requires { ⌜ Ready (now message) (now area) b p parts (now amounts) (now places) (now verdicts) ⌝ }
+    requires { ⌜ Ready (now message) (now area) b p due (now amounts) (now places) (now verdicts) ⌝ }
     requires { ⌜ length (messageText (decode (now area)) (messageIn (now message))) ≤ length (now output) ⌝ }
     ensures { λ _. ⌜ Sent (now (message .entry)) (now (area .entry)) (now (output .entry)) (now (written .exit)) (now (difference .exit)) (now (area .exit)) (now (output .exit)) ⌝ }
 {
@@ -116,7 +122,7 @@ fn accept_message(
         area,
         b,
         p,
-        parts,
+        due,
     );
     *written = text.at;
     *difference = minus(p.transferred, p.detailed);
@@ -127,7 +133,7 @@ fn accept_message(
 fn send_message(
     message: &[u8],
     amounts: &[u64; 16],
-    places: &[u16; 96],
+    places: &[u16; 128],
     b: Booking,
     p: Position,
     area: &mut [u8],
@@ -146,8 +152,8 @@ fn send_message(
     let n = b.count as u32;
     let mut verdicts = [0u8; 16];
     judge_in(message, area, places, n, &mut verdicts);
-    let parts = message_text::messages_written(b, p, detail_lines::count_returned(&verdicts, n));
-    let size = message_size(message, amounts, places, &verdicts, area, b, p, parts);
+    let due = message_text::due_for(b, p, detail_lines::count_returned(&verdicts, n));
+    let size = message_size(message, amounts, places, &verdicts, area, b, p, due);
     if output.len() < size {
         return 16;
     }
@@ -158,7 +164,7 @@ fn send_message(
         &verdicts,
         b,
         p,
-        parts,
+        due,
         area,
         output,
         written,
@@ -171,7 +177,7 @@ fn send_message(
 fn book_message(
     message: &[u8],
     amounts: &[u64; 16],
-    places: &[u16; 96],
+    places: &[u16; 128],
     b: Booking,
     area: &mut [u8],
     output: &mut [u8],
@@ -215,7 +221,7 @@ fn message_engine(
     ensures { λ r. ⌜ Answers (cardMessage (now (message .entry)) (now (area .entry)) (now (output .entry))) r (now (written .exit)) (now (difference .exit)) (now (area .exit)) (now (output .exit)) ⌝ }
 {
     let mut amounts = [0u64; 16];
-    let mut places = [0u16; 96];
+    let mut places = [0u16; 128];
     match check_in(message, area, &mut amounts, &mut places) {
         Checked::Refused(k) => {
             *written = 0;

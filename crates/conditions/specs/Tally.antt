@@ -149,7 +149,7 @@ pub told-none : (s : List ℕ) {t : Tally} {amounts places fields : List ℕ} �
 unfolding sumOfAmounts firstDate
 told-none s a b c d e f = record { count = a; sum = b; bound = omega (arith, b); date = c; low = rw (any-none) d; kept = kept-none s e; named = named-none s f }
 
-module _ (s : List ℕ) (ds : List M.Detail) (t : Tally) {amounts places fields : List ℕ} (o : TallyTold s ds t amounts places fields) {at : ℕ} (d : Detail) (w : DetailAt s at d) {amounts' places' fields' : List ℕ}
+module _ (s : List ℕ) (ds : List M.Detail) (t : Tally) {amounts places fields : List ℕ} (o : TallyTold s ds t amounts places fields) {at : ℕ} (d : Detail) (w : DetailAt s at d) (v : d .ok ≡ true) {amounts' places' fields' : List ℕ}
     (c : KeepsFirst (t .count) d amounts places fields amounts' places' fields') (r : Tally) (a : After s t d r) where
   dated : r .date ≡ firstDate (ds ++ (detailIn s d ∷ []))
   dated = a .date ∙ rw (o .count, o .date) (date-more ds (detailIn s d))
@@ -162,7 +162,7 @@ module _ (s : List ℕ) (ds : List M.Detail) (t : Tally) {amounts places fields 
     date = dated;
     low = a .low ∙ rw (detail-lowest s (r .date) d, o .low, dated) (low-more (sender s) ds (detailIn s d));
     kept = few-or-many (length ds)
-        (λ h. kept-more s ds (o .kept) h d w (rw (o .count) at (c .keeps (rw (o .count) h))))
+        (λ h. kept-more s ds (o .kept) h d w v (rw (o .count) at (c .keeps (rw (o .count) h))))
         (λ h. rw (c .amounts-stay (rw (o .count) h), c .places-stay (rw (o .count) h)) (kept-full s ds (o .kept) h (detailIn s d)));
     named = few-or-many (length ds)
         (λ h. named-more s ds (o .named) h d w (c .behind) (rw (o .count) at (c .names (rw (o .count) h))))
@@ -228,7 +228,7 @@ module _ (s : List ℕ) (at pos : ℕ) (t : Tally) {amounts places fields : List
       all-there = λ g. record {
         all = m .done ++ (detailIn s d ∷ []);
         read = sym (rw (next, answer-is _ _ _ (w .same) k, ← u, f) at (m .left));
-        told = told-more s (m .done) t (m .told) d w c r a;
+        told = told-more s (m .done) t (m .told) d w k c r a;
       };
     }
 
@@ -236,7 +236,7 @@ module _ (s : List ℕ) (at pos : ℕ) (t : Tally) {amounts places fields : List
     unfolding details
     walk-on f = record {
       done = m .done ++ (detailIn s d ∷ []);
-      told = told-more s (m .done) t (m .told) d w c r a;
+      told = told-more s (m .done) t (m .told) d w k c r a;
       left =
           let g : 4096 - r .count ≡ 4096 - (t .count + 1) = omega (arith, a .count) in
           rw g (sym (map-one (m .done) (detailIn s d) (details (4096 - (t .count + 1)) (from s (d .next)))) ∙ (rw (next, answer-is _ _ _ (w .same) k, ← u, f) at (m .left)));

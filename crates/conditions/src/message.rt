@@ -47,7 +47,7 @@ fn check_transfer(s: &[u8], temporary: &[u8]) -> Checked
 }
 
 // 3 to 8 of an MT101.
-fn check_order(s: &[u8], amounts: &mut [u64; 16], places: &mut [u16; 96]) -> Checked
+fn check_order(s: &[u8], amounts: &mut [u64; 16], places: &mut [u16; 128]) -> Checked
     requires { ⌜ 23 ≤ length (now s) ⌝ }
     requires { ⌜ length (now s) ≤ 4096 ⌝ }
     requires { ⌜ DetailRoom (now amounts) (now places) ⌝ }
@@ -99,7 +99,7 @@ pub fn check_message(
     s: &[u8],
     temporary: &[u8],
     amounts: &mut [u64; 16],
-    places: &mut [u16; 96],
+    places: &mut [u16; 128],
 ) -> Checked
     requires { ⌜ DetailRoom (now amounts) (now places) ⌝ }
     ensures { λ r. ⌜ CheckedAs (now (temporary .entry)) (now (s .entry)) r (now (amounts .exit)) (now (places .exit)) ⌝ }

@@ -86,7 +86,7 @@ fn after(s: &[u8], t: Tally, d: Detail) -> Tally
 // The detail kept, and the place of its field 21, where it is one of the first 16; n are before it.
 fn keep_first(
     amounts: &mut [u64; 16],
-    places: &mut [u16; 96],
+    places: &mut [u16; 128],
     fields: &mut [u16; 32],
     n: u32,
     d: Detail,
@@ -107,7 +107,7 @@ pub fn tally_details(
     s: &[u8],
     at: usize,
     amounts: &mut [u64; 16],
-    places: &mut [u16; 96],
+    places: &mut [u16; 128],
     fields: &mut [u16; 32],
 ) -> Tally
     requires { ⌜ at ≤ length (now s) ⌝ }

@@ -1,3 +1,4 @@
 pub mod Postings
 pub mod Rows
 pub mod Returned
+pub mod Returns

@@ -16,7 +16,7 @@ use Rattle.laws.specs.Writing.{Wrote, Left, left-turn, left-none, left-length}
 use Rattle.details.specs.Message.{detailsIn, detailAt}
 use Rattle.details.specs.Kept.{LinesIn, kept-next, kept-end}
 use Rattle.verdict.specs.Answers.{verdictOf, verdictBy, judgedIn}
-use Rattle.verdict.specs.Details.{VerdictsIn, judged-verdict, judged-branch, judged-account, judged-baeref}
+use Rattle.verdict.specs.Details.{VerdictsIn, judged-verdict, judged-read, judged-branch, judged-account, judged-baeref}
 use Rattle.verdict.specs.declared.Verdict.{Verdict}
 use Rattle.verdict.specs.declared.Verdict.the-variants.{Credited, Returned}
 use Rattle.verdict.specs.declared.detail.Judged as J
@@ -45,7 +45,7 @@ unfoldable pub countAt : List ℕ → ℕ → ℕ → ℕ
 countAt verdicts i zero = 0
 countAt verdicts i (suc k) = let more = countAt verdicts (i + 1) k in cond (isReturned (verdictOf (verdictBy (getD verdicts i 0)))) (more + 1) more
 
-count-is : (s verdicts : List ℕ) (k i : ℕ) → length (returnedAt s verdicts i k) ≡ countAt verdicts i k
+pub count-is : (s verdicts : List ℕ) (k i : ℕ) → length (returnedAt s verdicts i k) ≡ countAt verdicts i k
 unfolding returnedAt countAt
 count-is s verdicts zero i = refl
 count-is s verdicts (suc k) i = go (isReturned (verdictOf (verdictBy (getD verdicts i 0)))) (count-is s verdicts k (i + 1))
@@ -54,6 +54,14 @@ count-is s verdicts (suc k) i = go (isReturned (verdictOf (verdictBy (getD verdi
         → length (cond b (detailAt (detailsIn s) i ∷ returnedAt s verdicts (i + 1) k) (returnedAt s verdicts (i + 1) k)) ≡ cond b (countAt verdicts (i + 1) k + 1) (countAt verdicts (i + 1) k)
     go true e = rw e (omega arith)
     go false e = e
+
+-- where none is left
+pub count-none-left : (s verdicts : List ℕ) (i k : ℕ) → countAt verdicts i k ≡ 0 → returnedAt s verdicts i k ≡ []
+count-none-left s verdicts i k z = go (returnedAt s verdicts i k) (count-is s verdicts k i ∙ z)
+  where
+    go : (ds : List Detail) → length ds ≡ 0 → ds ≡ []
+    go [] e = refl
+    go (d ∷ ds) e = absurd (omega arith)
 
 -- they are the paper's
 module _ (text s places verdicts : List ℕ) (n : ℕ) (k : LinesIn s places n) (v : VerdictsIn text s verdicts n) where
@@ -128,6 +136,36 @@ module _ (verdicts : List ℕ) (n i r : ℕ) (l : Counting verdicts n i r) where
     pub counting-pass : b ≡ false → Counting verdicts n (i + 1) r
     counting-pass d = record { same = omega (arith, l .same, count-none [] verdicts n i h w e b u d); room = omega (arith, l .room) }
 
+-- ---- the next of them
+
+-- r is the first of them from detail `first` on
+pub record NextReturned (verdicts : List ℕ) (first n r : ℕ) : Type 0 where
+  pub some : r < n
+  pub same : (s : List ℕ) → returnedAt s verdicts first (n - first) ≡ detailAt (detailsIn s) r ∷ returnedAt s verdicts (r + 1) (n - (r + 1))
+  pub count : countAt verdicts first (n - first) ≡ countAt verdicts (r + 1) (n - (r + 1)) + 1
+
+-- from detail i on they are those from `first` on, of which there are some
+pub record Nexting (verdicts : List ℕ) (first n i : ℕ) : Type 0 where
+  pub some : 0 < countAt verdicts i (n - i)
+  pub same : (s : List ℕ) → returnedAt s verdicts first (n - first) ≡ returnedAt s verdicts i (n - i)
+  pub count : countAt verdicts first (n - first) ≡ countAt verdicts i (n - i)
+
+pub nexting-start : (verdicts : List ℕ) (first n : ℕ) → 0 < countAt verdicts first (n - first) → Nexting verdicts first n first
+nexting-start verdicts first n h = record { some = h; same = λ s. refl; count = refl }
+
+module _ (verdicts : List ℕ) (first n i : ℕ) (l : Nexting verdicts first n i) where
+  pub nexting-end : n ≤ i → {r : ℕ} → NextReturned verdicts first n r
+  nexting-end h = let z : countAt verdicts i (n - i) ≡ 0 = count-end [] verdicts n i h in absurd (omega (arith, l .some))
+
+  module _ (h : i < n) (w : Verdict) (e : w ≡ verdictBy (getD verdicts i 0)) (b : Bool) (u : b ≡ isReturned (verdictOf w)) where
+    pub nexting-found : b ≡ true → NextReturned verdicts first n i
+    nexting-found d = record { some = h; same = λ s. l .same s ∙ returned-one s verdicts n i h w e b u d; count = l .count ∙ count-one [] verdicts n i h w e b u d }
+
+    pub nexting-pass : b ≡ false → Nexting verdicts first n (i + 1)
+    nexting-pass d =
+        let c : countAt verdicts i (n - i) ≡ countAt verdicts (i + 1) (n - (i + 1)) = count-none [] verdicts n i h w e b u d in
+        record { some = omega (arith, l .some); same = λ s. l .same s ∙ returned-none s verdicts n i h w e b u d; count = l .count ∙ c }
+
 -- ---- past the first of them
 
 -- behind the first `most` of them the details from `at` on are left
@@ -201,7 +239,7 @@ module _ (s verdicts : List ℕ) (n i m : ℕ) {o at : ℕ} {out whole start : L
     pub rows-more : b ≡ true → (m ≡ 0 → ⊥) → {o' : ℕ} {out' : List ℕ}
         → Wrote (rowsOf s (j .branch) (j .account) (j .baeref)) o out o' out'
         → Left (allReturned (take (m - 1) (returnedAt s verdicts (i + 1) (n - (i + 1))))) o' out' whole at start
-    rows-more d z v = left-turn (rw (rows-step d z) at l) (rw (rows-kept s (detailAt (detailsIn s) i) (j .branch) (j .account) (j .baeref) (judged-branch amounts places verdicts i j e s n k h) (judged-account amounts places verdicts i j e s n k h) (judged-baeref amounts places verdicts i j e s n k h)) at v)
+    rows-more d z v = left-turn (rw (rows-step d z) at l) (rw (rows-kept s (detailAt (detailsIn s) i) (j .branch) (j .account) (j .baeref) (judged-read amounts places verdicts i j e s n k h) (judged-branch amounts places verdicts i j e s n k h) (judged-account amounts places verdicts i j e s n k h) (judged-baeref amounts places verdicts i j e s n k h)) at v)
 
     pub rows-pass : b ≡ false → Left (allReturned (take m (returnedAt s verdicts (i + 1) (n - (i + 1))))) o out whole at start
     rows-pass d = rw (returned-none s verdicts n i h (j .verdict) verdict-is b u d) at l
@@ -223,4 +261,4 @@ pub record RowsPut (s verdicts : List ℕ) (first n most at : ℕ) (out : List �
   pub wrote : Wrote (allReturned (take most (returnedAt s verdicts first (n - first)))) at out (r .out) out'
   pub skipped : DetailsSkipped s verdicts first n most (r .at)
 
-pub ruleset returning = (left-length, credit-stays, return-goes, counting-start, counting-end, counting-more, counting-pass, branch-in, account-in, baeref-in, skip-start, skip-done, skip-end, skip-more, skip-on, rows-full, rows-end, rows-more, rows-pass)
+pub ruleset returning = (left-length, credit-stays, return-goes, counting-start, counting-end, counting-more, counting-pass, nexting-start, nexting-end, nexting-found, nexting-pass, branch-in, account-in, baeref-in, skip-start, skip-done, skip-end, skip-more, skip-on, rows-full, rows-end, rows-more, rows-pass)

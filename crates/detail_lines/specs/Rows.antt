@@ -11,10 +11,12 @@ use Rattle.rules.specs.Messages.{Detail, past}
 use Rattle.rules.specs.Written.{returnedRows}
 use Rattle.laws.specs.Parts.{cut, cut-take, cut-length}
 use Rattle.laws.specs.Writing.{Wrote}
+use Rattle.rule_laws.specs.Messages.{DetailRead}
+use Rattle.rule_laws.specs.Returns.{branch-begins}
 use Rattle.forms.specs.Spans.{spanOf, SpanIn}
 use Rattle.forms.specs.Fields.{Behind, behind-in, behind-bytes}
 use Rattle.forms.specs.declared.rows.Span.{Span}
-use Rattle.details.specs.Kept.{LineOf}
+use Rattle.details.specs.Kept.{LineOf, RowsOf}
 
 -- ---- what stands behind the first k bytes of a line, or n bytes of it
 
@@ -41,10 +43,10 @@ module _ (s : List ℕ) (p q : Span) (k : ℕ) (w : SpanIn s p) (b : Behind p k 
 abbrev pub rowFront : List ℕ → Span → Span → List ℕ
 rowFront s branch baeref = take 8 (past ":52D:" (spanOf s branch)) ++ ascii "/" ++ take 6 (past "BAEREF" (spanOf s baeref)) ++ ascii "/"
 
--- off the lines of 52D, 59 and BAEREF
+-- off 52D's lines and those of 59 and BAEREF
 abbrev pub rowsOf : List ℕ → Span → Span → Span → List ℕ
 rowsOf s branch account baeref = (rowFront s branch baeref ++ past "BAEREFnnnnnn" (spanOf s baeref) ++ ascii "\r\n") ++ (past ":59:/" (spanOf s account) ++ ascii "\r\n")
 
-pub rows-kept : (s : List ℕ) (d : Detail) (branch account baeref : Span) → LineOf s d detail52D branch → LineOf s d detail59 account → LineOf s d detailBaeref baeref → rowsOf s branch account baeref ≡ returnedRows d
+pub rows-kept : (s : List ℕ) (d : Detail) (branch account baeref : Span) → DetailRead d → RowsOf s d detail52D 2 branch → LineOf s d detail59 account → LineOf s d detailBaeref baeref → rowsOf s branch account baeref ≡ returnedRows d
 unfolding returnedRows
-rows-kept s d branch account baeref h k l = rw (h .bytes, k .bytes, l .bytes)
+rows-kept s d branch account baeref r h k l = rw (h .bytes, branch-begins r, k .bytes, l .bytes)

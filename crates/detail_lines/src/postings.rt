@@ -50,7 +50,7 @@ pub fn put_detail_postings(
     text: &[u8],
     s: &[u8],
     amounts: &[u64; 16],
-    places: &[u16; 96],
+    places: &[u16; 128],
     verdicts: &[u8; 16],
     n: u32,
 ) -> usize

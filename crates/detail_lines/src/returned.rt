@@ -4,11 +4,11 @@ use verdict::Verdict;
 use verdict::judged_at;
 use verdict::verdict_by;
 ghost use mathlib.Core.Path.{_≡_};
-ghost use Prim.Native.Nat.{_≤_};
+ghost use Prim.Native.Nat.{_-_, _≤_, _<_};
 ghost use Rattle.rules.specs.Verdict.{isReturned};
 ghost use Rattle.details.specs.Kept.{LinesIn};
 ghost use Rattle.verdict.specs.Answers.{verdictOf};
-ghost use Rattle.detail_lines.specs.Returned.{ReturnedCount, RowsPut};
+ghost use Rattle.detail_lines.specs.Returned.{countAt, ReturnedCount, NextReturned, RowsPut};
 
 // Does the verdict return the detail?
 fn is_returned(v: Verdict) -> bool
@@ -38,6 +38,22 @@ pub fn count_returned(verdicts: &[u8; 16], n: u32) -> u32
     returned
 }
 
+// The first returned of n details, from detail `first` on.
+pub fn next_returned(verdicts: &[u8; 16], first: u32, n: u32) -> u32
+    requires { ⌜ n ≤ 16 ⌝ }
+    requires { ⌜ 0 < countAt (now verdicts) first (n - first) ⌝ }
+    ensures { λ r. ⌜ NextReturned (now (verdicts .entry)) first n r ⌝ }
+{
+    let mut i = first;
+    while i < n {
+        if is_returned(verdict_by(verdicts[i as usize])) {
+            return i;
+        }
+        i += 1;
+    }
+    i
+}
+
 // How far rows were written.
 pub struct Place {
     // The place in the output.
@@ -52,7 +68,7 @@ pub fn put_returned(
     at: usize,
     s: &[u8],
     amounts: &[u64; 16],
-    places: &[u16; 96],
+    places: &[u16; 128],
     verdicts: &[u8; 16],
     first: u32,
     n: u32,

@@ -62,7 +62,7 @@ fn put_account_row(out: &mut [u8], at: usize, s: &[u8], account: Span) -> usize
     put::put_end(out, a)
 }
 
-// Both rows, from the lines of 52D, 59 and BAEREF.
+// Both rows, from 52D's lines and those of 59 and BAEREF.
 pub fn put_returned_rows(
     out: &mut [u8],
     at: usize,

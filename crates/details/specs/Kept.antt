@@ -2,21 +2,26 @@
 use mathlib.Core.Path.{_≡_, refl, sym, _∙_}
 use mathlib.Core.Bool.{Bool, true, false}
 use mathlib.Core.List.{List, [], _∷_, _++_}
+use mathlib.Core.Option.{Option, some}
 use Prim.Native.Nat.{ℕ, _+_, _*_, _≤_, _<_}
 use native.Mathlib.Numerals.{add-one}
+use native.Mathlib.Nat.{add-zero}
 use native.Mathlib.Omega.{arith}
 use lib.Dec.{leb}
-use lib.ListN.{length, getD, drop, set, length-set, length-append, drop-of-length-le, List·getD-append}
-use lib.Seq.{drop-cons, getD-set-same, getD-set-other, getD-append-seam}
+use lib.ListN.{length, getD, take, drop, set, length-set, length-append, drop-of-length-le, List·getD-append}
+use lib.Seq.{length-take-le, getD-take, drop-cons, getD-set-same, getD-set-other, getD-append-seam}
 use borrow.Author.Tests.{leb-true, leb-false}
-use Rattle.rules.specs.Forms.{detail52D, detail59, detailBaeref}
+use Rattle.rules.specs.Forms.{detail50H, detail52D, detail59, detailBaeref}
 use Rattle.rules.specs.Messages as M
-use Rattle.rules.specs.Messages.{lineOf}
-use Rattle.forms.specs.Spans.{spanOf, noSpan, SpanIn, within-at, span-line}
-use Rattle.forms.specs.Details.{DetailAt, detailIn}
+use Rattle.rules.specs.Messages.{lineOf, rowsText, TakenDetail}
+use Rattle.laws.specs.Parts.{from}
+use Rattle.rule_laws.specs.Messages.{DetailRead, detail-read}
+use Rattle.forms.specs.Spans.{spanOf, noSpan, SpanIn, within-at, linesAt, span-line}
+use Rattle.forms.specs.Stretches.{StretchOf, stretch-of}
+use Rattle.forms.specs.Details.{DetailAt, detailIn, detailedOf}
 use Rattle.forms.specs.declared.rows.Span.{Span}
 use Rattle.forms.specs.declared.detail.Detail.{Detail}
-use Rattle.details.specs.Lines.{lineAt, withLine, line-length, line-set, line-other}
+use Rattle.details.specs.Lines.{lineAt, withLine, withLines, lines-length, lines-before, lines-set}
 use Rattle.details.specs.Message.{detailsIn, noDetail, detailAt}
 
 -- the part is line k of the detail
@@ -24,16 +29,23 @@ pub record LineOf (s : List ℕ) (d : M.Detail) (k : ℕ) (p : Span) : Type 0 wh
   pub inside : SpanIn s p
   pub bytes : spanOf s p ≡ lineOf (d .rows) k
 
--- the lines of detail d that are kept at place i: 52D, 59 and BAEREF
+-- the part is n rows of the detail as they stand, from row k on
+pub record RowsOf (s : List ℕ) (d : M.Detail) (k n : ℕ) (p : Span) : Type 0 where
+  pub inside : SpanIn s p
+  pub bytes : spanOf s p ≡ rowsText (take n (drop k (d .rows)))
+
+-- the lines of detail d, which is read, that are kept at place i: 50H's account line and its first three further lines, 52D's lines, those of 59 and BAEREF
 pub record LinesAs (s : List ℕ) (d : M.Detail) (places : List ℕ) (i : ℕ) : Type 0 where
-  pub branch : LineOf s d detail52D (lineAt places (3 * i))
-  pub account : LineOf s d detail59 (lineAt places (3 * i + 1))
-  pub baeref : LineOf s d detailBaeref (lineAt places (3 * i + 2))
+  pub read : DetailRead d
+  pub payer : RowsOf s d detail50H 4 (lineAt places (4 * i))
+  pub branch : RowsOf s d detail52D 2 (lineAt places (4 * i + 1))
+  pub account : LineOf s d detail59 (lineAt places (4 * i + 2))
+  pub baeref : LineOf s d detailBaeref (lineAt places (4 * i + 3))
 
 -- there is room for 16
 pub record DetailRoom (amounts places : List ℕ) : Type 0 where
   pub amounts-size : length amounts ≡ 16
-  pub places-size : length places ≡ 96
+  pub places-size : length places ≡ 128
 
 -- the first 16 of some details are kept
 pub record Kept (s : List ℕ) (ds : List M.Detail) (amounts places : List ℕ) : Type 0 where
@@ -43,15 +55,32 @@ pub record Kept (s : List ℕ) (ds : List M.Detail) (amounts places : List ℕ) 
 
 -- ---- one more
 
+-- the stretch from part k up to part j
+abbrev pub stretchOf : List Span → ℕ → ℕ → Span
+stretchOf l k j = record { start = getD l k noSpan .start; end = getD l j noSpan .start }
+
+-- what is kept of a detail
+abbrev pub keptOf : Detail → List Span
+keptOf d =
+    stretchOf (d .spans) detail50H (detail50H + 4)
+    ∷ stretchOf (d .spans) detail52D (detail52D + 2)
+    ∷ getD (d .spans) detail59 noSpan
+    ∷ getD (d .spans) detailBaeref noSpan
+    ∷ []
+
 -- detail i is d now
 pub record Keeps (i : ℕ) (d : Detail) (amounts places amounts' places' : List ℕ) : Type 0 where
   pub amounts-are : amounts' ≡ set amounts i (d .amount)
-  pub places-are : places'
-      ≡ withLine (withLine (withLine places (3 * i) (getD (d .spans) detail52D noSpan)) (3 * i + 1) (getD (d .spans) detail59 noSpan)) (3 * i + 2) (getD (d .spans) detailBaeref noSpan)
+  pub places-are : places' ≡ withLines places (4 * i) (keptOf d)
 
-pub keeps-done : (i : ℕ) (d : Detail) {amounts places p₁ p₂ p₃ : List ℕ} → p₁ ≡ withLine places (3 * i) (getD (d .spans) detail52D noSpan) → p₂ ≡ withLine p₁ (3 * i + 1) (getD (d .spans) detail59 noSpan)
-    → p₃ ≡ withLine p₂ (3 * i + 2) (getD (d .spans) detailBaeref noSpan) → Keeps i d amounts places (set amounts i (d .amount)) p₃
-keeps-done i d e f g = record { amounts-are = refl; places-are = rw (f, e) at g }
+pub keeps-done : (i : ℕ) (d : Detail) {x y : Span} {amounts places p₁ p₂ p₃ p₄ : List ℕ} → x ≡ stretchOf (d .spans) detail50H (detail50H + 4) → y ≡ stretchOf (d .spans) detail52D (detail52D + 2)
+    → p₁ ≡ withLine places (4 * i) x → p₂ ≡ withLine p₁ (4 * i + 1) y → p₃ ≡ withLine p₂ (4 * i + 2) (getD (d .spans) detail59 noSpan)
+    → p₄ ≡ withLine p₃ (4 * i + 3) (getD (d .spans) detailBaeref noSpan) → Keeps i d amounts places (set amounts i (d .amount)) p₄
+unfolding withLines
+keeps-done i d a b e f g h =
+    let u : 4 * i + 2 ≡ 4 * i + 1 + 1 = omega arith in
+    let v : 4 * i + 3 ≡ 4 * i + 1 + 1 + 1 = omega arith in
+    record { amounts-are = refl; places-are = rw (g, f, e, a, b, u, v) at h }
 
 -- a list with one more at its end: those before stay, the last is it
 module _ (ds : List M.Detail) (d : M.Detail) where
@@ -85,52 +114,45 @@ module _ (s : List ℕ) (ds : List M.Detail) {amounts places : List ℕ} (k : Ke
     lines-are = λ i l m. rw (more-before ds d i (omega arith)) (k .lines-are i (omega arith) m);
   }
 
-  module _ {at : ℕ} (h : length ds < 16) (d : Detail) (w : DetailAt s at d) {amounts' places' : List ℕ} (c : Keeps (length ds) d amounts places amounts' places') where
+  module _ {at : ℕ} (h : length ds < 16) (d : Detail) (w : DetailAt s at d) (g : d .ok ≡ true) {amounts' places' : List ℕ} (c : Keeps (length ds) d amounts places amounts' places') where
     line-of : (j : ℕ) → j < 17 → LineOf s (detailIn s d) j (getD (d .spans) j noSpan)
     line-of j l = record { inside = within-at s (d .spans) j (w .within); bytes = sym (span-line s (d .spans) 17 j l) }
 
-    abbrev first : List ℕ
-    first = withLine places (3 * length ds) (getD (d .spans) detail52D noSpan)
+    rows-of : (j n : ℕ) → j + n < 17 → RowsOf s (detailIn s d) j n (stretchOf (d .spans) j (j + n))
+    unfolding linesAt
+    rows-of j n l =
+        let t : StretchOf s (take 17 (d .spans)) j n = stretch-of (w .stand .stands g) j n (rw (length-take-le 17 (d .spans) (omega (arith, w .stand .size))) l) in
+        record {
+          inside = record { order = rw (getD-take 17 (d .spans) j noSpan (omega arith), getD-take 17 (d .spans) (j + n) noSpan l) at (t .order); room = omega (arith, within-at s (d .spans) (j + n) (w .within) .order, within-at s (d .spans) (j + n) (w .within) .room) };
+          bytes = rw (getD-take 17 (d .spans) j noSpan (omega arith), getD-take 17 (d .spans) (j + n) noSpan l) at (t .text);
+        }
 
-    abbrev second : List ℕ
-    second = withLine first (3 * length ds + 1) (getD (d .spans) detail59 noSpan)
+    -- its own part j
+    own : (j : ℕ) → j < 4 → lineAt places' (4 * length ds + j) ≡ getD (keptOf d) j noSpan
+    own j l = rw (c .places-are) (lines-set places (4 * length ds) (keptOf d) j l (omega (arith, k .room .places-size)))
 
-    first-size : length first ≡ 96
-    first-size = line-length places (3 * length ds) (getD (d .spans) detail52D noSpan) ∙ k .room .places-size
-
-    second-size : length second ≡ 96
-    second-size = line-length first (3 * length ds + 1) (getD (d .spans) detail59 noSpan) ∙ first-size
-
-    own-branch : lineAt places' (3 * length ds) ≡ getD (d .spans) detail52D noSpan
-    own-branch =
-        rw (c .places-are, line-other second (3 * length ds + 2) (getD (d .spans) detailBaeref noSpan) (3 * length ds) (λ e. omega arith), line-other first (3 * length ds + 1) (getD (d .spans) detail59 noSpan) (3 * length ds) (λ e. omega arith))
-        (line-set places (3 * length ds) (getD (d .spans) detail52D noSpan) (omega (arith, k .room .places-size)))
-
-    own-account : lineAt places' (3 * length ds + 1) ≡ getD (d .spans) detail59 noSpan
-    own-account =
-        rw (c .places-are, line-other second (3 * length ds + 2) (getD (d .spans) detailBaeref noSpan) (3 * length ds + 1) (λ e. omega arith))
-        (line-set first (3 * length ds + 1) (getD (d .spans) detail59 noSpan) (omega (arith, first-size)))
-
-    own-baeref : lineAt places' (3 * length ds + 2) ≡ getD (d .spans) detailBaeref noSpan
-    own-baeref = rw (c .places-are) (line-set second (3 * length ds + 2) (getD (d .spans) detailBaeref noSpan) (omega (arith, second-size)))
-
-    other-line : (j : ℕ) → j < 3 * length ds → lineAt places' j ≡ lineAt places j
-    other-line j l =
-        rw (
-          c .places-are,
-          line-other second (3 * length ds + 2) (getD (d .spans) detailBaeref noSpan) j (λ e. omega arith),
-          line-other first (3 * length ds + 1) (getD (d .spans) detail59 noSpan) j (λ e. omega arith),
-          line-other places (3 * length ds) (getD (d .spans) detail52D noSpan) j (λ e. omega arith),
-        )
+    other-line : (j : ℕ) → j < 4 * length ds → lineAt places' j ≡ lineAt places j
+    other-line j l = rw (c .places-are) (lines-before places (4 * length ds) (keptOf d) j l)
 
     own-lines : LinesAs s (detailIn s d) places' (length ds)
-    own-lines = record { branch = rw own-branch (line-of detail52D (omega arith)); account = rw own-account (line-of detail59 (omega arith)); baeref = rw own-baeref (line-of detailBaeref (omega arith)) }
+    own-lines = record {
+      read = detail-read (from s at) _ (answered (w .same));
+      payer = rw (rw (add-zero (4 * length ds)) at (own 0 (omega arith))) (rows-of detail50H 4 (omega arith));
+      branch = rw (own 1 (omega arith)) (rows-of detail52D 2 (omega arith));
+      account = rw (own 2 (omega arith)) (line-of detail59 (omega arith));
+      baeref = rw (own 3 (omega arith)) (line-of detailBaeref (omega arith));
+    }
+      where
+        answered : {o : Option TakenDetail} → detailedOf s d ≡ o → o ≡ some record { detail = detailIn s d; others = from s (d .next) }
+        answered e = sym (rw g at e)
 
     other-lines : (i : ℕ) → i < length ds → LinesAs s (detailAt ds i) places i → LinesAs s (detailAt ds i) places' i
     other-lines i l a = record {
-      branch = rw (other-line (3 * i) (omega arith)) (a .branch);
-      account = rw (other-line (3 * i + 1) (omega arith)) (a .account);
-      baeref = rw (other-line (3 * i + 2) (omega arith)) (a .baeref);
+      read = a .read;
+      payer = rw (other-line (4 * i) (omega arith)) (a .payer);
+      branch = rw (other-line (4 * i + 1) (omega arith)) (a .branch);
+      account = rw (other-line (4 * i + 2) (omega arith)) (a .account);
+      baeref = rw (other-line (4 * i + 3) (omega arith)) (a .baeref);
     }
 
     own-amount : getD amounts' (length ds) 0 ≡ d .amount
@@ -143,7 +165,7 @@ module _ (s : List ℕ) (ds : List M.Detail) {amounts places : List ℕ} (k : Ke
     kept-more = record {
       room = record {
         amounts-size = rw (c .amounts-are) (length-set amounts (length ds) (d .amount) ∙ k .room .amounts-size);
-        places-size = rw (c .places-are) (line-length second (3 * length ds + 2) (getD (d .spans) detailBaeref noSpan) ∙ second-size);
+        places-size = rw (c .places-are) (lines-length places (4 * length ds) (keptOf d) ∙ k .room .places-size);
       };
       amounts-are = λ i l m. before-or-last i (length ds) (rw (more-length ds (detailIn s d)) at l)
           (λ b. rw (more-before ds (detailIn s d) i b) (other-amount i b ∙ k .amounts-are i b m))

@@ -15,7 +15,7 @@ use Rattle.rules.specs.Register.{Register, register, registerOf}
 use Rattle.rules.specs.Verdict.{isReturned}
 use Rattle.rules.specs.Engine.{Position, Engine, limit, slashed, isBank, goodPositions, goodReference, goodReferences, within}
 use Rattle.rules.specs.Written.{partsOf}
-use Rattle.rules.specs.Calls.{firstOf, openStops, opened, badReference, misdated, bankOf, ownReference, addition, positionAfter, noRoom, overLimit, verdictOf, returnedOf, hasVerdict, messagesWritten, afterMessage, messageStops, turnStops, afterTurn}
+use Rattle.rules.specs.Calls.{firstOf, openStops, opened, badReference, misdated, bankOf, ownReference, addition, positionAfter, noRoom, overLimit, verdictOf, returnedOf, hasVerdict, partsWritten, messagesWritten, afterMessage, messageStops, turnStops, afterTurn}
 use Rattle.laws.specs.Tests.{or-left, or-right}
 use Rattle.laws.specs.Order.{Sorted, ordered-sorted, sorted-ordered}
 use Rattle.rule_laws.specs.Clear.{OpenClear, open-clear, Clear, clear, TurnClear, turn-clear}
@@ -61,17 +61,20 @@ parts-few n h = go (eqb n 0)
     go true = omega arith
     go false = omega arith
 
--- a message writes at most two parts of an MT199
-pub writes-few : (e : Engine) (m : Message) → length (detailsOf m) ≤ 16 → messagesWritten e m ≤ 2
-unfolding messagesWritten
+-- a message writes at most two parts of an MT199 and sixteen returns
+pub writes-few : (e : Engine) (m : Message) → length (detailsOf m) ≤ 16 → messagesWritten e m ≤ 18
+unfolding messagesWritten partsWritten
 writes-few e m h = go (hasVerdict m (positionAfter e m))
   where
     n : ℕ
     n = length (returnedOf (registerOf (e .register)) (detailsOf m))
 
-    go : (t : Bool) → cond t (partsOf n) 0 ≤ 2
-    go true = parts-few n (omega (arith, returned-few (registerOf (e .register)) (detailsOf m)))
-    go false = omega arith
+    few : n ≤ 16
+    few = omega (arith, returned-few (registerOf (e .register)) (detailsOf m))
+
+    go : (t : Bool) → cond t (partsOf n) 0 + n ≤ 18
+    go true = omega (arith, few, parts-few n few)
+    go false = omega (arith, few)
 
 dated : (day : ℕ) (m : Message) → misdated day m ≡ false → dateOf m ≤ day
 unfolding misdated dateOf

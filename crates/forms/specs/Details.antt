@@ -12,8 +12,10 @@ use Rattle.rules.specs.Forms.{takeRows, detailRows, detail32B, detailCentrb, de
 use Rattle.rules.specs.Messages as M
 use Rattle.rules.specs.Messages.{TakenDetail, detailOf, takeDetail}
 use Rattle.laws.specs.Parts.{from}
+use Rattle.laws.specs.Tests.{never}
 use Rattle.forms.specs.Table.{table, part}
 use Rattle.forms.specs.Spans.{SpansWithin, within-at, linesAt, span-line}
+use Rattle.forms.specs.Stretches.{RowsStand}
 use Rattle.forms.specs.Rows.{RowsAt}
 use Rattle.forms.specs.Three.{sumIn, dateIn, sum-small, three, three-on, no-first, no-second, no-third, all-three}
 use Rattle.forms.specs.declared.rows.Rows.{Rows}
@@ -33,6 +35,7 @@ pub record DetailAt (s : List ℕ) (at : ℕ) (r : Detail) : Type 0 where
   pub next : r .next ≤ length s
   pub within : SpansWithin s (r .spans)
   pub small : r .amount < 10 ^ 16
+  pub stand : RowsStand s at 17 (r .ok) (r .spans) (r .next)
 
 detail-rows : part 23 17 ≡ detailRows
 unfolding part table
@@ -42,6 +45,13 @@ module _ (s : List ℕ) (at : ℕ) (r : Rows) (w : RowsAt s at 23 17 r) where
   pub detail-none : r .ok ≡ false → none ≡ takeDetail (from s at)
   unfolding takeDetail
   detail-none h = let e : none ≡ takeRows detailRows (from s at) = rw (h, detail-rows) at (w .same) in rw (← e)
+
+  -- its rows as they stand
+  pub detail-stand : r .ok ≡ true → RowsStand s at 17 true (r .spans) (r .next)
+  detail-stand h = record { size = w .stand .size; stands = λ _. w .stand .stands h }
+
+  pub no-detail-stand : {n : ℕ} → RowsStand s at 17 false (r .spans) n
+  no-detail-stand = record { size = w .stand .size; stands = λ h. never h }
 
   pub detail-three : r .ok ≡ true → takeDetail (from s at) ≡ three
       (λ a d b. record { detail = record { rows = linesAt s (r .spans) 17; date = d; amount = a }; others = from s (r .next) })
@@ -54,4 +64,4 @@ module _ (s : List ℕ) (at : ℕ) (r : Rows) (w : RowsAt s at 23 17 r) where
       rw (← e, span-line s (r .spans) 17 detail32B (omega arith), span-line s (r .spans) 17 detailCentrb (omega arith), span-line s (r .spans) 17 detailBaeref (omega arith))
       (three-on (λ d. record { detail = d; others = from s (r .next) }) (λ a d b. record { rows = linesAt s (r .spans) 17; date = d; amount = a }) (sumIn s (r .spans) detail32B 8) (dateIn s (r .spans) detailCentrb 10) (dateIn s (r .spans) detailBaeref 6))
 
-pub ruleset detailing = (no-first, no-second, no-third, all-three, within-at, detail-none, detail-three, sum-small)
+pub ruleset detailing = (no-first, no-second, no-third, all-three, within-at, detail-none, detail-stand, no-detail-stand, detail-three, sum-small)

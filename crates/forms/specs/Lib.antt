@@ -1,6 +1,7 @@
 pub mod Table
 pub mod Fits
 pub mod Spans
+pub mod Stretches
 pub mod Rows
 pub mod Fields
 pub mod Three

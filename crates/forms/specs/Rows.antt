@@ -6,7 +6,9 @@ use mathlib.Core.Option.{Option, none, some}
 use Prim.Native.Nat.{ℕ, _+_, _-_, _≤_, _<_}
 use native.Mathlib.Nat.{add-zero, sub-zero}
 use native.Mathlib.Omega.{arith}
-use lib.ListN.{length, set, length-set, replicate, length-replicate}
+use native.Mathlib.Numerals.{add-one}
+use lib.ListN.{length, take, set, length-set, replicate, length-replicate}
+use lib.Seq.{take-suc-set}
 use Rattle.rules.specs.Lines.{Line, TakenLine, takeLine}
 use Rattle.rules.specs.Forms as F
 use Rattle.rules.specs.Forms.{fitsRow, TakenRows, leadRows, takeRows}
@@ -14,8 +16,9 @@ use Rattle.laws.specs.Parts.{cut, from, cut-done}
 use Rattle.laws.specs.Tests.{never}
 use Rattle.lines.specs.Answers.{LineAt, LineEnd, NoLine, line-told, no-line-told}
 use Rattle.lines.specs.declared.line.Next.{Next}
-use Rattle.forms.specs.Table.{rowOf, codeAt, RowAt, row-told, part, part-none, part-step}
+use Rattle.forms.specs.Table.{rowOf, codeAt, RowAt, row-told, row-some, part, part-none, part-step}
 use Rattle.forms.specs.Spans.{spanOf, noSpan, SpanIs, SpanIn, SpansWithin, within-none, within-set, linesAt, span-none, span-more}
+use Rattle.forms.specs.Stretches.{RowStretch, line-stretch, out-stretch, Standing, Standing.end, stands-more, RowsStand}
 use Rattle.forms.specs.declared.rows.Matched.{Matched}
 use Rattle.forms.specs.declared.rows.Span.{Span}
 use Rattle.forms.specs.declared.rows.Rows.{Rows}
@@ -30,6 +33,7 @@ pub record RowsAt (s : List ℕ) (at first count : ℕ) (r : Rows) : Type 0 wher
   pub same : rowsOf s count r ≡ takeRows (part first count) (from s at)
   pub next : r .next ≤ length s
   pub within : SpansWithin s (r .spans)
+  pub stand : RowsStand s at count (r .ok) (r .spans) (r .next)
 
 -- ---- lines before others
 
@@ -86,13 +90,14 @@ pub record MatchedAt (s : List ℕ) (at k : ℕ) (r : Matched) : Type 0 where
   pub within : SpanIn s (r .span)
   pub goes : r .ok ≡ true → (rs : List F.Row) → takeRows (rowOf (codeAt k) ∷ rs) (from s at) ≡ leadRows (spanOf s (r .span) ∷ []) (takeRows rs (from s (r .at)))
   pub stops : r .ok ≡ false → (rs : List F.Row) → takeRows (rowOf (codeAt k) ∷ rs) (from s at) ≡ none
+  pub stands : r .ok ≡ true → RowStretch s at (r .span) (r .at)
 
 none-in : (s : List ℕ) → SpanIn s noSpan
 none-in s = record { order = omega arith; room = omega arith }
 
 module _ (s : List ℕ) (at k : ℕ) (n : Next) (w : ToMatch s at k n) (r : Row) (y : RowAt k r) where
   pub match-none : NoLine s at → MatchedAt s at k record { ok = false; at = at; span = noSpan }
-  match-none e = record { place = w .place; within = none-in s; goes = λ h rs. never h; stops = λ h rs. row-none _ _ _ (e .same) }
+  match-none e = record { place = w .place; within = none-in s; goes = λ h rs. never h; stops = λ h rs. row-none _ _ _ (e .same); stands = λ h. never h }
 
   module _ (e : ℕ) (l : LineEnd s at e) (t : Bool) (u : t ≡ fitsRow (rowOf r) (cut s at e)) where
     row-is : t ≡ fitsRow (rowOf (codeAt k)) (cut s at e)
@@ -104,15 +109,17 @@ module _ (s : List ℕ) (at k : ℕ) (n : Next) (w : ToMatch s at k n) (r : Row)
       within = record { order = omega (arith, h .start, h .end, l .start); room = omega (arith, h .end, l .room) };
       goes = λ _ rs. rw (h .start, h .end) (row-with _ _ _ _ (l .same) (sym row-is ∙ d));
       stops = λ g rs. never (sym g);
+      stands = λ _. line-stretch s at e p l (h .start) (h .end) (λ z. never (rw (z, row-some (w .row)) at (sym row-is ∙ d)));
     }
 
-    pub match-without : t ≡ false → MatchedAt s at k record { ok = r .optional; at = at; span = noSpan }
+    pub match-without : t ≡ false → (p : Span) → SpanIs at at p → MatchedAt s at k record { ok = r .optional; at = at; span = p }
     unfolding rowOf
-    match-without d = record {
+    match-without d p h = record {
       place = w .place;
-      within = none-in s;
-      goes = λ g rs. rw (cut-done s 0 0 (omega arith) (omega arith)) (row-without _ _ _ _ (l .same) (sym row-is ∙ d) (left-out g));
+      within = record { order = omega (arith, h .start, h .end); room = omega (arith, h .end, w .place) };
+      goes = λ g rs. rw (h .start, h .end, cut-done s at at (omega arith) (omega arith)) (row-without _ _ _ _ (l .same) (sym row-is ∙ d) (left-out g));
       stops = λ g rs. row-bad _ _ _ _ (l .same) (sym row-is ∙ d) (left-out g);
+      stands = λ _. out-stretch s at p (h .start) (h .end);
     }
       where
         left-out : {b : Bool} → r .optional ≡ b → rowOf (codeAt k) .optional ≡ b
@@ -129,14 +136,15 @@ pub record Rowing (s : List ℕ) (at first count : ℕ) (l : List Span) (pos i :
   pub size : length l ≡ 23
   pub same : leadRows (linesAt s l i) (takeRows (part (first + i) (count - i)) (from s pos)) ≡ takeRows (part first count) (from s at)
   pub within : SpansWithin s l
+  pub stands : Standing s at (take i l) pos
 
 module _ (s : List ℕ) (at f n : ℕ) where
   pub rows-start : at ≤ length s → Rowing s at f n (replicate 23 noSpan) at 0
-  rows-start h = record { few = omega arith; place = h; size = length-replicate 23 noSpan; same = rw (span-none, add-zero f, sub-zero n) (lead-nil _); within = within-none s 23 }
+  rows-start h = record { few = omega arith; place = h; size = length-replicate 23 noSpan; same = rw (span-none, add-zero f, sub-zero n) (lead-nil _); within = within-none s 23; stands = end }
 
   module _ (l : List Span) (pos i : ℕ) (inv : Rowing s at f n l pos i) where
     pub rows-done : n ≤ i → RowsAt s at f n record { ok = true; next = pos; spans = l }
-    rows-done k = record { same = go _ (inv .same); next = inv .place; within = inv .within }
+    rows-done k = record { same = go _ (inv .same); next = inv .place; within = inv .within; stand = record { size = inv .size; stands = λ _. let d : i ≡ n = omega (arith, k, inv .few) in rw (← d) (inv .stands) } }
       where
         go : (x : Option TakenRows) → leadRows (linesAt s l i) (takeRows (part (f + i) (n - i)) (from s pos)) ≡ x → some record { rows = linesAt s l n; others = from s pos } ≡ x
         go x g =
@@ -152,7 +160,7 @@ module _ (s : List ℕ) (at f n : ℕ) where
           rw (u, v, ← part-step (f + i) (n - i) _ (row-told (omega arith) refl) (omega arith) (omega arith)) (inv .same)
 
       pub rows-stop : r .ok ≡ false → at ≤ length s → RowsAt s at f n record { ok = false; next = at; spans = l }
-      rows-stop e k = record { same = sym (lead-none (linesAt s l i)) ∙ (rw (w .stops e _) at step); next = k; within = inv .within }
+      rows-stop e k = record { same = sym (lead-none (linesAt s l i)) ∙ (rw (w .stops e _) at step); next = k; within = inv .within; stand = record { size = inv .size; stands = λ g. never g } }
 
       pub rows-on : r .ok ≡ true → n ≤ 23 → Rowing s at f n (set l i (r .span)) (r .at) (i + 1)
       rows-on e q = record {
@@ -161,4 +169,5 @@ module _ (s : List ℕ) (at f n : ℕ) where
         size = length-set l i (r .span) ∙ inv .size;
         same = rw (span-more s l i (r .span) (omega (arith, inv .size))) (lead-more _ _ _ ∙ (rw (w .goes e _) at step));
         within = within-set s l i (r .span) (inv .within) (w .within);
+        stands = rw (add-one i, take-suc-set l i (r .span) (omega (arith, inv .size))) (stands-more (inv .stands) (w .stands e));
       }

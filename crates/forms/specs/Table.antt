@@ -1,6 +1,6 @@
 -- The table of rows as the code holds it, and that it is document 01's.
 use mathlib.Core.Path.{_≡_, refl}
-use mathlib.Core.Bool.{Bool, true, false}
+use mathlib.Core.Bool.{Bool, true, false, not}
 use mathlib.Core.List.{List, [], _∷_, _++_, map}
 use Prim.Native.Nat.{ℕ, zero, suc, _+_, _-_, _*_, _/_, _%_, _^_, _≤_, _<_}
 use native.Mathlib.Omega.{arith}
@@ -9,10 +9,10 @@ use native.Mathlib.Numerals.{add-one}
 use lib.Dec.{leb, eqb}
 use lib.ListN.{length, getD, take, drop}
 use lib.Seq.{drop-cons}
-use borrow.Author.Tests.{leb-true, eqb-true}
-use Rattle.rules.specs.Text.{ascii, numberFrom, bigEndian, fitsSign, fits}
+use borrow.Author.Tests.{leb-true, eqb-true, not-true}
+use Rattle.rules.specs.Text.{ascii, isText, every, run, numberFrom, bigEndian, fitsSign, fits}
 use Rattle.rules.specs.Forms as F
-use Rattle.rules.specs.Forms.{nothing, text, reference, account, name, sum, transferRows, detailRows}
+use Rattle.rules.specs.Forms.{nothing, text, reference, account, name, sum, textLine, fitsRest, fitsRow, transferRows, detailRows}
 use Rattle.laws.specs.Parts.{cut}
 use Rattle.laws.specs.Reading.{fits-pairs, pairs-more}
 use Rattle.laws.specs.Tables.{below, below-at}
@@ -127,6 +127,18 @@ all-roomy = refl
 -- the row of a place
 pub row-told : {k : ℕ} {r : Row} → k < 40 → r ≡ codeAt k → RowAt k r
 row-told {k} l e = record { same = e; room = rw e (leb-true _ _ (below-at roomy 40 all-roomy k l)) }
+
+-- ---- no row takes an empty line
+
+abbrev takesNone : ℕ → Bool
+takesNone k = not (fitsRow (rowOf (codeAt k)) [])
+
+all-take-none : below takesNone 40 ≡ true
+unfolding codes heads cut rowOf fitsRow fits fitsRest textLine run every isText
+all-take-none = refl
+
+pub row-some : {k : ℕ} → k < 40 → fitsRow (rowOf (codeAt k)) [] ≡ false
+row-some {k} l = not-true _ (below-at takesNone 40 all-take-none k l)
 
 pub heads-length : length heads ≡ 188
 unfolding heads

@@ -23,7 +23,7 @@ pub struct Rows {
     pub ok: bool,
     // Where the text goes on behind them.
     pub next: usize,
-    // The lines by rows, an empty part for a row that is left out.
+    // The lines by rows; a row that is left out has the empty part at its place.
     pub spans: [Span; 23],
 }
 
@@ -45,7 +45,7 @@ pub struct Matched {
     pub ok: bool,
     // Where the next row's line begins.
     pub at: usize,
-    // The line, or an empty part for a row that is left out.
+    // The line, or the empty part at its place for a row that is left out.
     pub span: Span,
 }
 
@@ -67,7 +67,7 @@ fn match_line(s: &[u8], at: usize, line: Next, k: usize) -> Matched
             Matched {
                 ok: row.optional,
                 at,
-                span: Span { start: 0, end: 0 },
+                span: part(at, at),
             }
         }
         Next::Bad => Matched {

@@ -1,3 +1,5 @@
 pub mod Parts
 pub mod Postings
+pub mod Returns
+pub mod Numbered
 pub mod Message

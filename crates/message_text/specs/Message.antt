@@ -1,16 +1,17 @@
 -- The text of a message that is booked, off its bytes and the area.
-use mathlib.Core.Path.{_≡_, refl, ap, _∙_}
+use mathlib.Core.Path.{_≡_, refl, sym, ap, _∙_}
 use mathlib.Core.Bool.{Bool, true, false, not, cond}
-use mathlib.Core.List.{List, [], _++_}
+use mathlib.Core.List.{List, [], _++_, append-assoc}
 use Prim.Native.Nat.{ℕ, _+_, _≤_}
+use native.Mathlib.Nat.{sub-zero}
 use native.Mathlib.Omega.{arith}
 use lib.Dec.{leb}
 use lib.ListN.{length}
-use Rattle.rules.specs.Messages.{Message, dateOf, detailsOf}
+use Rattle.rules.specs.Messages.{Message, Detail, dateOf, detailsOf}
 use Rattle.rules.specs.Register.{register, registerOf}
 use Rattle.rules.specs.Engine.{Engine, Position, hasDetails}
-use Rattle.rules.specs.Written.{mt199s, partsOf, verdicts}
-use Rattle.rules.specs.Calls.{bankOf, hasVerdict, positionAfter, returnedOf, postings, messageText, messagesWritten}
+use Rattle.rules.specs.Written.{Book, mt199s, partsOf, verdicts, returns}
+use Rattle.rules.specs.Calls.{bankOf, hasVerdict, positionAfter, returnedOf, postings, messageText, partsWritten, messagesWritten}
 use Rattle.rules.specs.Area.{decode}
 use Rattle.laws.specs.Writing.{Wrote, wrote-then}
 use Rattle.engine.specs.Totals.{TotalsOf}
@@ -24,10 +25,12 @@ use Rattle.conditions.specs.declared.booking.Booking.{Booking}
 use Rattle.verdict.specs.Details.{JudgedIn}
 use Rattle.position.specs.Values.{keyValue, positionValue}
 use Rattle.position.specs.declared.Position as P
-use Rattle.detail_lines.specs.Returned.{returned-all, ReturnedCount, count-paper}
+use Rattle.detail_lines.specs.Returned.{count-is, returned-all, ReturnedCount, count-paper}
 use Rattle.outgoing_number.specs.declared.Numbered.{Numbered}
-use Rattle.message_text.specs.Parts.{PartsOf, PartsPut}
+use Rattle.message_text.specs.Parts.{PartsOf}
+use Rattle.message_text.specs.Numbered.{MessagesDue, MessagesPut}
 use Rattle.message_text.specs.Postings.{bookFor, transfer-is, order-is}
+use Rattle.message_text.specs.declared.numbered.Due.{Due}
 
 -- ---- the position as the message leaves it
 
@@ -58,34 +61,47 @@ follows-is s b k p = go (b .transfer) refl
     go true e = rw (transfer-is s b k e .same)
     go false e = rw (order-is s b k e .same)
 
--- ---- how many messages are written
+-- ---- what is due
 
--- r of them, so many details being returned
-pub record WritesOf (b : Booking) (p : P.Position) (returned r : ℕ) : Type 0 where
+-- r parts, so many details being returned
+pub record PartsFor (b : Booking) (p : P.Position) (returned r : ℕ) : Type 0 where
   pub value : r ≡ cond (verdictFollows (b .transfer) (p .detailed)) (partsOf returned) 0
-  pub few : r ≤ 4096
+  pub few : r ≤ 2
 
 module _ (b : Booking) (p : P.Position) (returned : ℕ) (v : Bool) (f : v ≡ verdictFollows (b .transfer) (p .detailed)) where
-  pub writes-parts : v ≡ true → {r : ℕ} → PartsOf returned r → WritesOf b p returned r
-  writes-parts e u = record { value = u .value ∙ rw (← f, e); few = u .few }
+  pub parts-some : v ≡ true → {r : ℕ} → PartsOf returned r → PartsFor b p returned r
+  parts-some e u = record { value = u .value ∙ rw (← f, e); few = u .few }
 
-  pub writes-none : v ≡ false → WritesOf b p returned 0
-  writes-none e = record { value = rw (← f, e); few = omega arith }
+  pub parts-none : v ≡ false → PartsFor b p returned 0
+  parts-none e = record { value = rw (← f, e); few = omega arith }
 
--- r of them, as the paper has it
-pub record Writes (e : Engine) (m : Message) (r : ℕ) : Type 0 where
-  pub value : r ≡ messagesWritten e m
-  pub few : r ≤ 4096
+-- the parts, and a return for each of them
+pub record DueFor (b : Booking) (p : P.Position) (returned : ℕ) (u : Due) : Type 0 where
+  pub parts : PartsFor b p returned (u .parts)
+  pub messages : u .messages ≡ u .parts + returned
+  pub details : u .details ≡ b .count
+  pub few : u .messages ≤ 18
+
+pub due-made : (b : Booking) (p : P.Position) (returned : ℕ) → returned ≤ 16 → {r : ℕ} → PartsFor b p returned r → DueFor b p returned record { messages = r + returned; parts = r; details = b .count }
+due-made b p returned h u = record { parts = u; messages = refl; details = refl; few = omega (arith, u .few) }
+
+-- what is due, as the paper has it
+pub record DueIn (e : Engine) (m : Message) (u : Due) : Type 0 where
+  pub messages : u .messages ≡ messagesWritten e m
+  pub parts : u .parts ≡ partsWritten e m
+  pub details : u .details ≡ length (detailsOf m)
+  pub few : u .messages ≤ 18
 
 module _ (a s : List ℕ) (b : Booking) (k : Books s (messageIn s) b) (p : P.Position) (q : positionValue p ≡ positionAfter (decode a) (messageIn s)) where
   judged-is : hasVerdict (messageIn s) (positionAfter (decode a) (messageIn s)) ≡ verdictFollows (b .transfer) (p .detailed)
   judged-is = rw (← q) (follows-is s b k p)
 
-  pub writes-told : (amounts places verdicts : List ℕ) → JudgedIn (decode a .register) s amounts places verdicts (b .count) → {n : ℕ} → ReturnedCount verdicts (b .count) n → {r : ℕ} → WritesOf b p n r → Writes (decode a) (messageIn s) r
-  unfolding messagesWritten
-  writes-told amounts places verdicts j {n} c {r} w =
+  pub due-told : (amounts places verdicts : List ℕ) → JudgedIn (decode a .register) s amounts places verdicts (b .count) → {n : ℕ} → ReturnedCount verdicts (b .count) n → {u : Due} → DueFor b p n u → DueIn (decode a) (messageIn s) u
+  unfolding messagesWritten partsWritten
+  due-told amounts places verdicts j {n} c {u} w =
       let e : n ≡ length (returnedOf (registerOf (decode a .register)) (detailsIn s)) = count-paper (decode a .register) s places verdicts (b .count) n (j .lines-kept) (j .verdicts-kept) c in
-      record { value = w .value ∙ rw (judged-is, e) refl; few = w .few }
+      let f : u .parts ≡ partsWritten (decode a) (messageIn s) = w .parts .value ∙ rw (judged-is, e) refl in
+      record { messages = w .messages ∙ rw (f, e); parts = f; details = w .details ∙ j .lines-kept .count; few = w .few }
 
 -- ---- the position as the message leaves it is the paper's
 
@@ -100,39 +116,59 @@ pub record TextPut (e : Engine) (m : Message) (at : ℕ) (out : List ℕ) (r : N
   pub wrote : Wrote (messageText e m) at out (r .at) out'
   pub count : r .count ≡ e .count + messagesWritten e m
 
--- posting lines, and as many parts of an MT199 as messages are written
-text-is : (e : Engine) (m : Message)
-    → messageText e m
-    ≡ postings (registerOf (e .register)) (record { day = e .day; temporary = registerOf (e .register) .temporary; bank = bankOf m; date = dateOf m }) m
-    ++ mt199s (messagesWritten e m) (e .day) (e .count) (positionAfter e m) 1 (messagesWritten e m) (returnedOf (registerOf (e .register)) (detailsOf m))
-unfolding messageText messagesWritten verdicts mt199s
-text-is e m = go (hasVerdict m (positionAfter e m))
-  where
-    go : (t : Bool)
-        → postings (registerOf (e .register)) (record { day = e .day; temporary = registerOf (e .register) .temporary; bank = bankOf m; date = dateOf m }) m
-        ++ cond t (mt199s (partsOf (length (returnedOf (registerOf (e .register)) (detailsOf m)))) (e .day) (e .count) (positionAfter e m) 1 (partsOf (length (returnedOf (registerOf (e .register)) (detailsOf m)))) (returnedOf (registerOf (e .register)) (detailsOf m))) []
-        ≡ postings (registerOf (e .register)) (record { day = e .day; temporary = registerOf (e .register) .temporary; bank = bankOf m; date = dateOf m }) m
-        ++ mt199s (cond t (partsOf (length (returnedOf (registerOf (e .register)) (detailsOf m)))) 0) (e .day) (e .count) (positionAfter e m) 1 (cond t (partsOf (length (returnedOf (registerOf (e .register)) (detailsOf m)))) 0) (returnedOf (registerOf (e .register)) (detailsOf m))
-    go true = refl
-    go false = refl
+module _ (e : Engine) (m : Message) where
+  -- what its lines share, and its returned details
+  abbrev book : Book
+  book = record { day = e .day; temporary = registerOf (e .register) .temporary; bank = bankOf m; date = dateOf m }
+
+  abbrev returnedIn : List Detail
+  returnedIn = returnedOf (registerOf (e .register)) (detailsOf m)
+
+  -- as many parts as follow
+  verdict-is : (t : Bool) → cond t (verdicts (e .day) (e .count) (positionAfter e m) returnedIn) []
+      ≡ mt199s (cond t (partsOf (length returnedIn)) 0) (e .day) (e .count) (positionAfter e m) 1 (cond t (partsOf (length returnedIn)) 0) returnedIn
+  unfolding verdicts mt199s
+  verdict-is true = refl
+  verdict-is false = refl
+
+  -- posting lines, and behind them what is due
+  text-is : messageText e m
+      ≡ postings (registerOf (e .register)) book m ++ (mt199s (partsWritten e m) (e .day) (e .count) (positionAfter e m) 1 (partsWritten e m) returnedIn ++ returns book (e .count + partsWritten e m) returnedIn)
+  unfolding messageText partsWritten
+  text-is =
+      ap (λ (l : List ℕ). postings (registerOf (e .register)) book m ++ l ++ returns book (e .count + partsWritten e m) returnedIn) (verdict-is (hasVerdict m (positionAfter e m)))
+      ∙ append-assoc (postings (registerOf (e .register)) book m) (mt199s (partsWritten e m) (e .day) (e .count) (positionAfter e m) 1 (partsWritten e m) returnedIn) (returns book (e .count + partsWritten e m) returnedIn)
 
 module _ (a s text : List ℕ) (g : RegisterOf a text) {amounts places verdicts : List ℕ} {n : ℕ} (j : JudgedIn (decode a .register) s amounts places verdicts n) where
   pub judged-here : JudgedIn text s amounts places verdicts n
   judged-here = rw (g .same) j
 
-  module _ (h : Header) (d : HeaderOf a h) (b : Booking) (k : Books s (messageIn s) b) (p : P.Position) (q : positionValue p ≡ positionAfter (decode a) (messageIn s)) (parts : ℕ) (w : Writes (decode a) (messageIn s) parts) {at m : ℕ} {r : Numbered} {out out₁ out₂ : List ℕ} where
-    pub message-wrote : Wrote (postings (registerOf text) (bookFor (h .day) text (positionValue p)) (messageIn s)) at out m out₁
-        → PartsPut (h .day) (h .count) (positionValue p) parts s verdicts n m out₁ r out₂ → TextPut (decode a) (messageIn s) at out r out₂
-    unfolding positionAfter
-    message-wrote u v =
-        let bank : positionValue p .key .bank ≡ bankOf (messageIn s) = ap (λ (x : Position). x .key .bank) q in
-        let date : positionValue p .key .date ≡ dateOf (messageIn s) = ap (λ (x : Position). x .key .date) q in
-        record {
-          wrote =
-              rw (text-is (decode a) (messageIn s))
-              (wrote-then (rw (d .day, g .same, bank, date) at u)
-              (rw (w .value, d .day, d .count, q, returned-all (decode a .register) s places verdicts n (j .lines-kept) (j .verdicts-kept)) at (v .wrote)));
-          count = v .kept ∙ rw (d .count, w .value);
-        }
+  module _ (h : Header) (d : HeaderOf a h) (u : Due) (w : DueIn (decode a) (messageIn s) u) where
+    same-details : n ≡ u .details
+    same-details = j .lines-kept .count ∙ sym (w .details)
 
-pub ruleset messages = (transfer-follows, writes-parts, writes-none, judged-here, message-wrote)
+    pub all-due : MessagesDue (h .count) u text s amounts places verdicts
+    unfolding messagesWritten
+    all-due = record {
+      from = record { passes = g .passes; enough = g .enough; lines = rw same-details at (j .lines-kept); amounts-kept = rw same-details at (j .amounts-kept) };
+      low = omega (arith, d .count-small);
+      few = w .few;
+      all = w .messages ∙ rw (← w .parts, ← returned-all (decode a .register) s places verdicts n (j .lines-kept) (j .verdicts-kept), count-is s verdicts n 0, same-details);
+    }
+
+    module _ (p : P.Position) (q : positionValue p ≡ positionAfter (decode a) (messageIn s)) {at m : ℕ} {r : Numbered} {out out₁ out₂ : List ℕ} where
+      pub message-wrote : Wrote (postings (registerOf text) (bookFor (h .day) text (positionValue p)) (messageIn s)) at out m out₁
+          → MessagesPut (h .day) (h .count) (positionValue p) u text s verdicts m out₁ r out₂ → TextPut (decode a) (messageIn s) at out r out₂
+      unfolding positionAfter
+      message-wrote v x =
+          let bank : positionValue p .key .bank ≡ bankOf (messageIn s) = ap (λ (y : Position). y .key .bank) q in
+          let date : positionValue p .key .date ≡ dateOf (messageIn s) = ap (λ (y : Position). y .key .date) q in
+          record {
+            wrote =
+                rw (text-is (decode a) (messageIn s))
+                (wrote-then (rw (d .day, g .same, bank, date) at v)
+                (rw (sub-zero (u .details), ← same-details, w .parts, d .day, d .count, q, g .same, bank, date, returned-all (decode a .register) s places verdicts n (j .lines-kept) (j .verdicts-kept)) at (x .wrote)));
+            count = x .kept ∙ rw (d .count, w .messages);
+          }
+
+pub ruleset messages = (transfer-follows, parts-some, parts-none, due-made, judged-here, message-wrote)

@@ -1,7 +1,8 @@
-// The text of a message that is booked, and how many messages it is.
+// The text of a message that is booked, and what is due for it.
+use crate::numbered::Due;
+use crate::numbered::put_messages;
 use crate::postings::put_postings;
 use crate::verdicts::parts_of;
-use crate::verdicts::put_parts;
 use conditions::Booking;
 use engine::Totals;
 use engine::header_of;
@@ -20,7 +21,7 @@ ghost use Rattle.details.specs.Message.{messageIn};
 ghost use Rattle.conditions.specs.Books.{Books};
 ghost use Rattle.verdict.specs.Details.{JudgedIn};
 ghost use Rattle.position.specs.Values.{positionValue};
-ghost use Rattle.message_text.specs.Message.{AfterOf, WritesOf, Writes, TextPut, verdictFollows};
+ghost use Rattle.message_text.specs.Message.{AfterOf, PartsFor, DueFor, DueIn, TextPut, verdictFollows};
 
 // The position as the message leaves it, from its totals before.
 pub fn position_after(b: Booking, x: Totals) -> Position
@@ -47,10 +48,10 @@ fn has_verdict(b: Booking, p: Position) -> bool
     true
 }
 
-// How many messages the message makes the card write, so many of its details being returned: the parts of its MT199.
-pub fn messages_written(b: Booking, p: Position, returned: u32) -> u32
+// How many parts of an MT199 follow, so many details being returned.
+fn parts_for(b: Booking, p: Position, returned: u32) -> u32
     requires { ⌜ returned ≤ 16 ⌝ }
-    ensures { λ r. ⌜ WritesOf b p returned r ⌝ }
+    ensures { λ r. ⌜ PartsFor b p returned r ⌝ }
 {
     if has_verdict(b, p) {
         return parts_of(returned);
@@ -58,50 +59,53 @@ pub fn messages_written(b: Booking, p: Position, returned: u32) -> u32
     0
 }
 
-// The whole text of a message; p is its position as it leaves it, and parts how many messages it makes the card write.
+// What is due for the message, so many of its details being returned: the parts, and a return for each of those.
+pub fn due_for(b: Booking, p: Position, returned: u32) -> Due
+    requires { ⌜ returned ≤ 16 ⌝ }
+    ensures { λ r. ⌜ DueFor b p returned r ⌝ }
+{
+    let parts = parts_for(b, p, returned);
+    Due {
+        messages: parts + returned,
+        parts,
+        details: b.count as u32,
+    }
+}
+
+// The whole text of a message; p is its position as it leaves it.
 pub fn put_message_text(
     out: &mut [u8],
     at: usize,
     s: &[u8],
     amounts: &[u64; 16],
-    places: &[u16; 96],
+    places: &[u16; 128],
     verdicts: &[u8; 16],
     area: &[u8],
     b: Booking,
     p: Position,
-    parts: u32,
+    due: Due,
 ) -> Numbered
     requires { ⌜ isSome (holds (now area)) ≡ true ⌝ }
     requires { ⌜ Books (now s) (messageIn (now s)) b ⌝ }
     requires { ⌜ JudgedIn (decode (now area) .register) (now s) (now amounts) (now places) (now verdicts) (b .count) ⌝ }
     requires { ⌜ positionValue p ≡ positionAfter (decode (now area)) (messageIn (now s)) ⌝ }
-    requires { ⌜ Writes (decode (now area)) (messageIn (now s)) parts ⌝ }
+    requires { ⌜ DueIn (decode (now area)) (messageIn (now s)) due ⌝ }
     ensures { λ r. ⌜ TextPut (decode (now (area .entry))) (messageIn (now (s .entry))) at (now (out .entry)) r (now (out .exit)) ⌝ }
 {
     let h = header_of(area);
-    let a = put_postings(
-        out,
-        at,
-        h.day,
-        p,
-        register_text(area),
-        s,
-        amounts,
-        places,
-        verdicts,
-        b,
-    );
-    put_parts(
+    let text = register_text(area);
+    let a = put_postings(out, at, h.day, p, text, s, amounts, places, verdicts, b);
+    put_messages(
         out,
         a,
         h.day,
         h.count,
         p,
-        parts,
+        due,
+        text,
         s,
         amounts,
         places,
         verdicts,
-        b.count as u32,
     )
 }

@@ -27,7 +27,7 @@ pub fn put_postings(
     text: &[u8],
     s: &[u8],
     amounts: &[u64; 16],
-    places: &[u16; 96],
+    places: &[u16; 128],
     verdicts: &[u8; 16],
     b: Booking,
 ) -> usize

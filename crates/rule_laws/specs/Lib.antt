@@ -3,6 +3,7 @@ pub mod Dates
 pub mod Signs
 pub mod Lines
 pub mod Messages
+pub mod Returns
 pub mod Registers
 pub mod Verdicts
 pub mod Keys

@@ -5,12 +5,12 @@ use mathlib.Core.List.{List, [], _∷_}
 use mathlib.Core.Option.{Option, none, some, Option·map}
 use Prim.Native.Nat.{ℕ, zero, suc, _<_}
 use native.Mathlib.Omega.{arith}
-use lib.ListN.{length, getD}
+use lib.ListN.{length, getD, take, drop}
 use Rattle.rules.specs.Text.{ascii, every, equal}
 use Rattle.rules.specs.Dates.{date}
 use Rattle.rules.specs.Amounts.{amount}
 use Rattle.rules.specs.Lines.{Line, TakenLine, takeLine, isClosingLine, type, sender, body}
-use Rattle.rules.specs.Forms.{Row, TakenRows, fitsRow, leadRows, takeRows, transferRows, orderRows, detailRows}
+use Rattle.rules.specs.Forms.{Row, nothing, TakenRows, fitsRow, leadRows, takeRows, transferRows, orderRows, detailRows}
 use Rattle.rules.specs.Messages.{Message, mt103, mt101, Transfer, Order, Detail, TakenDetail, lineOf, date32A, amount32A, baerefDate103, amount32B, dateCentrb, dateBaeref, transferOf, detailOf, takeDetail, details, readTransfer, readOrder, read}
 use Rattle.laws.specs.Tests.{never, none-some}
 use Rattle.rule_laws.specs.Options.{some-is, There, Came, came, Mapped, mapped, Gave, gave}
@@ -44,11 +44,26 @@ rows-read (r ∷ rs) cs x h =
     go t false true e f p g k = first (takeRows rs cs) (out f) (g cs) k
     go t false false e f p g k = none-some k
 
+-- stands for a row behind the last
+pub none-row : Row
+none-row = record { head = []; rest = nothing; optional = true }
+
 -- row i of them
 pub row-at : (d : Row) {rs : List Row} {ls : List Line} → RowsRead rs ls → (i : ℕ) → i < length rs → RowStands (getD rs i d) (lineOf ls i)
 row-at d end i h = absurd (omega arith)
 row-at d (row s t) zero h = s
 row-at d (row s t) (suc i) h = row-at d t i (omega arith)
+
+-- the first n of them, and those behind
+pub rows-take : (n : ℕ) {rs : List Row} {ls : List Line} → RowsRead rs ls → RowsRead (take n rs) (take n ls)
+rows-take zero t = end
+rows-take (suc n) end = end
+rows-take (suc n) (row s t) = row s (rows-take n t)
+
+pub rows-drop : (n : ℕ) {rs : List Row} {ls : List Line} → RowsRead rs ls → RowsRead (drop n rs) (drop n ls)
+rows-drop zero t = t
+rows-drop (suc n) end = end
+rows-drop (suc n) (row s t) = rows-drop n t
 
 -- a first row that may not be left out
 pub row-first : {r : Row} {rs : List Row} {ls : List Line} → r .optional ≡ false → RowsRead (r ∷ rs) ls → fitsRow r (lineOf ls 0) ≡ true
@@ -64,7 +79,7 @@ pub record DetailRead (d : Detail) : Type 0 where
   pub centrb : date (dateCentrb (d .rows)) ≡ some (d .date)
   pub baeref : There (date (dateBaeref (d .rows)))
 
-detail-read : (cs : List ℕ) (t : TakenDetail) → takeDetail cs ≡ some t → DetailRead (t .detail)
+pub detail-read : (cs : List ℕ) (t : TakenDetail) → takeDetail cs ≡ some t → DetailRead (t .detail)
 unfolding takeDetail detailOf
 detail-read cs t h =
     let r : Came (takeRows detailRows cs) _ t = came _ _ h in

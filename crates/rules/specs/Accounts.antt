@@ -14,6 +14,10 @@ isBic cs = fits (ascii "aaaaaacc") cs
 unfoldable pub ibanShape : List ℕ → Bool
 ibanShape cs = fits (ascii "BGnnaaaannnnnncccccccc") cs
 
+-- its BAE code
+abbrev pub baeOf : List ℕ → List ℕ
+baeOf iban = take 8 (drop 4 iban)
+
 -- "read A as 10 to Z as 35": the number v with a digit or letter behind it
 unfoldable pub withSign : ℕ → ℕ → ℕ
 withSign v c = cond (isDigit c) (v * 10 + (c - 48)) (v * 100 + (c - 55))

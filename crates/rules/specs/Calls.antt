@@ -14,7 +14,7 @@ use Rattle.rules.specs.Messages.{Message, mt103, mt101, Detail, currency
 use Rattle.rules.specs.Register.{Register, register, registerOf}
 use Rattle.rules.specs.Verdict.{Verdict, credited, returned, verdict, isReturned, accountAt}
 use Rattle.rules.specs.Engine.{Key, Position, Reference, Engine, areaSize, limit, positionOf, isOpen, booked, kept, slashed, sameReference, filed, hasDetails}
-use Rattle.rules.specs.Written.{Book, fromBank, toAccount, toBank, verdicts, partsOf, correctionPostings, corrections, correctedCount}
+use Rattle.rules.specs.Written.{Book, fromBank, toAccount, toBank, verdicts, partsOf, returns, correctionPostings, corrections, correctedCount}
 
 -- ---- conditions of refusal
 
@@ -175,17 +175,22 @@ unfoldable pub hasVerdict : Message → Position → Bool
 hasVerdict (mt103 t) p = hasDetails p
 hasVerdict (mt101 o) p = true
 
--- how many messages are written
-unfoldable pub messagesWritten : Engine → Message → ℕ
-messagesWritten e m = cond (hasVerdict m (positionAfter e m)) (partsOf (length (returnedOf (registerOf (e .register)) (detailsOf m)))) 0
+-- how many parts it has
+unfoldable pub partsWritten : Engine → Message → ℕ
+partsWritten e m = cond (hasVerdict m (positionAfter e m)) (partsOf (length (returnedOf (registerOf (e .register)) (detailsOf m)))) 0
 
--- all that an accepted message makes the card write: posting lines, then the parts of the MT199
+-- how many messages are written: its parts and the returns
+unfoldable pub messagesWritten : Engine → Message → ℕ
+messagesWritten e m = partsWritten e m + length (returnedOf (registerOf (e .register)) (detailsOf m))
+
+-- all that an accepted message makes the card write: posting lines, then the parts of the MT199, "After the MT199 parts" the returns
 unfoldable pub messageText : Engine → Message → List ℕ
 messageText e m =
     let r = registerOf (e .register) in
     let p = positionAfter e m in
     let b : Book = record { day = e .day; temporary = r .temporary; bank = bankOf m; date = dateOf m } in
-    postings r b m ++ cond (hasVerdict m p) (verdicts (e .day) (e .count) p (returnedOf r (detailsOf m))) []
+    let ds = returnedOf r (detailsOf m) in
+    postings r b m ++ cond (hasVerdict m p) (verdicts (e .day) (e .count) p ds) [] ++ returns b (e .count + partsWritten e m) ds
 
 -- the engine after the message
 unfoldable pub afterMessage : Engine → Message → Engine

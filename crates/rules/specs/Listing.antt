@@ -1,4 +1,4 @@
--- Document 01, "Written": the worked listing as a theorem. Every line ends in CR LF.
+-- Document 01, "Written": the worked listing as a theorem, with the return of document 02, CR 1. Every line ends in CR LF.
 use mathlib.Core.Path.{_≡_, refl}
 use mathlib.Core.List.{List, [], _∷_, _++_}
 use Prim.Native.Nat.{ℕ}
@@ -9,12 +9,12 @@ use Rattle.rules.specs.Amounts.{decimals, levs, amount, written}
 use Rattle.rules.specs.Accounts.{isBic, ibanShape, withSign, numeral, remainder, control, passes}
 use Rattle.rules.specs.Lines.{lead, takeLine, lines, lastIsClosing, isClosingLine, hasFirstLine, framed, type, sender, receiver, body}
 use Rattle.rules.specs.Forms.{textLine, fitsRest, fitsRow, leadRows, takeRows}
-use Rattle.rules.specs.Messages.{transferOf, detailOf, takeDetail, details, readTransfer, readOrder, read, senderOf, referenceOf, detailsOf, firstDate, dateOf, transferredBy, sumOfAmounts, detailedBy}
+use Rattle.rules.specs.Messages.{rowText, rowsText, transferOf, detailOf, takeDetail, details, readTransfer, readOrder, read, senderOf, referenceOf, detailsOf, firstDate, dateOf, transferredBy, sumOfAmounts, detailedBy}
 use Rattle.rules.specs.Register.{accountLine, accountLines, sound, ofLines, register, registerOf}
 use Rattle.rules.specs.Verdict.{found, shaped, inBounds, judged, verdict, isReturned}
 use Rattle.rules.specs.Engine.{isBank, keyBefore, sameKey, positionOf, isOpen, booked, hasDetails, kept, slashesFrom, slashed, sameReference, precedes, filed, goodPosition, goodPositions, goodReference, goodReferences, within}
-use Rattle.rules.specs.Written.{posting, reference, firstLine, field, returnedRows, allReturned, linked, position79, closed79, mt199, partsOf, mt199s, verdicts, field72, mt204, mt205, corrected, isRefunded, correctionPosting, correction, correctionPostings, corrections, correctedCount}
-use Rattle.rules.specs.Calls.{firstOf, answered, holdsOf, openStops, acceptedOpening, opened, openCall, addressed, badReference, badSum, badAmount, foreignPayer, badAccount, manyDates, misdated, positionAfter, noRoom, overLimit, returnedOf, detailPosting, detailPostings, postings, hasVerdict, messagesWritten, messageText, afterMessage, formStops, inputStops, limitStops, roomStops, stateStops, messageStops, acceptedMessage, bothOf, messageCall, turnText, turnStops, refunded, collected, afterTurn, acceptedTurn, turnCall}
+use Rattle.rules.specs.Written.{posting, reference, firstLine, field, field32A, temporaryField, baerefRow, returnedRows, allReturned, linked, position79, closed79, mt199, partsOf, mt199s, verdicts, return103, returnOf, returns, field72, mt204, mt205, corrected, isRefunded, correctionPosting, correction, correctionPostings, corrections, correctedCount}
+use Rattle.rules.specs.Calls.{firstOf, answered, holdsOf, openStops, acceptedOpening, opened, openCall, addressed, badReference, badSum, badAmount, foreignPayer, badAccount, manyDates, misdated, positionAfter, noRoom, overLimit, returnedOf, detailPosting, detailPostings, postings, hasVerdict, partsWritten, messagesWritten, messageText, afterMessage, formStops, inputStops, limitStops, roomStops, stateStops, messageStops, acceptedMessage, bothOf, messageCall, turnText, turnStops, refunded, collected, afterTurn, acceptedTurn, turnCall}
 use Rattle.rules.specs.Replay.{replay, sixDigits, lengthOf, withBytes, commandOf, command, signed, printed, called, onward, replayFrom, replayIn}
 
 -- texts one below the other
@@ -96,6 +96,23 @@ output =
     ∷ "BG57BNBG96613000000001PAY000001"
     ∷ "1/1"
     ∷ "-"
+    ∷ "103,BNBGBGSD,AAAABGSF"
+    ∷ ":20:060302GA000002"
+    ∷ ":23B:CRED"
+    ∷ ":32A:060302BGN54,00"
+    ∷ ":50K:/BG80BNBG96611020345678"
+    ∷ "SMETKA ZA RAZPREDELENIE NA PREVODI"
+    ∷ ":52D:BNBG9661"
+    ∷ "BNB"
+    ∷ ":57D:AAAA1231"
+    ∷ "BANKA A"
+    ∷ ":59:/BG33AAAA12311012345678PAY000001"
+    ∷ "PREDPRIATIE"
+    ∷ ":70:VRASHTANE CENTRB060302"
+    ∷ ":71A:OUR"
+    ∷ ":72:/DTYPE/PORD"
+    ∷ "/BAEREF/060302000002"
+    ∷ "-"
     ∷ "0,-1400"
     ∷ "060303,AAAABGSF,BG80BNBG96611020345678,1400,AAAABGSF,060302"
     ∷ "204,BNBGBGSD,AAAABGSF"
@@ -117,5 +134,5 @@ output =
 
 -- the replay of the one is the other, byte for byte
 pub listing : replay (lined input) ≡ lined output
-unfolding isDigit isLetter isAlnum isText every run equal fitsSign fits digitsFrom places width numberFrom over leapRow monthLength exists date decimals levs amount written isBic ibanShape withSign numeral remainder control passes lead takeLine lines lastIsClosing isClosingLine hasFirstLine framed type sender receiver body textLine fitsRest fitsRow leadRows takeRows transferOf detailOf takeDetail details readTransfer readOrder read senderOf referenceOf detailsOf firstDate dateOf transferredBy sumOfAmounts detailedBy accountLine accountLines any twice ordered textBefore sound ofLines register registerOf found shaped inBounds judged verdict isReturned isBank keyBefore sameKey positionOf isOpen booked hasDetails kept slashesFrom slashed sameReference precedes filed goodPosition goodPositions goodReference goodReferences within posting reference firstLine field returnedRows allReturned linked position79 closed79 mt199 partsOf mt199s verdicts field72 mt204 mt205 corrected isRefunded correctionPosting correction correctionPostings corrections correctedCount firstOf answered holdsOf openStops acceptedOpening opened openCall addressed badReference badSum badAmount foreignPayer badAccount manyDates misdated positionAfter noRoom overLimit returnedOf detailPosting detailPostings postings hasVerdict messagesWritten messageText afterMessage formStops inputStops limitStops roomStops stateStops messageStops acceptedMessage bothOf messageCall turnText turnStops refunded collected afterTurn acceptedTurn turnCall sixDigits lengthOf withBytes commandOf command signed printed called onward replayFrom replayIn
+unfolding isDigit isLetter isAlnum isText every run equal fitsSign fits digitsFrom places width numberFrom over leapRow monthLength exists date decimals levs amount written isBic ibanShape withSign numeral remainder control passes lead takeLine lines lastIsClosing isClosingLine hasFirstLine framed type sender receiver body textLine fitsRest fitsRow leadRows takeRows rowText rowsText transferOf detailOf takeDetail details readTransfer readOrder read senderOf referenceOf detailsOf firstDate dateOf transferredBy sumOfAmounts detailedBy accountLine accountLines any twice ordered textBefore sound ofLines register registerOf found shaped inBounds judged verdict isReturned isBank keyBefore sameKey positionOf isOpen booked hasDetails kept slashesFrom slashed sameReference precedes filed goodPosition goodPositions goodReference goodReferences within posting reference firstLine field field32A temporaryField baerefRow returnedRows allReturned linked position79 closed79 mt199 partsOf mt199s verdicts return103 returnOf returns field72 mt204 mt205 corrected isRefunded correctionPosting correction correctionPostings corrections correctedCount firstOf answered holdsOf openStops acceptedOpening opened openCall addressed badReference badSum badAmount foreignPayer badAccount manyDates misdated positionAfter noRoom overLimit returnedOf detailPosting detailPostings postings hasVerdict partsWritten messagesWritten messageText afterMessage formStops inputStops limitStops roomStops stateStops messageStops acceptedMessage bothOf messageCall turnText turnStops refunded collected afterTurn acceptedTurn turnCall sixDigits lengthOf withBytes commandOf command signed printed called onward replayFrom replayIn
 listing = refl

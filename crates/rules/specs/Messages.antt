@@ -1,11 +1,11 @@
 -- Document 01, "Messages read": an MT103 and an MT101 with their parts.
 use mathlib.Core.Bool.{cond}
-use mathlib.Core.List.{List, [], _∷_}
+use mathlib.Core.List.{List, [], _∷_, _++_}
 use mathlib.Core.Option.{Option, none, some, Option·map}
 use Prim.Native.Nat.{ℕ, zero, suc, _+_}
 use Prim.Native.String.{String}
 use lib.ListN.{length, getD, take, drop}
-use Rattle.rules.specs.Text.{ascii, equal, then, given}
+use Rattle.rules.specs.Text.{ascii, equal, then, given, ended}
 use Rattle.rules.specs.Dates.{date}
 use Rattle.rules.specs.Amounts.{amount}
 use Rattle.rules.specs.Lines.{Line, isClosingLine, type, sender, body}
@@ -18,6 +18,16 @@ lineOf ls i = getD ls i []
 -- what stands behind a line's first bytes, as many as the pattern has
 abbrev pub past : String → Line → List ℕ
 past pattern l = drop (length (ascii pattern)) l
+
+-- a row as it stands: its line with CR LF, and nothing where the row is left out
+unfoldable pub rowText : Line → List ℕ
+rowText [] = []
+rowText (c ∷ cs) = ended (c ∷ cs)
+
+-- some rows, one behind the other
+unfoldable pub rowsText : List Line → List ℕ
+rowsText [] = []
+rowsText (l ∷ ls) = rowText l ++ rowsText ls
 
 -- ---- MT103, by `transferRows`
 
@@ -81,6 +91,14 @@ payer d = take 22 (past ":50H:/" (lineOf (d .rows) detail50H))
 -- 52D's BAE code
 abbrev pub branch : Detail → List ℕ
 branch d = take 8 (past ":52D:" (lineOf (d .rows) detail52D))
+
+-- "the account line and the first three further lines of 50H", behind the tag
+abbrev pub payerLines : Detail → List ℕ
+payerLines d = past ":50H:" (rowsText (take 4 (drop detail50H (d .rows))))
+
+-- "the detail's 52D lines", behind the tag
+abbrev pub branchLines : Detail → List ℕ
+branchLines d = past ":52D:" (rowsText (take 2 (drop detail52D (d .rows))))
 
 -- field 59 behind its slash
 abbrev pub account59 : Detail → List ℕ

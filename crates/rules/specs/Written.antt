@@ -1,4 +1,4 @@
--- Document 01, "Written": posting lines, MT199, MT204 and MT205.
+-- Document 01, "Written": posting lines, MT199, MT204 and MT205; document 02, CR 1: the MT103 of a return.
 use mathlib.Core.Bool.{Bool, _&&_, not, cond}
 use mathlib.Core.List.{List, [], _∷_, _++_}
 use Prim.Native.Nat.{ℕ, zero, suc, _+_, _-_, _/_}
@@ -6,7 +6,8 @@ use lib.Dec.{leb, eqb}
 use lib.ListN.{length, take, drop}
 use Rattle.rules.specs.Text.{ascii, fixed, decimal}
 use Rattle.rules.specs.Amounts.{withComma, withPoint}
-use Rattle.rules.specs.Messages.{Detail, branch, account59, baerefDate, baerefName}
+use Rattle.rules.specs.Accounts.{baeOf}
+use Rattle.rules.specs.Messages.{Detail, branch, payerLines, branchLines, account59, baerefDate, baerefName}
 use Rattle.rules.specs.Engine.{Position, bic, hasDetails}
 
 -- ---- posting lines
@@ -50,6 +51,18 @@ firstLine type bank = type ++ ascii ",BNBGBGSD," ++ bic bank ++ ascii "\r\n"
 -- a field of one line, by its tag
 unfoldable pub field : List ℕ → List ℕ → List ℕ
 field tag value = tag ++ value ++ ascii "\r\n"
+
+-- 32A: "day, BGN, amount"
+unfoldable pub field32A : ℕ → ℕ → List ℕ
+field32A day v = ascii ":32A:" ++ fixed 6 day ++ ascii "BGN" ++ withComma v ++ ascii "\r\n"
+
+-- the temporary account in a field, with its name
+unfoldable pub temporaryField : List ℕ → List ℕ → List ℕ
+temporaryField tag temporary = field tag temporary ++ ascii "SMETKA ZA RAZPREDELENIE NA PREVODI\r\n"
+
+-- "`/BAEREF/`, day and six-digit number"
+unfoldable pub baerefRow : List ℕ → ℕ → ℕ → List ℕ
+baerefRow tag day n = tag ++ fixed 6 day ++ fixed 6 n ++ ascii "\r\n"
 
 -- "size of the difference"
 abbrev pub size : ℕ → ℕ → ℕ
@@ -104,12 +117,31 @@ mt199s (suc k) day n p part parts ds = mt199 day n p part parts (take 14 ds) ++ 
 unfoldable pub verdicts : ℕ → ℕ → Position → List Detail → List ℕ
 verdicts day n p ds = let parts = partsOf (length ds) in mt199s parts day n p 1 parts ds
 
+-- ---- MT103 of a return
+
+-- "an MT103 from BNBGBGSD to the bank" with the number n and the amount v; 57D has "the detail's 52D lines", 59 "the account line and the first three further lines of 50H"
+unfoldable pub return103 : Book → ℕ → ℕ → List ℕ → List ℕ → List ℕ
+return103 b n v lines52D lines50H =
+    (firstLine (ascii "103") (b .bank) ++ field (ascii ":20:") (reference (b .day) n) ++ ascii ":23B:CRED\r\n" ++ field32A (b .day) v)
+    ++ (temporaryField (ascii ":50K:/") (b .temporary) ++ field (ascii ":52D:") (baeOf (b .temporary)) ++ ascii "BNB\r\n")
+    ++ (ascii ":57D:" ++ lines52D ++ ascii ":59:" ++ lines50H)
+    ++ (field (ascii ":70:VRASHTANE CENTRB") (fixed 6 (b .date)) ++ ascii ":71A:OUR\r\n:72:/DTYPE/PORD\r\n" ++ baerefRow (ascii "/BAEREF/") (b .day) n ++ ascii "-\r\n")
+
+-- the one of a detail
+unfoldable pub returnOf : Book → ℕ → Detail → List ℕ
+returnOf b n d = return103 b n (d .amount) (branchLines d) (payerLines d)
+
+-- "each returned detail now produces an MT103", after n messages
+unfoldable pub returns : Book → ℕ → List Detail → List ℕ
+returns b n [] = []
+returns b n (d ∷ ds) = returnOf b (n + 1) d ++ returns b (n + 1) ds
+
 -- ---- corrections
 
 -- 72: "RELREF the centralisation date, the two sums a point"; and the closing line
 unfoldable pub field72 : ℕ → ℕ → Position → List ℕ
 field72 day n p =
-    (ascii ":72:/BAEREF/" ++ fixed 6 day ++ fixed 6 n ++ ascii "\r\n")
+    baerefRow (ascii ":72:/BAEREF/") day n
     ++ field (ascii "/RELREF/ERRCENTRB") (fixed 6 (p .key .date))
     ++ ascii "//RAZLIKA OT CENTRALIZACIA NA BS\r\n"
     ++ field (ascii "//SUMA PREZ RINGS ") (withPoint (p .transferred))
@@ -119,7 +151,7 @@ field72 day n p =
 unfoldable pub mt204 : ℕ → List ℕ → ℕ → Position → ℕ → List ℕ
 mt204 day temporary n p v =
     (firstLine (ascii "204") (p .key .bank) ++ field (ascii ":20:") (reference day n) ++ field (ascii ":19:") (withComma v) ++ field (ascii ":30:") (fixed 6 day))
-    ++ (field (ascii ":58D:/") temporary ++ ascii "SMETKA ZA RAZPREDELENIE NA PREVODI\r\n" ++ field (ascii ":20:") (reference day n))
+    ++ (temporaryField (ascii ":58D:/") temporary ++ field (ascii ":20:") (reference day n))
     ++ (field (ascii ":32B:BGN") (withComma v) ++ field (ascii ":53A:") (bic (p .key .bank)))
     ++ field72 day n p
 
@@ -127,7 +159,7 @@ mt204 day temporary n p v =
 unfoldable pub mt205 : ℕ → ℕ → Position → ℕ → List ℕ
 mt205 day n p v =
     (firstLine (ascii "205") (p .key .bank) ++ field (ascii ":20:") (reference day n) ++ field (ascii ":21:") (reference day n))
-    ++ (ascii ":32A:" ++ fixed 6 day ++ ascii "BGN" ++ withComma v ++ ascii "\r\n")
+    ++ field32A day v
     ++ (ascii ":52A:BNBGBGSD\r\n" ++ field (ascii ":58A:") (bic (p .key .bank)))
     ++ field72 day n p
 

@@ -92,7 +92,7 @@ fn say_checked(s: &[u8], r: Checked, amounts: &[u64; 16]) {
 // A message to the card whose temporary account is BG80BNBG96611020345678.
 fn try_message(s: &[u8]) {
     let mut amounts = [0u64; 16];
-    let mut places = [0u16; 96];
+    let mut places = [0u16; 128];
     let r = conditions::check_message(s, b"BG80BNBG96611020345678", &mut amounts, &mut places);
     say_checked(s, r, &amounts);
     io::write_all(1, b"\n");

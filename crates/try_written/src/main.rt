@@ -1,4 +1,4 @@
-// Writes texts of worked days: the listing's posting lines, a turn that collects and refunds, and the rows around the returned details of an MT199.
+// Writes texts of worked days: the listing's posting lines, a turn that collects and refunds, the rows around the returned details of an MT199, and returns.
 use position::Key;
 use position::Position;
 use written::Book;
@@ -72,9 +72,75 @@ fn try_second_part() {
     say(&out, c);
 }
 
+// The return of the listing.
+fn try_return() {
+    let mut out = [0u8; 512];
+    let book = Book {
+        day: 60302,
+        bank: text::read_be(b"AAAABGSF", 0, 8),
+        date: 60302,
+    };
+    let a = written::put_return(
+        &mut out,
+        0,
+        book,
+        b"BG80BNBG96611020345678",
+        2,
+        5400,
+        b"AAAA1231\r\nBANKA A\r\n",
+        b"/BG33AAAA12311012345678PAY000001\r\nPREDPRIATIE\r\n",
+    );
+    say(&out, a);
+}
+
+// Five stotinki, returned on a later day than the centralisation date, from another temporary account, to a payer of three further lines.
+fn try_small_return() {
+    let mut out = [0u8; 512];
+    let book = Book {
+        day: 40607,
+        bank: text::read_be(b"ZHSRPL8S", 0, 8),
+        date: 40305,
+    };
+    let a = written::put_return(
+        &mut out,
+        0,
+        book,
+        b"BG40CCCC111110ABCDEFGH",
+        19,
+        5,
+        b"ZHSR0000\r\nKLON\r\n",
+        b"/BG33AAAA12311012345678PAY000001\r\nIME\r\nULICA 1\r\nSOFIA\r\n",
+    );
+    say(&out, a);
+}
+
+// The largest amount of 15 characters, to a branch and a payer whose lines have bytes up to 255.
+fn try_large_return() {
+    let mut out = [0u8; 512];
+    let book = Book {
+        day: 51108,
+        bank: text::read_be(b"FBBMXFIK", 0, 8),
+        date: 51107,
+    };
+    let a = written::put_return(
+        &mut out,
+        0,
+        book,
+        b"BG18BNBG96611633648985",
+        1184,
+        9999999999999900,
+        b"FBBM1234\r\n\x80\xc1\xff\r\n",
+        b"/BG33AAAA12311012345678PAY999999\r\n\xff \xe0\r\n",
+    );
+    say(&out, a);
+}
+
 fn main() {
     try_postings();
     try_turn();
     try_only_part();
     try_second_part();
+    try_return();
+    try_small_return();
+    try_large_return();
 }

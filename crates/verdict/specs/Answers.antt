@@ -62,7 +62,14 @@ module _ (v : Verdict) where
 
 -- detail i as it is kept, with its verdict
 unfoldable pub judgedIn : List ℕ → List ℕ → List ℕ → ℕ → Judged
-judgedIn amounts places verdicts i = record { amount = getD amounts i 0; branch = lineAt places (3 * i); account = lineAt places (3 * i + 1); baeref = lineAt places (3 * i + 2); verdict = verdictBy (getD verdicts i 0) }
+judgedIn amounts places verdicts i = record {
+  amount = getD amounts i 0;
+  payer = lineAt places (4 * i);
+  branch = lineAt places (4 * i + 1);
+  account = lineAt places (4 * i + 2);
+  baeref = lineAt places (4 * i + 3);
+  verdict = verdictBy (getD verdicts i 0);
+}
 
 -- ---- a credited detail's account line is one of the register's
 

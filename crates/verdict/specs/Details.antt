@@ -8,17 +8,18 @@ use lib.ListN.{length, getD, set, length-set}
 use lib.Seq.{getD-set-same, getD-set-other}
 use Rattle.rules.specs.Text.{isSome}
 use Rattle.rules.specs.Messages as M
-use Rattle.rules.specs.Forms.{detail52D, detail59, detailBaeref}
+use Rattle.rules.specs.Forms.{detail50H, detail52D, detail59, detailBaeref}
 use Rattle.rules.specs.Messages.{past, account59}
 use Rattle.rules.specs.Register.{register, registerOf}
 use Rattle.rules.specs.Verdict.{verdict}
+use Rattle.rule_laws.specs.Messages.{DetailRead}
 use Rattle.register.specs.Passed.{text-count, accounts-count}
 use Rattle.forms.specs.Spans.{spanOf, SpanIn}
 use Rattle.forms.specs.Fields.{Behind, behind-in, behind-bytes}
 use Rattle.forms.specs.declared.rows.Span.{Span}
 use Rattle.details.specs.Lines.{lineAt}
 use Rattle.details.specs.Message.{detailsIn, detailAt}
-use Rattle.details.specs.Kept.{LineOf, LinesIn, AmountsIn, before-or-last}
+use Rattle.details.specs.Kept.{LineOf, RowsOf, LinesIn, AmountsIn, before-or-last}
 use Rattle.verdict.specs.Answers.{verdictOf, verdictBy, CodeOf, judgedIn, Listed, listed, listed-line, code-line, code-cause, by-cause, by-line}
 use Rattle.verdict.specs.declared.Verdict.{Verdict}
 use Rattle.verdict.specs.declared.Verdict.the-variants.{Credited}
@@ -51,7 +52,7 @@ judging-start text s e = record { size = e; done = record { each = λ i h. absur
 pub line-small : (text : List ℕ) (v : Verdict) (i : ℕ) → isSome (register text) ≡ true → Listed text v → v ≡ Credited i → i < 40
 line-small text v i h l e = let n : i < length (registerOf text .accounts) = l .line i e in omega (arith, accounts-count text h, text-count text h)
 
-module _ (s places : List ℕ) (n i : ℕ) (k : LinesIn s places n) (h : i < n) (p : Span) (e : p ≡ lineAt places (3 * i + 1)) where
+module _ (s places : List ℕ) (n i : ℕ) (k : LinesIn s places n) (h : i < n) (p : Span) (e : p ≡ lineAt places (4 * i + 2)) where
   line-is : LineOf s (detailAt (detailsIn s) i) detail59 p
   line-is = rw e (k .each i h .account)
 
@@ -92,7 +93,14 @@ module _ (amounts places verdicts : List ℕ) (i : ℕ) (r : Judged) (e : r ≡ 
   judged-verdict = rw e
 
   module _ (s : List ℕ) (n : ℕ) (k : LinesIn s places n) (h : i < n) where
-    pub judged-branch : LineOf s (detailAt (detailsIn s) i) detail52D (r .branch)
+    pub judged-read : DetailRead (detailAt (detailsIn s) i)
+    judged-read = k .each i h .read
+
+    pub judged-payer : RowsOf s (detailAt (detailsIn s) i) detail50H 4 (r .payer)
+    unfolding judgedIn
+    judged-payer = rw e (k .each i h .payer)
+
+    pub judged-branch : RowsOf s (detailAt (detailsIn s) i) detail52D 2 (r .branch)
     unfolding judgedIn
     judged-branch = rw e (k .each i h .branch)
 
@@ -110,9 +118,9 @@ pub judged-as : (text s amounts places verdicts : List ℕ) (n i : ℕ) (r : Jud
 unfolding judgedIn
 judged-as text s amounts places verdicts n i r k a v h e = record { amount = ap (λ (x : Judged). x .amount) e ∙ a .each i h; verdict = ap (λ (x : Judged). verdictOf (x .verdict)) e ∙ v .each i h }
 
-pub judged-made : (amounts places verdicts : List ℕ) (i : ℕ) {b a p : Span} {v : Verdict} → b ≡ lineAt places (3 * i) → a ≡ lineAt places (3 * i + 1) → p ≡ lineAt places (3 * i + 2) → v ≡ verdictBy (getD verdicts i 0)
-    → record { amount = getD amounts i 0; branch = b; account = a; baeref = p; verdict = v } ≡ judgedIn amounts places verdicts i
+pub judged-made : (amounts places verdicts : List ℕ) (i : ℕ) {y b a p : Span} {v : Verdict} → y ≡ lineAt places (4 * i) → b ≡ lineAt places (4 * i + 1) → a ≡ lineAt places (4 * i + 2) → p ≡ lineAt places (4 * i + 3) → v ≡ verdictBy (getD verdicts i 0)
+    → record { amount = getD amounts i 0; payer = y; branch = b; account = a; baeref = p; verdict = v } ≡ judgedIn amounts places verdicts i
 unfolding judgedIn
-judged-made amounts places verdicts i e f g h = rw (e, f, g, h)
+judged-made amounts places verdicts i c e f g h = rw (c, e, f, g, h)
 
 pub ruleset detailing = (listed, listed-line, line-small, code-line, code-cause, by-cause, by-line, judging-start, account-order, account-in, judging-next, judging-end, judged-made)

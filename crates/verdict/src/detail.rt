@@ -21,7 +21,9 @@ ghost use Rattle.verdict.specs.Details.{VerdictsIn};
 pub struct Judged {
     // Its amount.
     pub amount: u64,
-    // 52D's first line.
+    // 50H's account line and its first three further lines.
+    pub payer: Span,
+    // 52D's lines.
     pub branch: Span,
     // 59's account line.
     pub account: Span,
@@ -77,7 +79,7 @@ fn judge_part(text: &[u8], s: &[u8], p: Span) -> Verdict
 }
 
 // The n details of a message judged, each by its field 59.
-pub fn judge_details(text: &[u8], s: &[u8], places: &[u16; 96], n: u32, verdicts: &mut [u8; 16])
+pub fn judge_details(text: &[u8], s: &[u8], places: &[u16; 128], n: u32, verdicts: &mut [u8; 16])
     requires { ⌜ isSome (register (now text)) ≡ true ⌝ }
     requires { ⌜ LinesIn (now s) (now places) n ⌝ }
     requires { ⌜ length (now verdicts) ≡ 16 ⌝ }
@@ -85,23 +87,25 @@ pub fn judge_details(text: &[u8], s: &[u8], places: &[u16; 96], n: u32, verdicts
 {
     let mut i: u32 = 0;
     while i < n {
-        let v = judge_part(text, s, behind(line_at(places, 3 * i + 1), 5));
+        let v = judge_part(text, s, behind(line_at(places, 4 * i + 2), 5));
         verdicts[i as usize] = code_of(text, v);
         i += 1;
     }
 }
 
 // Detail i with its verdict.
-pub fn judged_at(amounts: &[u64; 16], places: &[u16; 96], verdicts: &[u8; 16], i: u32) -> Judged
+pub fn judged_at(amounts: &[u64; 16], places: &[u16; 128], verdicts: &[u8; 16], i: u32) -> Judged
     requires { ⌜ i < 16 ⌝ }
     ensures { λ r. ⌜ r ≡ judgedIn (now (amounts .entry)) (now (places .entry)) (now (verdicts .entry)) i ⌝ }
 {
-    let branch = line_at(places, 3 * i);
-    let account = line_at(places, 3 * i + 1);
-    let baeref = line_at(places, 3 * i + 2);
+    let payer = line_at(places, 4 * i);
+    let branch = line_at(places, 4 * i + 1);
+    let account = line_at(places, 4 * i + 2);
+    let baeref = line_at(places, 4 * i + 3);
     let verdict = verdict_by(verdicts[i as usize]);
     Judged {
         amount: amounts[i as usize],
+        payer,
         branch,
         account,
         baeref,

@@ -1,11 +1,13 @@
 // Corrections of a turn: the posting line of one, and its MT204 or MT205.
 use crate::Book;
 use crate::fields::put_amount_field;
+use crate::fields::put_baeref_row;
 use crate::fields::put_bank_field;
 use crate::fields::put_date_field;
+use crate::fields::put_field32a;
 use crate::fields::put_opened;
 use crate::fields::put_reference_field;
-use crate::fields::put_text_field;
+use crate::fields::put_temporary_field;
 use crate::postings::put_from_bank;
 use crate::postings::put_to_bank;
 use position::Position;
@@ -13,19 +15,9 @@ ghost use mathlib.Core.List.{_++_};
 ghost use Rattle.rules.specs.Text.{ascii, fixed};
 ghost use Rattle.rules.specs.Amounts.{withComma, withPoint};
 ghost use Rattle.rules.specs.Engine.{bic};
-ghost use Rattle.rules.specs.Written.{reference, firstLine, field, field72, mt204, mt205, correctionPosting, correction};
+ghost use Rattle.rules.specs.Written.{reference, firstLine, field, temporaryField, field72, mt204, mt205, correctionPosting, correction};
 ghost use Rattle.laws.specs.Writing.{Wrote};
 ghost use Rattle.position.specs.Values.{positionValue};
-
-// The first row of 72: the day and the correction's number.
-fn put_baeref(out: &mut [u8], at: usize, day: u32, n: u32) -> usize
-    ensures { λ r. ⌜ Wrote (ascii ":72:/BAEREF/" ++ fixed 6 day ++ fixed 6 n ++ ascii "\r\n") at (now (out .entry)) r (now (out .exit)) ⌝ }
-{
-    let a = put::put_bytes(out, at, b":72:/BAEREF/");
-    let b = put::put_fixed(out, a, 6, day as u64);
-    let c = put::put_fixed(out, b, 6, n as u64);
-    put::put_end(out, c)
-}
 
 // The last row of 72, and the closing line.
 fn put_detailed_row(out: &mut [u8], at: usize, detailed: u64) -> usize
@@ -39,7 +31,7 @@ fn put_detailed_row(out: &mut [u8], at: usize, detailed: u64) -> usize
 fn put_field72(out: &mut [u8], at: usize, day: u32, n: u32, p: Position) -> usize
     ensures { λ r. ⌜ Wrote (field72 day n (positionValue p)) at (now (out .entry)) r (now (out .exit)) ⌝ }
 {
-    let a = put_baeref(out, at, day, n);
+    let a = put_baeref_row(out, at, b":72:/BAEREF/", day, n);
     let b = put_date_field(out, a, b"/RELREF/ERRCENTRB", p.key.date);
     let c = put::put_bytes(out, b, b"//RAZLIKA OT CENTRALIZACIA NA BS\r\n");
     let d = put_amount_field(out, c, b"//SUMA PREZ RINGS ", b'.', p.transferred);
@@ -58,11 +50,10 @@ fn put_opened204(out: &mut [u8], at: usize, day: u32, n: u32, bank: u64, v: u64)
 
 // Field 58D, and field 20 behind it.
 fn put_temporary204(out: &mut [u8], at: usize, temporary: &[u8], day: u32, n: u32) -> usize
-    ensures { λ r. ⌜ Wrote (field (ascii ":58D:/") (now (temporary .entry)) ++ ascii "SMETKA ZA RAZPREDELENIE NA PREVODI\r\n" ++ field (ascii ":20:") (reference day n)) at (now (out .entry)) r (now (out .exit)) ⌝ }
+    ensures { λ r. ⌜ Wrote (temporaryField (ascii ":58D:/") (now (temporary .entry)) ++ field (ascii ":20:") (reference day n)) at (now (out .entry)) r (now (out .exit)) ⌝ }
 {
-    let a = put_text_field(out, at, b":58D:/", temporary);
-    let b = put::put_bytes(out, a, b"SMETKA ZA RAZPREDELENIE NA PREVODI\r\n");
-    put_reference_field(out, b, b":20:", day, n)
+    let a = put_temporary_field(out, at, b":58D:/", temporary);
+    put_reference_field(out, a, b":20:", day, n)
 }
 
 // Fields 32B and 53A.
@@ -100,17 +91,6 @@ fn put_opened205(out: &mut [u8], at: usize, day: u32, n: u32, bank: u64) -> usiz
     put_reference_field(out, b, b":21:", day, n)
 }
 
-// Field 32A.
-fn put_refunded205(out: &mut [u8], at: usize, day: u32, v: u64) -> usize
-    ensures { λ r. ⌜ Wrote (ascii ":32A:" ++ fixed 6 day ++ ascii "BGN" ++ withComma v ++ ascii "\r\n") at (now (out .entry)) r (now (out .exit)) ⌝ }
-{
-    let a = put::put_bytes(out, at, b":32A:");
-    let b = put::put_fixed(out, a, 6, day as u64);
-    let c = put::put_bytes(out, b, b"BGN");
-    let d = put::put_amount(out, c, b',', v);
-    put::put_end(out, d)
-}
-
 // Fields 52A and 58A.
 fn put_parties205(out: &mut [u8], at: usize, bank: u64) -> usize
     ensures { λ r. ⌜ Wrote (ascii ":52A:BNBGBGSD\r\n" ++ field (ascii ":58A:") (bic bank)) at (now (out .entry)) r (now (out .exit)) ⌝ }
@@ -124,7 +104,7 @@ fn put_mt205(out: &mut [u8], at: usize, day: u32, n: u32, p: Position, v: u64) -
     ensures { λ r. ⌜ Wrote (mt205 day n (positionValue p) v) at (now (out .entry)) r (now (out .exit)) ⌝ }
 {
     let a = put_opened205(out, at, day, n, p.key.bank);
-    let b = put_refunded205(out, a, day, v);
+    let b = put_field32a(out, a, day, v);
     let c = put_parties205(out, b, p.key.bank);
     put_field72(out, c, day, n, p)
 }

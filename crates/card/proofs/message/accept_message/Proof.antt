@@ -5,7 +5,7 @@ use Rattle.card.proofs.message.accept_message.Statement.{statement}
 use Rattle.card.proofs.message.accept_message.Tie as tie
 
 put-message-text-requires : tie.Need-put-message-text-requires
-put-message-text-requires c κs = let r = (c .before .before .before .before .before .pre .0) in (r .engine, (r .books, (r .judged, (r .leaves .same, r .parts-are))))
+put-message-text-requires c κs = let r = (c .before .before .before .before .before .pre .0) in (r .engine, (r .books, (r .judged, (r .leaves .same, r .dues))))
 
 minus-requires : tie.Need-minus-requires
 minus-requires c κs = search (sending, needs)

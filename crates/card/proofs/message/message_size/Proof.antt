@@ -8,7 +8,7 @@ slice-aggregate-put-message-text : tie.Need-slice-aggregate-put-message-text
 slice-aggregate-put-message-text c = search (sending, needs)
 
 put-message-text-requires : tie.Need-put-message-text-requires
-put-message-text-requires c κs = let r = (c .before .before .before .pre) in (r .engine, (r .books, (r .judged, (r .leaves .same, r .parts-are))))
+put-message-text-requires c κs = let r = (c .before .before .before .pre) in (r .engine, (r .books, (r .judged, (r .leaves .same, r .dues))))
 
 returns : tie.Need-returns
 returns c = search (sending, needs)

@@ -1,7 +1,7 @@
 -- 16, or the message is written and booked.
 use denote.Ref.{now}
 use native.Mathlib.Omega.{arith}
-use Rattle.card.specs.Message.{ready, text-fits, sent-made, sending}
+use Rattle.card.specs.Message.{ready, text-fits, sent-room, sent-made, sending}
 use borrow.Author.Needs.{needs}
 use Rattle.card.proofs.message.send_message.Statement.{statement}
 use Rattle.card.proofs.message.send_message.Tie as tie
@@ -15,8 +15,8 @@ judge-in-requires c κs = search (sending, needs)
 count-returned-requires : tie.Need-count-returned-requires
 count-returned-requires c κs = search (sending, needs)
 
-messages-written-requires : tie.Need-messages-written-requires
-messages-written-requires c κs = search (sending, needs)
+due-for-requires : tie.Need-due-for-requires
+due-for-requires c κs = search (sending, needs)
 
 message-size-requires : tie.Need-message-size-requires
 message-size-requires c κs = search (sending, needs)
@@ -25,17 +25,20 @@ same-length : tie.Need-same-length
 same-length c = search (sending, needs)
 
 returns : tie.Need-returns
-returns c = search (sending, needs)
+returns c =
+    let at-message-size = c .before in
+    let entry = at-message-size .before .before .before .before .before .before .before .before .before .before .before .before .before in
+    let p = (entry .pre) in sent-room _ _ (p .0) _ (p .1 .0) (now (entry .args .output)) (p .1 .1 .0) (at-message-size .message-size .ensures) (c .if1 .taken)
 
 accept-message-requires : tie.Need-accept-message-requires
 accept-message-requires c κs =
     let at-if1 = c .before .before .before .before .before in
     let at-message-size = at-if1 .before in
-    let at-messages-written = at-message-size .before .before .before in
-    let at-count-returned = at-messages-written .before in
+    let at-due-for = at-message-size .before .before .before in
+    let at-count-returned = at-due-for .before in
     let at-judge-in = at-count-returned .before .before in
     let entry = at-judge-in .before .before .before .before .before .before .before in
-    let p = (entry .pre) in (ready _ _ (p .0) _ (p .1 .0) _ (p .1 .1 .1) (p .1 .1 .0) (at-judge-in .judge-in .ensures) (at-count-returned .count-returned .ensures) (at-messages-written .messages-written .ensures), text-fits (now ((entry .args .output))) (at-message-size .message-size .ensures) (at-if1 .if1 .left) (omega (arith, (entry .good))))
+    let p = (entry .pre) in (ready _ _ (p .0) _ (p .1 .0) _ (p .1 .1 .1) (p .1 .1 .0) (at-judge-in .judge-in .ensures) (at-count-returned .count-returned .ensures) (at-due-for .due-for .ensures), text-fits (now ((entry .args .output))) (at-message-size .message-size .ensures) (at-if1 .if1 .left) (omega (arith, (entry .good))))
 
 same-length-2 : tie.Need-same-length-2
 same-length-2 c = search (sending, needs)
@@ -58,7 +61,7 @@ send-message-spec =
     cast-n
     judge-in-requires
     count-returned-requires
-    messages-written-requires
+    due-for-requires
     message-size-requires
     same-length
     returns

@@ -23,6 +23,9 @@ part-requires c κs = let l = line-told _ _ _ (c .before .before .before .before
 returns : tie.Need-returns
 returns c = search (holding, needs)
 
+part-requires-2 : tie.Need-part-requires-2
+part-requires-2 c κs = search needs
+
 enum-told : tie.Need-enum-told
 enum-told c = search needs
 
@@ -33,4 +36,4 @@ returns-3 : tie.Need-returns-3
 returns-3 c = search (holding, needs)
 
 pub match-line-spec : {M : Type 1} → statement M
-match-line-spec = tie.close (tie.spec row-at-requires enum-known-line row-fits-requires add-t9 part-requires returns enum-told returns-2 returns-3)
+match-line-spec = tie.close (tie.spec row-at-requires enum-known-line row-fits-requires add-t9 part-requires returns part-requires-2 enum-told returns-2 returns-3)

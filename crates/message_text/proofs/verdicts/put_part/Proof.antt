@@ -27,7 +27,7 @@ put-closed79-requires : tie.Need-put-closed79-requires
 put-closed79-requires c κs = search (parting, needs)
 
 sub-t17 : tie.Need-sub-t17
-sub-t17 c = omega (arith, (c .before .before .before .before .before .before .before .before .before .before .before .before .before .before .before .before .before .before .before .before .before .pre .some))
+sub-t17 c = omega (arith, (c .before .before .before .before .before .before .before .before .before .before .before .before .before .before .before .before .before .before .before .before .before .before .pre .placed .some))
 
 same-length : tie.Need-same-length
 same-length c = search (parting, needs)
@@ -39,8 +39,8 @@ returns c =
     let position = returned .before .before .before .before in
     let opened = position .before .before .before .before in
     let number = opened .before .before in
-    let start = number .before .before .before .before in
-    part-wrote _ _ _ _ _ _ _ (start .pre) (number .first-number .ensures) (opened .put-opened199 .ensures) (position .put-position79 .ensures) (returned .put-returned .ensures) (closed .put-closed79 .ensures)
+    let start = number .before .before .before .before .before in
+    part-wrote _ _ _ _ _ _ (start .pre) (number .first-number .ensures) (opened .put-opened199 .ensures) (position .put-position79 .ensures) (returned .put-returned .ensures) (closed .put-closed79 .ensures)
 
 pub put-part-spec : {M : Type 1} → statement M
 put-part-spec =

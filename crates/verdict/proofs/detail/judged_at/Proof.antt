@@ -28,17 +28,26 @@ add-line-at-2 c = search (detailing, needs)
 line-at-requires-3 : tie.Need-line-at-requires-3
 line-at-requires-3 c κs = search (detailing, needs)
 
+mul-line-at-4 : tie.Need-mul-line-at-4
+mul-line-at-4 c = search (detailing, needs)
+
+add-line-at-3 : tie.Need-add-line-at-3
+add-line-at-3 c = search (detailing, needs)
+
+line-at-requires-4 : tie.Need-line-at-requires-4
+line-at-requires-4 c κs = search (detailing, needs)
+
 element-copy-out-verdict-by : tie.Need-element-copy-out-verdict-by
 element-copy-out-verdict-by c = search (detailing, needs)
 
 verdict-by-requires : tie.Need-verdict-by-requires
 verdict-by-requires c κs = search (detailing, needs)
 
-mul-t21 : tie.Need-mul-t21
-mul-t21 c = search (detailing, needs)
+mul-t24 : tie.Need-mul-t24
+mul-t24 c = search (detailing, needs)
 
-element-copy-out-t24 : tie.Need-element-copy-out-t24
-element-copy-out-t24 c = search (detailing, needs)
+element-copy-out-t27 : tie.Need-element-copy-out-t27
+element-copy-out-t27 c = search (detailing, needs)
 
 returns : tie.Need-returns
 returns c = search (detailing, needs)
@@ -55,8 +64,11 @@ judged-at-spec =
     mul-line-at-3
     add-line-at-2
     line-at-requires-3
+    mul-line-at-4
+    add-line-at-3
+    line-at-requires-4
     element-copy-out-verdict-by
     verdict-by-requires
-    mul-t21
-    element-copy-out-t24
+    mul-t24
+    element-copy-out-t27
     returns)

@@ -5,8 +5,11 @@ use Rattle.laws.specs.Pieces.{wrote-5}
 use Rattle.written.proofs.corrections.put_field72.Statement.{statement}
 use Rattle.written.proofs.corrections.put_field72.Tie as tie
 
-put-baeref-requires : tie.Need-put-baeref-requires
-put-baeref-requires c κs = search needs
+slice-aggregate-put-baeref-row : tie.Need-slice-aggregate-put-baeref-row
+slice-aggregate-put-baeref-row c = search needs
+
+put-baeref-row-requires : tie.Need-put-baeref-row-requires
+put-baeref-row-requires c κs = search needs
 
 slice-aggregate-put-date-field : tie.Need-slice-aggregate-put-date-field
 slice-aggregate-put-date-field c = search needs
@@ -40,13 +43,14 @@ returns c =
     let bytes = amount .before .before .before .before .before in
     let date = bytes .before .before .before .before .before in
     let baeref = date .before .before .before .before .before in
-    wrote-5 (baeref .put-baeref .ensures) (date .put-date-field .ensures) (bytes .put-bytes .ensures) (amount .put-amount-field .ensures) (detailed .put-detailed-row .ensures)
+    wrote-5 (baeref .put-baeref-row .ensures) (date .put-date-field .ensures) (bytes .put-bytes .ensures) (amount .put-amount-field .ensures) (detailed .put-detailed-row .ensures)
 
 pub put-field72-spec : {M : Type 1} → statement M
 put-field72-spec =
     tie.close
     (tie.spec
-    put-baeref-requires
+    slice-aggregate-put-baeref-row
+    put-baeref-row-requires
     slice-aggregate-put-date-field
     put-date-field-requires
     slice-aggregate-put-bytes

@@ -8,8 +8,8 @@ use Rattle.written.proofs.corrections.put_mt205.Tie as tie
 put-opened205-requires : tie.Need-put-opened205-requires
 put-opened205-requires c κs = search needs
 
-put-refunded205-requires : tie.Need-put-refunded205-requires
-put-refunded205-requires c κs = search needs
+put-field32a-requires : tie.Need-put-field32a-requires
+put-field32a-requires c κs = search needs
 
 put-parties205-requires : tie.Need-put-parties205-requires
 put-parties205-requires c κs = search needs
@@ -29,7 +29,7 @@ put-mt205-spec =
     tie.close
     (tie.spec
     put-opened205-requires
-    put-refunded205-requires
+    put-field32a-requires
     put-parties205-requires
     put-field72-requires
     same-length
