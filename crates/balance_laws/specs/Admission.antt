@@ -18,14 +18,14 @@ use Rattle.rule_laws.specs.Clear.{Clear}
 use Rattle.rule_laws.specs.Messages.{DetailsRead, DetailsRead.last, DetailsRead.more, ReadAs, ReadAs.transfer, ReadAs.order, read-as}
 use Rattle.balance_laws.specs.Details.{read-sent}
 use Rattle.balance_laws.specs.Accounts.{temporary-shape}
-use Rattle.balance_laws.specs.Message.{bookOf, Postable}
+use Rattle.balance_laws.specs.Message.{Postable}
 use Rattle.balance_laws.specs.Untouched.{Admitted, Admitted.transfer, Admitted.order}
 
 small-sum : (v w : ℕ) → leb (v + w) limit ≡ true → w < 10 ^ 20
 small-sum v w h = omega (arith, leb-true (v + w) limit h)
 
 pub postable : (room : ℕ) (e : Engine) (s : List ℕ) (m : Message) → Limits e → read s ≡ some m → Clear room e s m → Postable e m
-unfolding bookOf isBank overLimit positionAfter
+unfolding isBank overLimit positionAfter
 postable room e s m l r c =
     let a : Has s m = read-has s m r in
     let b : isBank (bankOf m) ≡ true = rw (a .sent) (sender-bank s (c .frame)) in record {

@@ -4,12 +4,12 @@ use mathlib.Core.Bool.{Bool, true, false, cond}
 use mathlib.Core.List.{List, [], _∷_}
 use Prim.Native.Nat.{ℕ, _+_, _^_, _<_}
 use native.Mathlib.Omega.{arith}
-use Rattle.rules.specs.Messages.{Message, mt103, mt101, Detail, account59, detailsOf, dateOf, transferredBy, detailedBy, sumOfAmounts}
+use Rattle.rules.specs.Messages.{Message, mt103, mt101, Detail, account59, detailsOf, transferredBy, detailedBy, sumOfAmounts}
 use Rattle.rules.specs.Register.{Register, registerOf}
 use Rattle.rules.specs.Verdict.{Verdict, credited, returned, isReturned, accountAt}
 use Rattle.rules.specs.Engine.{Engine, bic}
 use Rattle.rules.specs.Written.{Book, posting, verdicts, returns}
-use Rattle.rules.specs.Calls.{bankOf, verdictOf, returnedOf, detailPosting, detailPostings, postings, hasVerdict, positionAfter, partsWritten, messageText}
+use Rattle.rules.specs.Calls.{bankOf, verdictOf, returnedOf, returnedDetails, messageBook, detailPosting, detailPostings, postings, hasVerdict, positionAfter, partsWritten, messageText}
 use Rattle.rules.specs.Ledger.{Kind, Request, isParty}
 use Rattle.laws.specs.All.{All, All.none, All.more}
 use Rattle.balance_laws.specs.Told.{Tells, tells-none, tells-join, tells-same, tells-mute, Mute, mute-none}
@@ -74,40 +74,34 @@ module _ (bank : ℕ) (f : Request) (s : bank < 2 ^ 64) (r : Register) (b : Book
 
 -- ---- a message
 
--- the book of a message's posting lines
-unfoldable pub bookOf : Engine → Message → Book
-bookOf e m = record { day = e .day; temporary = registerOf (e .register) .temporary; bank = bankOf m; date = dateOf m }
-
 -- what the lines of an accepted message need
 pub record Postable (e : Engine) (m : Message) : Type 0 where
-  pub book : Readable (bookOf e m)
+  pub book : Readable (messageBook e m)
   pub details : All DetailSent (detailsOf m)
   pub transferred : transferredBy m < 10 ^ 20
   pub detailed : detailedBy m < 10 ^ 20
 
 module _ (e : Engine) (m : Message) (w : Postable e m) where
   -- the verdicts that follow tell nothing
-  mute-judged : Mute (cond (hasVerdict m (positionAfter e m)) (verdicts (e .day) (e .count) (positionAfter e m) (returnedOf (registerOf (e .register)) (detailsOf m))) [])
-  unfolding bookOf positionAfter
+  mute-judged : Mute (cond (hasVerdict m (positionAfter e m)) (verdicts (e .day) (e .count) (positionAfter e m) (returnedDetails e m)) [])
+  unfolding positionAfter
   mute-judged = go (hasVerdict m (positionAfter e m))
     where
-      go : (t : Bool) → Mute (cond t (verdicts (e .day) (e .count) (positionAfter e m) (returnedOf (registerOf (e .register)) (detailsOf m))) [])
+      go : (t : Bool) → Mute (cond t (verdicts (e .day) (e .count) (positionAfter e m) (returnedDetails e m)) [])
       go true = mute-verdicts (e .day) (e .count) (positionAfter e m) (w .book .known) (returned-sent (registerOf (e .register)) (w .details))
       go false = mute-none
 
   -- nor do the returns: a message tells what its posting lines do
-  tells-message : {kind : Kind} {f : Request} {v : ℕ} → Tells kind f (postings (registerOf (e .register)) (bookOf e m) m) v → Tells kind f (messageText e m) v
-  unfolding messageText bookOf
+  tells-message : {kind : Kind} {f : Request} {v : ℕ} → Tells kind f (postings (registerOf (e .register)) (messageBook e m) m) v → Tells kind f (messageText e m) v
+  unfolding messageText
   tells-message t =
-      let back : Mute (returns (bookOf e m) (e .count + partsWritten e m) (returnedOf (registerOf (e .register)) (detailsOf m))) =
-      mute-returns (bookOf e m) (e .count + partsWritten e m) (w .book .known) (w .book .account) (returned-sent (registerOf (e .register)) (w .details)) in
+      let back : Mute (returns (messageBook e m) (e .count + partsWritten e m) (returnedDetails e m)) =
+      mute-returns (messageBook e m) (e .count + partsWritten e m) (w .book .known) (w .book .account) (returned-sent (registerOf (e .register)) (w .details)) in
       tells-same (tells-join (tells-join t (tells-mute mute-judged)) (tells-mute back)) (omega arith)
 
   module _ (bank : ℕ) (f : Request) (s : bank < 2 ^ 64) where
     pub message-in : Tells (comesIn bank) f (messageText e m) (mine bank (bankOf m) (transferredBy m))
-    unfolding bookOf
-    message-in = tells-message (postings-in bank f s (registerOf (e .register)) (bookOf e m) (w .book) m (w .transferred) (w .detailed))
+    message-in = tells-message (postings-in bank f s (registerOf (e .register)) (messageBook e m) (w .book) m (w .transferred) (w .detailed))
 
     pub message-out : Tells (goesOut (registerOf (e .register) .temporary) bank) f (messageText e m) (mine bank (bankOf m) (detailedBy m))
-    unfolding bookOf
-    message-out = tells-message (postings-out bank f s (registerOf (e .register)) (bookOf e m) (w .book) m (w .transferred) (w .detailed))
+    message-out = tells-message (postings-out bank f s (registerOf (e .register)) (messageBook e m) (w .book) m (w .transferred) (w .detailed))

@@ -16,7 +16,7 @@ use Rattle.laws.specs.Writing.{Wrote, Left, left-turn, left-none, left-length}
 use Rattle.details.specs.Message.{detailsIn, detailAt}
 use Rattle.details.specs.Kept.{LinesIn, kept-next, kept-end}
 use Rattle.verdict.specs.Answers.{verdictOf, verdictBy, judgedIn}
-use Rattle.verdict.specs.Details.{VerdictsIn, judged-verdict, judged-read, judged-branch, judged-account, judged-baeref}
+use Rattle.verdict.specs.Details.{VerdictsIn, judged-verdict, judged-payer, judged-branch, judged-account, judged-baeref}
 use Rattle.verdict.specs.declared.Verdict.{Verdict}
 use Rattle.verdict.specs.declared.Verdict.the-variants.{Credited, Returned}
 use Rattle.verdict.specs.declared.detail.Judged as J
@@ -54,6 +54,10 @@ count-is s verdicts (suc k) i = go (isReturned (verdictOf (verdictBy (getD verdi
         → length (cond b (detailAt (detailsIn s) i ∷ returnedAt s verdicts (i + 1) k) (returnedAt s verdicts (i + 1) k)) ≡ cond b (countAt verdicts (i + 1) k + 1) (countAt verdicts (i + 1) k)
     go true e = rw e (omega arith)
     go false e = e
+
+-- one less than those from detail i on
+pub count-next : (s verdicts : List ℕ) (i k j m : ℕ) (d : Detail) → returnedAt s verdicts i k ≡ d ∷ returnedAt s verdicts j m → countAt verdicts i k ≡ countAt verdicts j m + 1
+count-next s verdicts i k j m d e = sym (count-is s verdicts k i) ∙ ap length e ∙ omega (arith, count-is s verdicts m j)
 
 -- where none is left
 pub count-none-left : (s verdicts : List ℕ) (i k : ℕ) → countAt verdicts i k ≡ 0 → returnedAt s verdicts i k ≡ []
@@ -142,16 +146,14 @@ module _ (verdicts : List ℕ) (n i r : ℕ) (l : Counting verdicts n i r) where
 pub record NextReturned (verdicts : List ℕ) (first n r : ℕ) : Type 0 where
   pub some : r < n
   pub same : (s : List ℕ) → returnedAt s verdicts first (n - first) ≡ detailAt (detailsIn s) r ∷ returnedAt s verdicts (r + 1) (n - (r + 1))
-  pub count : countAt verdicts first (n - first) ≡ countAt verdicts (r + 1) (n - (r + 1)) + 1
 
 -- from detail i on they are those from `first` on, of which there are some
 pub record Nexting (verdicts : List ℕ) (first n i : ℕ) : Type 0 where
   pub some : 0 < countAt verdicts i (n - i)
   pub same : (s : List ℕ) → returnedAt s verdicts first (n - first) ≡ returnedAt s verdicts i (n - i)
-  pub count : countAt verdicts first (n - first) ≡ countAt verdicts i (n - i)
 
 pub nexting-start : (verdicts : List ℕ) (first n : ℕ) → 0 < countAt verdicts first (n - first) → Nexting verdicts first n first
-nexting-start verdicts first n h = record { some = h; same = λ s. refl; count = refl }
+nexting-start verdicts first n h = record { some = h; same = λ s. refl }
 
 module _ (verdicts : List ℕ) (first n i : ℕ) (l : Nexting verdicts first n i) where
   pub nexting-end : n ≤ i → {r : ℕ} → NextReturned verdicts first n r
@@ -159,12 +161,10 @@ module _ (verdicts : List ℕ) (first n i : ℕ) (l : Nexting verdicts first n i
 
   module _ (h : i < n) (w : Verdict) (e : w ≡ verdictBy (getD verdicts i 0)) (b : Bool) (u : b ≡ isReturned (verdictOf w)) where
     pub nexting-found : b ≡ true → NextReturned verdicts first n i
-    nexting-found d = record { some = h; same = λ s. l .same s ∙ returned-one s verdicts n i h w e b u d; count = l .count ∙ count-one [] verdicts n i h w e b u d }
+    nexting-found d = record { some = h; same = λ s. l .same s ∙ returned-one s verdicts n i h w e b u d }
 
     pub nexting-pass : b ≡ false → Nexting verdicts first n (i + 1)
-    nexting-pass d =
-        let c : countAt verdicts i (n - i) ≡ countAt verdicts (i + 1) (n - (i + 1)) = count-none [] verdicts n i h w e b u d in
-        record { some = omega (arith, l .some); same = λ s. l .same s ∙ returned-none s verdicts n i h w e b u d; count = l .count ∙ c }
+    nexting-pass d = record { some = omega (arith, l .some, count-none [] verdicts n i h w e b u d); same = λ s. l .same s ∙ returned-none s verdicts n i h w e b u d }
 
 -- ---- past the first of them
 
@@ -239,13 +239,16 @@ module _ (s verdicts : List ℕ) (n i m : ℕ) {o at : ℕ} {out whole start : L
     pub rows-more : b ≡ true → (m ≡ 0 → ⊥) → {o' : ℕ} {out' : List ℕ}
         → Wrote (rowsOf s (j .branch) (j .account) (j .baeref)) o out o' out'
         → Left (allReturned (take (m - 1) (returnedAt s verdicts (i + 1) (n - (i + 1))))) o' out' whole at start
-    rows-more d z v = left-turn (rw (rows-step d z) at l) (rw (rows-kept s (detailAt (detailsIn s) i) (j .branch) (j .account) (j .baeref) (judged-read amounts places verdicts i j e s n k h) (judged-branch amounts places verdicts i j e s n k h) (judged-account amounts places verdicts i j e s n k h) (judged-baeref amounts places verdicts i j e s n k h)) at v)
+    rows-more d z v = left-turn (rw (rows-step d z) at l) (rw (rows-kept s (detailAt (detailsIn s) i) (j .branch) (j .account) (j .baeref) (k .each i h .read) (judged-branch amounts places verdicts i j e s n k h) (judged-account amounts places verdicts i j e s n k h) (judged-baeref amounts places verdicts i j e s n k h)) at v)
 
     pub rows-pass : b ≡ false → Left (allReturned (take m (returnedAt s verdicts (i + 1) (n - (i + 1))))) o out whole at start
     rows-pass d = rw (returned-none s verdicts n i h (j .verdict) verdict-is b u d) at l
 
 -- what a detail record says of its place
 module _ (s amounts places verdicts : List ℕ) (n i : ℕ) (k : LinesIn s places n) (h : i < n) (j : J.Judged) (e : j ≡ judgedIn amounts places verdicts i) where
+  pub payer-in : SpanIn s (j .payer)
+  payer-in = judged-payer amounts places verdicts i j e s n k h .inside
+
   pub branch-in : SpanIn s (j .branch)
   branch-in = judged-branch amounts places verdicts i j e s n k h .inside
 

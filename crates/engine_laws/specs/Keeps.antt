@@ -15,7 +15,7 @@ use Rattle.rules.specs.Register.{Register, register, registerOf}
 use Rattle.rules.specs.Verdict.{isReturned}
 use Rattle.rules.specs.Engine.{Position, Engine, limit, slashed, isBank, goodPositions, goodReference, goodReferences, within}
 use Rattle.rules.specs.Written.{partsOf}
-use Rattle.rules.specs.Calls.{firstOf, openStops, opened, badReference, misdated, bankOf, ownReference, addition, positionAfter, noRoom, overLimit, verdictOf, returnedOf, hasVerdict, partsWritten, messagesWritten, afterMessage, messageStops, turnStops, afterTurn}
+use Rattle.rules.specs.Calls.{firstOf, openStops, opened, badReference, misdated, bankOf, ownReference, addition, positionAfter, noRoom, overLimit, verdictOf, returnedOf, returnedDetails, hasVerdict, partsWritten, messagesWritten, afterMessage, messageStops, turnStops, afterTurn}
 use Rattle.laws.specs.Tests.{or-left, or-right}
 use Rattle.laws.specs.Order.{Sorted, ordered-sorted, sorted-ordered}
 use Rattle.rule_laws.specs.Clear.{OpenClear, open-clear, Clear, clear, TurnClear, turn-clear}
@@ -67,7 +67,7 @@ unfolding messagesWritten partsWritten
 writes-few e m h = go (hasVerdict m (positionAfter e m))
   where
     n : ℕ
-    n = length (returnedOf (registerOf (e .register)) (detailsOf m))
+    n = length (returnedDetails e m)
 
     few : n ≤ 16
     few = omega (arith, returned-few (registerOf (e .register)) (detailsOf m))

@@ -128,6 +128,10 @@ all-roomy = refl
 pub row-told : {k : ℕ} {r : Row} → k < 40 → r ≡ codeAt k → RowAt k r
 row-told {k} l e = record { same = e; room = rw e (leb-true _ _ (below-at roomy 40 all-roomy k l)) }
 
+pub heads-length : length heads ≡ 188
+unfolding heads
+heads-length = refl
+
 -- ---- no row takes an empty line
 
 abbrev takesNone : ℕ → Bool
@@ -139,10 +143,6 @@ all-take-none = refl
 
 pub row-some : {k : ℕ} → k < 40 → fitsRow (rowOf (codeAt k)) [] ≡ false
 row-some {k} l = not-true _ (below-at takesNone 40 all-take-none k l)
-
-pub heads-length : length heads ≡ 188
-unfolding heads
-heads-length = refl
 
 -- ---- the heads as numbers of four signs each
 

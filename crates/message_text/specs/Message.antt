@@ -7,11 +7,11 @@ use native.Mathlib.Nat.{sub-zero}
 use native.Mathlib.Omega.{arith}
 use lib.Dec.{leb}
 use lib.ListN.{length}
-use Rattle.rules.specs.Messages.{Message, Detail, dateOf, detailsOf}
+use Rattle.rules.specs.Messages.{Message, dateOf, detailsOf}
 use Rattle.rules.specs.Register.{register, registerOf}
 use Rattle.rules.specs.Engine.{Engine, Position, hasDetails}
-use Rattle.rules.specs.Written.{Book, mt199s, partsOf, verdicts, returns}
-use Rattle.rules.specs.Calls.{bankOf, hasVerdict, positionAfter, returnedOf, postings, messageText, partsWritten, messagesWritten}
+use Rattle.rules.specs.Written.{mt199s, partsOf, verdicts, returns}
+use Rattle.rules.specs.Calls.{bankOf, hasVerdict, positionAfter, returnedDetails, messageBook, postings, messageText, partsWritten, messagesWritten}
 use Rattle.rules.specs.Area.{decode}
 use Rattle.laws.specs.Writing.{Wrote, wrote-then}
 use Rattle.engine.specs.Totals.{TotalsOf}
@@ -19,7 +19,7 @@ use Rattle.engine.specs.Header.{HeaderOf}
 use Rattle.engine.specs.Texts.{RegisterOf}
 use Rattle.engine.specs.declared.header.Header.{Header}
 use Rattle.engine.specs.declared.lookup.Totals.{Totals}
-use Rattle.details.specs.Message.{messageIn, detailsIn}
+use Rattle.details.specs.Message.{messageIn}
 use Rattle.conditions.specs.Books.{Books, amountIf}
 use Rattle.conditions.specs.declared.booking.Booking.{Booking}
 use Rattle.verdict.specs.Details.{JudgedIn}
@@ -99,7 +99,7 @@ module _ (a s : List ℕ) (b : Booking) (k : Books s (messageIn s) b) (p : P.Pos
   pub due-told : (amounts places verdicts : List ℕ) → JudgedIn (decode a .register) s amounts places verdicts (b .count) → {n : ℕ} → ReturnedCount verdicts (b .count) n → {u : Due} → DueFor b p n u → DueIn (decode a) (messageIn s) u
   unfolding messagesWritten partsWritten
   due-told amounts places verdicts j {n} c {u} w =
-      let e : n ≡ length (returnedOf (registerOf (decode a .register)) (detailsIn s)) = count-paper (decode a .register) s places verdicts (b .count) n (j .lines-kept) (j .verdicts-kept) c in
+      let e : n ≡ length (returnedDetails (decode a) (messageIn s)) = count-paper (decode a .register) s places verdicts (b .count) n (j .lines-kept) (j .verdicts-kept) c in
       let f : u .parts ≡ partsWritten (decode a) (messageIn s) = w .parts .value ∙ rw (judged-is, e) refl in
       record { messages = w .messages ∙ rw (f, e); parts = f; details = w .details ∙ j .lines-kept .count; few = w .few }
 
@@ -117,27 +117,20 @@ pub record TextPut (e : Engine) (m : Message) (at : ℕ) (out : List ℕ) (r : N
   pub count : r .count ≡ e .count + messagesWritten e m
 
 module _ (e : Engine) (m : Message) where
-  -- what its lines share, and its returned details
-  abbrev book : Book
-  book = record { day = e .day; temporary = registerOf (e .register) .temporary; bank = bankOf m; date = dateOf m }
-
-  abbrev returnedIn : List Detail
-  returnedIn = returnedOf (registerOf (e .register)) (detailsOf m)
-
   -- as many parts as follow
-  verdict-is : (t : Bool) → cond t (verdicts (e .day) (e .count) (positionAfter e m) returnedIn) []
-      ≡ mt199s (cond t (partsOf (length returnedIn)) 0) (e .day) (e .count) (positionAfter e m) 1 (cond t (partsOf (length returnedIn)) 0) returnedIn
+  verdict-is : (t : Bool) → cond t (verdicts (e .day) (e .count) (positionAfter e m) (returnedDetails e m)) []
+      ≡ mt199s (cond t (partsOf (length (returnedDetails e m))) 0) (e .day) (e .count) (positionAfter e m) 1 (cond t (partsOf (length (returnedDetails e m))) 0) (returnedDetails e m)
   unfolding verdicts mt199s
   verdict-is true = refl
   verdict-is false = refl
 
   -- posting lines, and behind them what is due
   text-is : messageText e m
-      ≡ postings (registerOf (e .register)) book m ++ (mt199s (partsWritten e m) (e .day) (e .count) (positionAfter e m) 1 (partsWritten e m) returnedIn ++ returns book (e .count + partsWritten e m) returnedIn)
+      ≡ postings (registerOf (e .register)) (messageBook e m) m ++ (mt199s (partsWritten e m) (e .day) (e .count) (positionAfter e m) 1 (partsWritten e m) (returnedDetails e m) ++ returns (messageBook e m) (e .count + partsWritten e m) (returnedDetails e m))
   unfolding messageText partsWritten
   text-is =
-      ap (λ (l : List ℕ). postings (registerOf (e .register)) book m ++ l ++ returns book (e .count + partsWritten e m) returnedIn) (verdict-is (hasVerdict m (positionAfter e m)))
-      ∙ append-assoc (postings (registerOf (e .register)) book m) (mt199s (partsWritten e m) (e .day) (e .count) (positionAfter e m) 1 (partsWritten e m) returnedIn) (returns book (e .count + partsWritten e m) returnedIn)
+      ap (λ (l : List ℕ). postings (registerOf (e .register)) (messageBook e m) m ++ l ++ returns (messageBook e m) (e .count + partsWritten e m) (returnedDetails e m)) (verdict-is (hasVerdict m (positionAfter e m)))
+      ∙ append-assoc (postings (registerOf (e .register)) (messageBook e m) m) (mt199s (partsWritten e m) (e .day) (e .count) (positionAfter e m) 1 (partsWritten e m) (returnedDetails e m)) (returns (messageBook e m) (e .count + partsWritten e m) (returnedDetails e m))
 
 module _ (a s text : List ℕ) (g : RegisterOf a text) {amounts places verdicts : List ℕ} {n : ℕ} (j : JudgedIn (decode a .register) s amounts places verdicts n) where
   pub judged-here : JudgedIn text s amounts places verdicts n

@@ -13,12 +13,12 @@ use Rattle.rules.specs.Engine.{Position}
 use Rattle.rules.specs.Written.{Book, mt199, mt199s, returnOf, returns}
 use Rattle.laws.specs.Writing.{Wrote, Left, left-turn, left-none, left-length, furthest}
 use Rattle.laws.specs.Pieces.{left-all}
-use Rattle.detail_lines.specs.Returned.{returnedAt, countAt, count-none-left}
+use Rattle.detail_lines.specs.Returned.{returnedAt, countAt, count-next, count-none-left}
 use Rattle.outgoing_number.specs.declared.Numbered.{Numbered}
 use Rattle.outgoing_number.specs.declared.Outgoing.{Outgoing}
 use Rattle.outgoing_number.specs.declared.Reference.{Reference}
 use Rattle.outgoing_number.specs.Issue.{Steps}
-use Rattle.message_text.specs.Parts.{partAt, Placed, PartDue, PartPut}
+use Rattle.message_text.specs.Parts.{placeAmong, Placed, PartDue, PartPut}
 use Rattle.message_text.specs.Returns.{WrittenFrom, ReturnDue, ReturnPut}
 use Rattle.message_text.specs.Postings.{bookFor}
 use Rattle.message_text.specs.declared.numbered.Due.{Due}
@@ -31,14 +31,14 @@ pub record NextDue (r : Reference) (u : Due) (text s amounts places verdicts : L
   pub from : WrittenFrom u text s amounts places
   pub placed : Placed r u t
   pub within : t .listed ≤ u .details
-  pub kept : 2 ≤ partAt u t → partAt u t ≤ u .parts → t .first + partAt u t ≡ r .number + 1
-  pub waiting : u .parts < partAt u t → 0 < countAt verdicts (t .returned) (u .details - t .returned)
+  pub kept : 2 ≤ placeAmong u t → placeAmong u t ≤ u .parts → t .first + placeAmong u t ≡ r .number + 1
+  pub waiting : u .parts < placeAmong u t → 0 < countAt verdicts (t .returned) (u .details - t .returned)
 
 -- it was written, and t' is where the messages then stand
 pub record NextPut (r : Reference) (p : Position) (u : Due) (text s verdicts : List ℕ) (t : Progress) (out : List ℕ) (t' : Progress) (out' : List ℕ) : Type 0 where
   pub fewer : t' .left ≡ t .left - 1
-  pub part : partAt u t ≤ u .parts → PartPut r p u s verdicts t out t' out'
-  pub return : u .parts < partAt u t → ReturnPut r p u text s verdicts t out t' out'
+  pub part : placeAmong u t ≤ u .parts → PartPut r p u s verdicts t out t' out'
+  pub return : u .parts < placeAmong u t → ReturnPut r p u text s verdicts t out t' out'
 
 module _ (r : Reference) (u : Due) (text s amounts places verdicts : List ℕ) (t : Progress) where
   pub next-part : NextDue r u text s amounts places verdicts t → u .messages - t .left < u .parts → PartDue r u s places t
@@ -84,7 +84,7 @@ returnsLeft u t = min (t .left) (u .messages - u .parts)
 -- the text that is left
 abbrev pub textLeft : ℕ → ℕ → Position → Due → List ℕ → List ℕ → List ℕ → Progress → List ℕ
 textLeft day count p u text s verdicts t =
-    partsAndReturns day count p u text s verdicts (t .left - (u .messages - u .parts)) (partAt u t) (t .listed) (count + u .messages - returnsLeft u t) (t .returned)
+    partsAndReturns day count p u text s verdicts (t .left - (u .messages - u .parts)) (placeAmong u t) (t .listed) (count + u .messages - returnsLeft u t) (t .returned)
 
 -- by the outgoing number as it is kept, the messages from t on are left to write
 pub record MessagesLeft (day count : ℕ) (p : Position) (u : Due) (text s amounts places verdicts : List ℕ) (at : ℕ) (start : List ℕ) (o : Outgoing) (t : Progress) (out : List ℕ) : Type 0 where
@@ -93,7 +93,7 @@ pub record MessagesLeft (day count : ℕ) (p : Position) (u : Due) (text s amoun
   pub kept : o .count + t .left ≡ count + u .messages
   pub left-few : t .left ≤ u .messages
   pub within : t .listed ≤ u .details
-  pub first : 2 ≤ partAt u t → partAt u t ≤ u .parts → t .first ≡ count + 1
+  pub first : 2 ≤ placeAmong u t → placeAmong u t ≤ u .parts → t .first ≡ count + 1
   pub waiting : countAt verdicts (t .returned) (u .details - t .returned) ≡ returnsLeft u t
   pub unwritten : Left (textLeft day count p u text s verdicts t) (t .out) out (allMessages day count p u text s verdicts) at start
 
@@ -108,11 +108,12 @@ module _ (left less n : ℕ) (f : less ≡ left - 1) where
   part-same h = omega arith
 
   -- a return was written
-  return-before : left ≤ n → min left n ≡ left
-  return-before h = omega arith
-
   return-fewer : left ≤ n → min less n ≡ left - 1
   return-fewer h = omega arith
+
+-- all that are left are returns
+all-returns : (left n : ℕ) → left ≤ n → min left n ≡ left
+all-returns left n h = omega arith
 
 -- the number issued, of n when all are written
 module _ (o left n : ℕ) (e : o + left ≡ n) where
@@ -185,49 +186,49 @@ module _ {day count : ℕ} {p : Position} {u : Due} {text s amounts places verdi
     }
 
     module _ {t' : Progress} {out' : List ℕ} (w : NextPut r p u text s verdicts t out t' out') where
-      place-next : partAt u t' ≡ partAt u t + 1
+      place-next : placeAmong u t' ≡ placeAmong u t + 1
       place-next = omega (arith, w .fewer, l .left-few)
 
       -- a part was due, or a return
-      parts-left : partAt u t ≤ u .parts → u .messages - u .parts < t .left
+      parts-left : placeAmong u t ≤ u .parts → u .messages - u .parts < t .left
       parts-left k = omega (arith, l .left-few, h)
 
-      none-left : u .parts < partAt u t → t .left ≤ u .messages - u .parts
+      none-left : u .parts < placeAmong u t → t .left ≤ u .messages - u .parts
       none-left k = omega (arith, l .left-few, h)
 
       -- the text behind a part
-      after-part : partAt u t ≤ u .parts → Left (textLeft day count p u text s verdicts t') (t' .out) out' (allMessages day count p u text s verdicts) at start
+      after-part : placeAmong u t ≤ u .parts → Left (textLeft day count p u text s verdicts t') (t' .out) out' (allMessages day count p u text s verdicts) at start
       after-part k =
           let x : PartPut r p u s verdicts t out t' out' = w .part k in
-          let e : r .number - partAt u t ≡ count = omega (arith, number-is, l .kept, l .left-few) in
+          let e : r .number - placeAmong u t ≡ count = omega (arith, number-is, l .kept, l .left-few) in
           let c : 0 < t .left - (u .messages - u .parts) = omega (arith, parts-left k) in
           rw (part-fewer (t .left) (t' .left) (u .messages - u .parts) (w .fewer) (parts-left k), part-same (t .left) (t' .left) (u .messages - u .parts) (w .fewer) (parts-left k), place-next, x .returned, x .skipped .same)
-          (left-turn (rw (parts-step day count p (t .left - (u .messages - u .parts)) (partAt u t) (u .parts) (returnedAt s verdicts (t .listed) (u .details - t .listed)) _ c) at (l .unwritten)) (rw (e, day-is) at (x .wrote)))
+          (left-turn (rw (parts-step day count p (t .left - (u .messages - u .parts)) (placeAmong u t) (u .parts) (returnedAt s verdicts (t .listed) (u .details - t .listed)) _ c) at (l .unwritten)) (rw (e, day-is) at (x .wrote)))
 
       -- the text behind a return
-      after-return : u .parts < partAt u t → Left (textLeft day count p u text s verdicts t') (t' .out) out' (allMessages day count p u text s verdicts) at start
+      after-return : u .parts < placeAmong u t → Left (textLeft day count p u text s verdicts t') (t' .out) out' (allMessages day count p u text s verdicts) at start
       after-return k =
           let x : ReturnPut r p u text s verdicts t out t' out' = w .return k in
           let a : t .left - (u .messages - u .parts) ≡ 0 = omega (arith, none-left k) in
           let b : t' .left - (u .messages - u .parts) ≡ 0 = omega (arith, none-left k, w .fewer) in
           let m : count + u .messages - t .left + 1 ≡ r .number = number-before (o .count) (t .left) _ (l .kept) ∙ sym number-is in
           let n : count + u .messages - (t .left - 1) ≡ r .number = number-behind (o .count) (t .left) _ (l .kept) h ∙ sym number-is in
-          rw (parts-done day count p (t' .left - (u .messages - u .parts)) (partAt u t') (u .parts) (returnedAt s verdicts (t' .listed) (u .details - t' .listed)) _ b, return-fewer (t .left) (t' .left) (u .messages - u .parts) (w .fewer) (none-left k), n)
+          rw (parts-done day count p (t' .left - (u .messages - u .parts)) (placeAmong u t') (u .parts) (returnedAt s verdicts (t' .listed) (u .details - t' .listed)) _ b, return-fewer (t .left) (t' .left) (u .messages - u .parts) (w .fewer) (none-left k), n)
           (left-turn
           (rw m at (rw (
-            parts-done day count p (t .left - (u .messages - u .parts)) (partAt u t) (u .parts) (returnedAt s verdicts (t .listed) (u .details - t .listed)) _ a,
-            return-before (t .left) (t' .left) (u .messages - u .parts) (w .fewer) (none-left k),
+            parts-done day count p (t .left - (u .messages - u .parts)) (placeAmong u t) (u .parts) (returnedAt s verdicts (t .listed) (u .details - t .listed)) _ a,
+            all-returns (t .left) (u .messages - u .parts) (none-left k),
             x .next,
             returns-step (bookFor day text p) (count + u .messages - t .left) (x .detail) (returnedAt s verdicts (t' .returned) (u .details - t' .returned)),
           ) at (l .unwritten)))
           (rw day-is at (x .wrote)))
 
       pub messages-turn : MessagesLeft day count p u text s amounts places verdicts at start o' t' out'
-      messages-turn = rw (i .kept) (go (leb (partAt u t) (u .parts)) refl)
+      messages-turn = rw (i .kept) (go (leb (placeAmong u t) (u .parts)) refl)
         where
-          go : (b : Bool) → leb (partAt u t) (u .parts) ≡ b → MessagesLeft day count p u text s amounts places verdicts at start (record { day = o .day; count = o .count + 1 }) t' out'
+          go : (b : Bool) → leb (placeAmong u t) (u .parts) ≡ b → MessagesLeft day count p u text s amounts places verdicts at start (record { day = o .day; count = o .count + 1 }) t' out'
           go true e =
-              let k : partAt u t ≤ u .parts = leb-true _ _ e in
+              let k : placeAmong u t ≤ u .parts = leb-true _ _ e in
               let x : PartPut r p u s verdicts t out t' out' = w .part k in
               record {
                 due = l .due;
@@ -240,7 +241,7 @@ module _ {day count : ℕ} {p : Position} {u : Due} {text s amounts places verdi
                 unwritten = after-part k;
               }
           go false e =
-              let k : u .parts < partAt u t = leb-false _ _ e in
+              let k : u .parts < placeAmong u t = leb-false _ _ e in
               let x : ReturnPut r p u text s verdicts t out t' out' = w .return k in
               record {
                 due = l .due;
@@ -249,7 +250,7 @@ module _ {day count : ℕ} {p : Position} {u : Due} {text s amounts places verdi
                 left-few = omega (arith, l .left-few, w .fewer);
                 within = rw (x .listed) (l .within);
                 first = λ y z. absurd (omega (arith, place-next));
-                waiting = omega (arith, x .count, l .waiting, return-before (t .left) (t' .left) (u .messages - u .parts) (w .fewer) (none-left k), return-fewer (t .left) (t' .left) (u .messages - u .parts) (w .fewer) (none-left k));
+                waiting = omega (arith, count-next s verdicts (t .returned) (u .details - t .returned) (t' .returned) (u .details - t' .returned) (x .detail) (x .next), l .waiting, all-returns (t .left) (u .messages - u .parts) (none-left k), return-fewer (t .left) (t' .left) (u .messages - u .parts) (w .fewer) (none-left k));
                 unwritten = after-return k;
               }
 
@@ -259,7 +260,7 @@ module _ {day count : ℕ} {p : Position} {u : Due} {text s amounts places verdi
       let z : countAt verdicts (t .returned) (u .details - t .returned) ≡ 0 = omega (arith, l .waiting) in
       record {
         wrote = left-none (rw (
-          parts-done day count p (t .left - (u .messages - u .parts)) (partAt u t) (u .parts) (returnedAt s verdicts (t .listed) (u .details - t .listed)) _ a,
+          parts-done day count p (t .left - (u .messages - u .parts)) (placeAmong u t) (u .parts) (returnedAt s verdicts (t .listed) (u .details - t .listed)) _ a,
           count-none-left s verdicts (t .returned) (u .details - t .returned) z,
           returns-done,
         ) at (l .unwritten));

@@ -37,22 +37,22 @@ parts-more returned n h = record { value = rw (ne-eqb returned 0 n); few = omega
 -- ---- one part, with the next 14 of the returned details
 
 -- its place among the messages, so many being left
-abbrev pub partAt : Due → Progress → ℕ
-partAt u t = u .messages - t .left + 1
+abbrev pub placeAmong : Due → Progress → ℕ
+placeAmong u t = u .messages - t .left + 1
 
 -- a message is next by the reference r, whose number is no less than its place
 pub record Placed (r : Reference) (u : Due) (t : Progress) : Type 0 where
   pub some : 0 < t .left
   pub left-few : t .left ≤ u .messages
   pub few : u .messages ≤ 18
-  pub numbered : partAt u t ≤ r .number
+  pub numbered : placeAmong u t ≤ r .number
 
 -- a part is due by the reference r: its number is that of part 1 with the parts since, and from part 2 on that of part 1 is kept
 pub record PartDue (r : Reference) (u : Due) (s places : List ℕ) (t : Progress) : Type 0 where
   pub placed : Placed r u t
   pub lines : LinesIn s places (u .details)
   pub within : t .listed ≤ u .details
-  pub kept : 2 ≤ partAt u t → t .first + partAt u t ≡ r .number + 1
+  pub kept : 2 ≤ placeAmong u t → t .first + placeAmong u t ≡ r .number + 1
 
 -- the number of part 1, by which part this is
 pub record FirstOf (part number kept first : ℕ) : Type 0 where
@@ -65,33 +65,33 @@ first-own part number kept h = record { own = λ _. refl; other = λ l. absurd (
 pub first-other : (part number kept : ℕ) → 2 ≤ part → FirstOf part number kept kept
 first-other part number kept h = record { own = λ l. absurd (omega arith); other = λ _. refl }
 
-module _ {r : Reference} {u : Due} {s places : List ℕ} {t : Progress} (d : PartDue r u s places t) {first : ℕ} (f : FirstOf (partAt u t) (r .number) (t .first) first) where
-  pub first-is : first + partAt u t ≡ r .number + 1
-  first-is = go (leb 2 (partAt u t)) refl
+module _ {r : Reference} {u : Due} {s places : List ℕ} {t : Progress} (d : PartDue r u s places t) {first : ℕ} (f : FirstOf (placeAmong u t) (r .number) (t .first) first) where
+  pub first-is : first + placeAmong u t ≡ r .number + 1
+  first-is = go (leb 2 (placeAmong u t)) refl
     where
-      go : (b : Bool) → leb 2 (partAt u t) ≡ b → first + partAt u t ≡ r .number + 1
-      go true e = let l : 2 ≤ partAt u t = leb-true 2 (partAt u t) e in omega (arith, f .other l, d .kept l)
-      go false e = let l : partAt u t < 2 = leb-false 2 (partAt u t) e in omega (arith, f .own l)
+      go : (b : Bool) → leb 2 (placeAmong u t) ≡ b → first + placeAmong u t ≡ r .number + 1
+      go true e = let l : 2 ≤ placeAmong u t = leb-true 2 (placeAmong u t) e in omega (arith, f .other l, d .kept l)
+      go false e = let l : placeAmong u t < 2 = leb-false 2 (placeAmong u t) e in omega (arith, f .own l)
 
   pub first-some : 0 < first
   first-some = omega (arith, first-is, d .placed .numbered)
 
 -- it was written, and t' is where the messages then stand
 pub record PartPut (r : Reference) (p : Position) (u : Due) (s verdicts : List ℕ) (t : Progress) (out : List ℕ) (t' : Progress) (out' : List ℕ) : Type 0 where
-  pub wrote : Wrote (mt199 (r .day) (r .number - partAt u t) p (partAt u t) (u .parts) (take 14 (returnedAt s verdicts (t .listed) (u .details - t .listed)))) (t .out) out (t' .out) out'
+  pub wrote : Wrote (mt199 (r .day) (r .number - placeAmong u t) p (placeAmong u t) (u .parts) (take 14 (returnedAt s verdicts (t .listed) (u .details - t .listed)))) (t .out) out (t' .out) out'
   pub skipped : DetailsSkipped s verdicts (t .listed) (u .details) 14 (t' .listed)
   pub fewer : t' .left ≡ t .left - 1
-  pub first : t' .first + partAt u t ≡ r .number + 1
+  pub first : t' .first + placeAmong u t ≡ r .number + 1
   pub returned : t' .returned ≡ t .returned
 
-module _ (r : Reference) (p : Position) (u : Due) (s verdicts : List ℕ) (t : Progress) {first a b e : ℕ} {c : Place} {places out out₁ out₂ out₃ out₄ : List ℕ} (d : PartDue r u s places t) (f : FirstOf (partAt u t) (r .number) (t .first) first) where
-  pub part-wrote : Wrote (firstLine (ascii "199") (p .key .bank) ++ field (ascii ":20:") (reference (r .day) (r .number)) ++ linked (r .day) (first - 1) (partAt u t)) (t .out) out a out₁ → Wrote (position79 (p .key .date) (p .transferred) (p .detailed)) a out₁ b out₂
-      → RowsPut s verdicts (t .listed) (u .details) 14 b out₂ c out₃ → Wrote (closed79 (partAt u t) (u .parts)) (c .out) out₃ e out₄
+module _ (r : Reference) (p : Position) (u : Due) (s verdicts : List ℕ) (t : Progress) {first a b e : ℕ} {c : Place} {places out out₁ out₂ out₃ out₄ : List ℕ} (d : PartDue r u s places t) (f : FirstOf (placeAmong u t) (r .number) (t .first) first) where
+  pub part-wrote : Wrote (firstLine (ascii "199") (p .key .bank) ++ field (ascii ":20:") (reference (r .day) (r .number)) ++ linked (r .day) (first - 1) (placeAmong u t)) (t .out) out a out₁ → Wrote (position79 (p .key .date) (p .transferred) (p .detailed)) a out₁ b out₂
+      → RowsPut s verdicts (t .listed) (u .details) 14 b out₂ c out₃ → Wrote (closed79 (placeAmong u t) (u .parts)) (c .out) out₃ e out₄
       → PartPut r p u s verdicts t out (record { out = e; left = t .left - 1; first = first; listed = c .at; returned = t .returned }) out₄
   unfolding mt199
   part-wrote v w x y =
-      let i : first - 1 ≡ r .number - partAt u t = omega (arith, first-is d f, d .placed .numbered) in
-      let j : r .number - partAt u t + partAt u t ≡ r .number = omega (arith, d .placed .numbered) in
+      let i : first - 1 ≡ r .number - placeAmong u t = omega (arith, first-is d f, d .placed .numbered) in
+      let j : r .number - placeAmong u t + placeAmong u t ≡ r .number = omega (arith, d .placed .numbered) in
       record { wrote = rw j (wrote-4 (rw i at v) w (x .wrote) y); skipped = x .skipped; fewer = refl; first = first-is d f; returned = refl }
 
 pub ruleset parting = (left-length, parts-one, parts-more, first-own, first-other, first-some, part-wrote)

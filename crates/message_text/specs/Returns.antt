@@ -13,14 +13,14 @@ use Rattle.rules.specs.Written.{return103, returnOf}
 use Rattle.laws.specs.Parts.{cut}
 use Rattle.laws.specs.Writing.{Wrote, left-length}
 use Rattle.register.specs.Passed.{temporary-at}
-use Rattle.forms.specs.Spans.{spanOf, SpanIn}
+use Rattle.forms.specs.Spans.{spanOf}
 use Rattle.details.specs.Message.{detailsIn, detailAt}
 use Rattle.details.specs.Kept.{LinesIn, AmountsIn}
 use Rattle.verdict.specs.Answers.{judgedIn}
 use Rattle.verdict.specs.Details.{judged-payer, judged-branch}
 use Rattle.verdict.specs.declared.detail.Judged.{Judged}
 use Rattle.written.specs.Values.{bookOf}
-use Rattle.detail_lines.specs.Returned.{returnedAt, countAt, NextReturned}
+use Rattle.detail_lines.specs.Returned.{returnedAt, countAt, NextReturned, payer-in, branch-in}
 use Rattle.detail_lines.specs.Returns.{return-kept}
 use Rattle.outgoing_number.specs.declared.Reference.{Reference}
 use Rattle.message_text.specs.Postings.{bookFor}
@@ -44,7 +44,6 @@ pub record ReturnDue (u : Due) (text s amounts places verdicts : List ℕ) (t : 
 pub record ReturnPut (r : Reference) (p : Position) (u : Due) (text s verdicts : List ℕ) (t : Progress) (out : List ℕ) (t' : Progress) (out' : List ℕ) : Type 0 where
   pub detail : Detail
   pub next : returnedAt s verdicts (t .returned) (u .details - t .returned) ≡ detail ∷ returnedAt s verdicts (t' .returned) (u .details - t' .returned)
-  pub count : countAt verdicts (t .returned) (u .details - t .returned) ≡ countAt verdicts (t' .returned) (u .details - t' .returned) + 1
   pub wrote : Wrote (returnOf (bookFor (r .day) text p) (r .number) detail) (t .out) out (t' .out) out'
   pub fewer : t' .left ≡ t .left - 1
   pub listed : t' .listed ≡ t .listed
@@ -54,12 +53,6 @@ module _ (u : Due) (text s amounts places verdicts : List ℕ) (t : Progress) (d
   next-few = omega (arith, n .some, d .from .lines .few)
 
   module _ (j : Judged) (e : j ≡ judgedIn amounts places verdicts i) where
-    pub branch-in : SpanIn s (j .branch)
-    branch-in = judged-branch amounts places verdicts i j e s (u .details) (d .from .lines) (n .some) .inside
-
-    pub payer-in : SpanIn s (j .payer)
-    payer-in = judged-payer amounts places verdicts i j e s (u .details) (d .from .lines) (n .some) .inside
-
     amount-is : j .amount ≡ detailAt (detailsIn s) i .amount
     unfolding judgedIn
     amount-is = rw e (d .from .amounts-kept .each i (n .some))
@@ -71,7 +64,6 @@ module _ (u : Due) (text s amounts places verdicts : List ℕ) (t : Progress) (d
     return-put r p w = record {
       detail = detailAt (detailsIn s) i;
       next = n .same s;
-      count = n .count;
       wrote = rw (
         ← return-kept s (bookFor (r .day) text p) (r .number) (j .amount) (detailAt (detailsIn s) i) (j .branch) (j .payer) amount-is (judged-branch amounts places verdicts i j e s (u .details) (d .from .lines) (n .some)) (judged-payer amounts places verdicts i j e s (u .details) (d .from .lines) (n .some)),
         temporary-at text (d .from .passes),

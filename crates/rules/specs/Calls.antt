@@ -150,10 +150,18 @@ overLimit e m = not (leb (positionAfter e m .transferred) limit) || not (leb (po
 abbrev pub verdictOf : Register → Detail → Verdict
 verdictOf r d = verdict r (account59 d)
 
--- "each returned detail of this message"
+-- the returned of some details
 unfoldable pub returnedOf : Register → List Detail → List Detail
 returnedOf r [] = []
 returnedOf r (d ∷ ds) = let more = returnedOf r ds in cond (isReturned (verdictOf r d)) (d ∷ more) more
+
+-- "each returned detail of this message"
+abbrev pub returnedDetails : Engine → Message → List Detail
+returnedDetails e m = returnedOf (registerOf (e .register)) (detailsOf m)
+
+-- what the posting lines and the returns of a message share
+abbrev pub messageBook : Engine → Message → Book
+messageBook e m = record { day = e .day; temporary = registerOf (e .register) .temporary; bank = bankOf m; date = dateOf m }
 
 -- the posting line of a detail by its verdict
 unfoldable pub detailPosting : Register → Book → Detail → Verdict → List ℕ
@@ -177,20 +185,19 @@ hasVerdict (mt101 o) p = true
 
 -- how many parts it has
 unfoldable pub partsWritten : Engine → Message → ℕ
-partsWritten e m = cond (hasVerdict m (positionAfter e m)) (partsOf (length (returnedOf (registerOf (e .register)) (detailsOf m)))) 0
+partsWritten e m = cond (hasVerdict m (positionAfter e m)) (partsOf (length (returnedDetails e m))) 0
 
 -- how many messages are written: its parts and the returns
 unfoldable pub messagesWritten : Engine → Message → ℕ
-messagesWritten e m = partsWritten e m + length (returnedOf (registerOf (e .register)) (detailsOf m))
+messagesWritten e m = partsWritten e m + length (returnedDetails e m)
 
 -- all that an accepted message makes the card write: posting lines, then the parts of the MT199, "After the MT199 parts" the returns
 unfoldable pub messageText : Engine → Message → List ℕ
 messageText e m =
-    let r = registerOf (e .register) in
     let p = positionAfter e m in
-    let b : Book = record { day = e .day; temporary = r .temporary; bank = bankOf m; date = dateOf m } in
-    let ds = returnedOf r (detailsOf m) in
-    postings r b m ++ cond (hasVerdict m p) (verdicts (e .day) (e .count) p ds) [] ++ returns b (e .count + partsWritten e m) ds
+    postings (registerOf (e .register)) (messageBook e m) m
+    ++ cond (hasVerdict m p) (verdicts (e .day) (e .count) p (returnedDetails e m)) []
+    ++ returns (messageBook e m) (e .count + partsWritten e m) (returnedDetails e m)
 
 -- the engine after the message
 unfoldable pub afterMessage : Engine → Message → Engine

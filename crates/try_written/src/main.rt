@@ -2,6 +2,8 @@
 use position::Key;
 use position::Position;
 use written::Book;
+ghost use Prim.Native.Nat.{_≤_};
+ghost use lib.ListN.{length};
 
 // The output up to a place.
 fn say(out: &[u8], n: usize) {
@@ -72,17 +74,23 @@ fn try_second_part() {
     say(&out, c);
 }
 
+// A return, by its number and amount and the lines of 52D and 50H.
+fn say_return(book: Book, temporary: &[u8], n: u32, v: u64, lines52d: &[u8], lines50h: &[u8])
+    requires { ⌜ 22 ≤ length (now temporary) ⌝ }
+{
+    let mut out = [0u8; 512];
+    let a = written::put_return(&mut out, 0, book, temporary, n, v, lines52d, lines50h);
+    say(&out, a);
+}
+
 // The return of the listing.
 fn try_return() {
-    let mut out = [0u8; 512];
     let book = Book {
         day: 60302,
         bank: text::read_be(b"AAAABGSF", 0, 8),
         date: 60302,
     };
-    let a = written::put_return(
-        &mut out,
-        0,
+    say_return(
         book,
         b"BG80BNBG96611020345678",
         2,
@@ -90,20 +98,16 @@ fn try_return() {
         b"AAAA1231\r\nBANKA A\r\n",
         b"/BG33AAAA12311012345678PAY000001\r\nPREDPRIATIE\r\n",
     );
-    say(&out, a);
 }
 
 // Five stotinki, returned on a later day than the centralisation date, from another temporary account, to a payer of three further lines.
 fn try_small_return() {
-    let mut out = [0u8; 512];
     let book = Book {
         day: 40607,
         bank: text::read_be(b"ZHSRPL8S", 0, 8),
         date: 40305,
     };
-    let a = written::put_return(
-        &mut out,
-        0,
+    say_return(
         book,
         b"BG40CCCC111110ABCDEFGH",
         19,
@@ -111,20 +115,16 @@ fn try_small_return() {
         b"ZHSR0000\r\nKLON\r\n",
         b"/BG33AAAA12311012345678PAY000001\r\nIME\r\nULICA 1\r\nSOFIA\r\n",
     );
-    say(&out, a);
 }
 
 // The largest amount of 15 characters, to a branch and a payer whose lines have bytes up to 255.
 fn try_large_return() {
-    let mut out = [0u8; 512];
     let book = Book {
         day: 51108,
         bank: text::read_be(b"FBBMXFIK", 0, 8),
         date: 51107,
     };
-    let a = written::put_return(
-        &mut out,
-        0,
+    say_return(
         book,
         b"BG18BNBG96611633648985",
         1184,
@@ -132,7 +132,6 @@ fn try_large_return() {
         b"FBBM1234\r\n\x80\xc1\xff\r\n",
         b"/BG33AAAA12311012345678PAY999999\r\n\xff \xe0\r\n",
     );
-    say(&out, a);
 }
 
 fn main() {

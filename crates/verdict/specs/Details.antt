@@ -12,7 +12,6 @@ use Rattle.rules.specs.Forms.{detail50H, detail52D, detail59, detailBaeref}
 use Rattle.rules.specs.Messages.{past, account59}
 use Rattle.rules.specs.Register.{register, registerOf}
 use Rattle.rules.specs.Verdict.{verdict}
-use Rattle.rule_laws.specs.Messages.{DetailRead}
 use Rattle.register.specs.Passed.{text-count, accounts-count}
 use Rattle.forms.specs.Spans.{spanOf, SpanIn}
 use Rattle.forms.specs.Fields.{Behind, behind-in, behind-bytes}
@@ -93,9 +92,6 @@ module _ (amounts places verdicts : List ℕ) (i : ℕ) (r : Judged) (e : r ≡ 
   judged-verdict = rw e
 
   module _ (s : List ℕ) (n : ℕ) (k : LinesIn s places n) (h : i < n) where
-    pub judged-read : DetailRead (detailAt (detailsIn s) i)
-    judged-read = k .each i h .read
-
     pub judged-payer : RowsOf s (detailAt (detailsIn s) i) detail50H 4 (r .payer)
     unfolding judgedIn
     judged-payer = rw e (k .each i h .payer)
