@@ -1,11 +1,12 @@
 #!/usr/bin/env python3
 """Writes days, inputs of the replay program, whose last call is one that costs the card most into a folder: heaviest.py FOLDER
 
-A full book has 32 positions, each with details of the largest amount, and 63 messages of one sender; the register has 40 account lines. A large
+A full book has 32 positions, each with details of the largest amount, and 63 messages of one sender; the register has 40 account lines, and there are
+60 holidays, all around the day, so that most begin with its digits. A large
 message has 4,096 bytes and 16 details, each with every line of text that it may have; what is left of the bytes goes first to those lines that the
 MT103 of a return repeats. Where all details are returned, the card writes 16 posting lines, two MT199 and 16 MT103.
 
-  opening       an opening with this register
+  opening       an opening with this register and these holidays
   returned      a large message for the last position of a full book, all details returned
   opened        the same with 31 positions; the message opens the one that stands before all others
   credited      as `returned`, with all details credited to the register's last account
@@ -20,7 +21,8 @@ import os
 import sys
 
 DAYS = ["0602%02d" % d for d in range(1, 29)] + ["0603%02d" % d for d in range(1, 6)]
-TODAY, TOMORROW = "060305", "060306"
+TODAY, TOMORROW = "060306", "060307"
+HOLIDAYS = ",".join(d for d in DAYS[:28] + ["0603%02d" % d for d in range(1, 32)] + ["0604%02d" % d for d in range(1, 4)] if d not in (TODAY, TOMORROW))
 SENDER = "AAAABGSF"
 ACCOUNTS = 41
 LARGE = 99  # the large message's number; the others count from 0
@@ -67,7 +69,7 @@ class Kind:
         return lines(self.accounts[:1] + [account + ",500000,500000" for account in self.accounts[1:]])
 
     def opening(self):
-        return "O,%s,%d\r\n%s" % (TODAY, len(self.register()), self.register())
+        return "O,%s,%d,%d\r\n%s%s" % (TODAY, len(self.register()), len(HOLIDAYS), self.register(), HOLIDAYS)
 
     def detail(self, number, amount, date, account, texts):
         """A detail; `texts` are the lines of text of 50H, 52D, 59 and 70."""

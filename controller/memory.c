@@ -29,9 +29,8 @@ void *memmove(void *to, const void *from, size_t n) {
 void *memset(void *to, int value, size_t n) {
   uint8_t *t = to;
   uint32_t word = (uint8_t)value * 0x01010101u;
-  if (is_word((uintptr_t)t)) {
-    for (; n >= 4; n -= 4, t += 4) *(uint32_t *)t = word;
-  }
+  for (; n > 0 && !is_word((uintptr_t)t); n--) *t++ = (uint8_t)value;
+  for (; n >= 4; n -= 4, t += 4) *(uint32_t *)t = word;
   for (; n > 0; n--) *t++ = (uint8_t)value;
   return to;
 }

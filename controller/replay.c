@@ -28,7 +28,8 @@ static uint32_t instructions_of_nothing;
 static void nothing(void) {}
 
 static void call_open(void) {
-  call.number = card_open(command.text, command.length, command.day, card_area, CARD_AREA, &call.written, &call.difference);
+  call.number = card_open(command.text, command.length, command.list, command.list_length, command.day, card_area, CARD_AREA, &call.written,
+                          &call.difference);
 }
 
 static void call_message(void) {

@@ -30,7 +30,7 @@ struct lent {
   uint8_t before[GUARD + CARD_OUTPUT + GUARD];
 };
 
-static struct lent area_memory, output_memory, text_memory;
+static struct lent area_memory, output_memory, text_memory, list_memory;
 static struct command commands[MOST_COMMANDS];
 static size_t command_count;
 static uint64_t answered[32];
@@ -72,8 +72,8 @@ static size_t damage(uint8_t *text, size_t length) {
 
 static int number_is_of(enum kind kind, uint32_t number) {
   if (number == 0 || number == 10) return 1;
-  if (kind == COMMAND_OPEN) return number == 3 || number == 9;
-  if (kind == COMMAND_TURN) return number == 3 || number == 11 || number == 16;
+  if (kind == COMMAND_OPEN) return number == 3 || number == 9 || number == 17 || number == 18;
+  if (kind == COMMAND_TURN) return number == 3 || number == 11 || number == 16 || number == 17;
   return number <= 16 && number != 9;
 }
 
@@ -82,11 +82,13 @@ static void one_call(uint64_t call) {
   static size_t place;
   place = draw(32) == 0 ? draw(command_count) : (place + 1) % command_count;
   const struct command *command = &commands[place];
-  uint8_t *text = lend(&text_memory), *area = lend(&area_memory), *output = lend(&output_memory);
-  size_t length = command->length;
+  uint8_t *text = lend(&text_memory), *list = lend(&list_memory), *area = lend(&area_memory), *output = lend(&output_memory);
+  size_t length = command->length, list_length = command->list_length;
   uint32_t day = command->day;
   memcpy(text, command->text, length);
+  memcpy(list, command->list, list_length);
   if (draw(4) == 0) length = damage(text, length);
+  if (draw(8) == 0) list_length = damage(list, list_length);
   if (draw(40) == 0) day = (uint32_t)draw(1u << 31);
   uint64_t area_length = draw(64) == 0 ? area_lengths[draw(6)] : CARD_AREA;
   uint64_t room = draw(16) == 0 ? draw(1200) : CARD_OUTPUT;
@@ -99,12 +101,13 @@ static void one_call(uint64_t call) {
   remember(&area_memory);
   remember(&output_memory);
   remember(&text_memory);
+  remember(&list_memory);
   uint64_t written = 77;
   int64_t difference = 77;
   uint32_t number = 0;
   switch (command->kind) {
     case COMMAND_OPEN:
-      number = card_open(text, length, day, area, area_length, &written, &difference);
+      number = card_open(text, length, list, list_length, day, area, area_length, &written, &difference);
       break;
     case COMMAND_MESSAGE:
       number = card_message(text, length, area, area_length, output, room, &written, &difference);
@@ -115,6 +118,7 @@ static void one_call(uint64_t call) {
   }
   if (!number_is_of(command->kind, number)) fail("a number that the call does not have", call);
   unchanged_outside(&text_memory, 0, 0, "the text was changed", call);
+  unchanged_outside(&list_memory, 0, 0, "the holiday list was changed", call);
   if (number != 0) {
     if (written != 0 || difference != 0) fail("a refusal with bytes or a difference", call);
     unchanged_outside(&area_memory, 0, 0, "a refusal changed the area", call);

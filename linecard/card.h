@@ -14,9 +14,10 @@
 /* The engine stands in the first CARD_AREA bytes of the area between calls. */
 #define CARD_AREA 6144
 
-/* A message has at most CARD_MESSAGE bytes, and a call writes fewer than CARD_OUTPUT. */
+/* A message has at most CARD_MESSAGE bytes, and a call writes fewer than CARD_OUTPUT. A holiday list has at most CARD_HOLIDAYS: 60 dates. */
 #define CARD_MESSAGE 4096
 #define CARD_OUTPUT 32768
+#define CARD_HOLIDAYS 419
 
 enum {
   CARD_ACCEPTED = 0,
@@ -37,18 +38,22 @@ enum {
   CARD_MESSAGES = 13,    /* 64 messages were accepted today */
   CARD_POSITIONS = 14,   /* 32 positions are open, none of them this one */
   CARD_LIMIT = 15,       /* a total over its limit */
-  CARD_ROOM = 16         /* the output is shorter than this call's bytes */
+  CARD_ROOM = 16,        /* the output is shorter than this call's bytes */
+  /* of an opening or a turn */
+  CARD_CLOSED = 17,      /* the day is a Saturday, a Sunday or a listed holiday */
+  CARD_LIST = 18         /* the holiday list */
 };
 
-/* Opens an engine with a register and a day (six digits as a number: 060302 is 60302). */
-uint32_t card_open(const uint8_t *text, uint64_t text_length, uint32_t day, uint8_t *area, uint64_t area_length,
-                   uint64_t *written, int64_t *difference);
+/* Opens an engine with a register, a holiday list and a day (six digits as a number: 060302 is 60302). The list has dates of six digits, each later
+ * than the last, with a comma between two and nothing else; no holidays are a length of 0. The engine keeps it until the next accepted opening. */
+uint32_t card_open(const uint8_t *text, uint64_t text_length, const uint8_t *list, uint64_t list_length, uint32_t day,
+                   uint8_t *area, uint64_t area_length, uint64_t *written, int64_t *difference);
 
 /* Takes an MT103 or MT101; the difference is its position's transferred minus detailed. */
 uint32_t card_message(const uint8_t *message, uint64_t message_length, uint8_t *area, uint64_t area_length,
                       uint8_t *output, uint64_t output_length, uint64_t *written, int64_t *difference);
 
-/* Turns to a later day; the difference is refunded minus collected. */
+/* Turns to a later banking day; the difference is refunded minus collected. */
 uint32_t card_turn(uint32_t day, uint8_t *area, uint64_t area_length, uint8_t *output, uint64_t output_length,
                    uint64_t *written, int64_t *difference);
 

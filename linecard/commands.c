@@ -37,9 +37,17 @@ static int line_length(const uint8_t *s, size_t size, size_t *n) {
   return 0;
 }
 
+/* Two lengths with a comma between them. */
+static int two_lengths(const uint8_t *s, size_t n, size_t *first, size_t *second) {
+  size_t k = 0;
+  while (k < n && s[k] != ',') k++;
+  if (k == n) return 0;
+  return read_number(s, k, LONGEST, first) && read_number(s + k + 1, n - k - 1, LONGEST, second);
+}
+
 int next_command(const uint8_t *input, size_t size, size_t *at, struct command *command) {
   const uint8_t *s = input + *at;
-  size_t left = size - *at, n, length = 0;
+  size_t left = size - *at, n, length = 0, list_length = 0;
   if (!line_length(s, left, &n)) return 0;
   if (n >= 2 && memcmp(s, "T,", 2) == 0) {
     if (n != 8 || !six_digits(s + 2, &command->day)) return 0;
@@ -48,14 +56,16 @@ int next_command(const uint8_t *input, size_t size, size_t *at, struct command *
     if (!read_number(s + 2, n - 2, LONGEST, &length)) return 0;
     command->kind = COMMAND_MESSAGE;
   } else if (n >= 9 && memcmp(s, "O,", 2) == 0 && s[8] == ',') {
-    if (!six_digits(s + 2, &command->day) || !read_number(s + 9, n - 9, LONGEST, &length)) return 0;
+    if (!six_digits(s + 2, &command->day) || !two_lengths(s + 9, n - 9, &length, &list_length)) return 0;
     command->kind = COMMAND_OPEN;
   } else {
     return 0;
   }
-  if (length > left - n - 2) return 0;
+  if (length + list_length > left - n - 2) return 0;
   command->text = s + n + 2;
   command->length = length;
-  *at += n + 2 + length;
+  command->list = command->text + length;
+  command->list_length = list_length;
+  *at += n + 2 + length + list_length;
   return 1;
 }

@@ -12,6 +12,8 @@ struct command {
   uint32_t day;        /* of an opening or a turn */
   const uint8_t *text; /* the register or the message */
   size_t length;
+  const uint8_t *list; /* of an opening: the holiday list, which stands behind the register */
+  size_t list_length;
 };
 
 /* One or more digits as a number; 0 where they are none or it is above the limit. */

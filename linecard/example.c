@@ -13,6 +13,8 @@ static const char accounts[] =
     "BG80BNBG96611020345678\r\n"
     "BG56BNBG96613000000001,000000,999999\r\n";
 
+static const char holidays[] = "060101,060306,060501";
+
 static const char transfer[] =
     "103,AAAABGSF,BNBGBGSD\r\n"
     ":20:T1\r\n"
@@ -64,7 +66,7 @@ static const char order[] =
 #define SLICE(text) (const uint8_t *)(text), sizeof(text) - 1
 
 static uint32_t open_day(uint32_t day) {
-  return card_open(SLICE(accounts), day, area, sizeof area, &written, &difference);
+  return card_open(SLICE(accounts), SLICE(holidays), day, area, sizeof area, &written, &difference);
 }
 
 static uint32_t take(const uint8_t *message, uint64_t length) {

@@ -50,7 +50,8 @@ static void replay(const uint8_t *input, size_t size, uint8_t *output, size_t ro
     uint32_t number = 0;
     switch (command.kind) {
       case COMMAND_OPEN:
-        number = card_open(command.text, command.length, command.day, area, sizeof area, &written, &difference);
+        number = card_open(command.text, command.length, command.list, command.list_length, command.day, area, sizeof area, &written,
+                           &difference);
         break;
       case COMMAND_MESSAGE:
         number = card_message(command.text, command.length, area, sizeof area, output, room, &written, &difference);

@@ -11,7 +11,7 @@ use lib.ListN.{length, getD}
 use borrow.Author.Tests.{le-leb, lt-leb, eq-eqb, ne-eqb}
 use Rattle.rules.specs.Text.{isDigit, isLetter, isAlnum, between, every}
 use Rattle.rules.specs.Accounts.{withSign, numeral, remainder, control, ibanShape, passes}
-use Rattle.laws.specs.Parts.{cut, cut-step, cut-done, cut-get, cut-take, cut-drop, cut-join}
+use Rattle.laws.specs.Parts.{cut, cut-get, cut-take, cut-drop, cut-join, cut-two}
 use Rattle.laws.specs.Tests.{between-low, between-high, holds-told}
 use Rattle.laws.specs.Reading.{digit-low, digit-high}
 use Rattle.laws.specs.Every.{every-front, every-piece, every-head, every-at}
@@ -66,16 +66,11 @@ carried-fold v cs t r p = record { same = mod-mod r 97 ∙ p .same; most = omega
 
 -- ---- digits, letters, and either
 
-two-bytes : (s : List ℕ) (i : ℕ) → i + 2 ≤ length s → cut s i (i + 2) ≡ getD s i 0 ∷ getD s (i + 1) 0 ∷ []
-two-bytes s i l =
-    let e : i + 1 + 1 ≡ i + 2 = omega arith in
-    rw (cut-step s i (i + 2) (omega arith) l, cut-step s (i + 1) (i + 2) (omega arith) l, e, cut-done s (i + 2) (i + 2) (omega arith) (omega arith))
-
 four-bytes : (s : List ℕ) (i : ℕ) → i + 4 ≤ length s → cut s i (i + 4) ≡ getD s i 0 ∷ getD s (i + 1) 0 ∷ getD s (i + 2) 0 ∷ getD s (i + 3) 0 ∷ []
 four-bytes s i l =
     let e : i + 2 + 2 ≡ i + 4 = omega arith in
     let f : i + 2 + 1 ≡ i + 3 = omega arith in
-    sym (cut-join s i 2 (i + 4) (omega arith)) ∙ rw (two-bytes s i (omega arith), ← e, two-bytes s (i + 2) (omega arith), f)
+    sym (cut-join s i 2 (i + 4) (omega arith)) ∙ rw (cut-two s i (omega arith), ← e, cut-two s (i + 2) (omega arith), f)
 
 -- r is the number of a sign, by the byte that is 0 among its like
 pub record Sign (c null top r : ℕ) : Type 0 where
@@ -111,7 +106,7 @@ pair-carried s i v r w l t =
     let c : ℕ = getD s i 0 in
     let d : ℕ = getD s (i + 1) 0 in
     let same : (v * 3 + ((c - 48) * 10 + (d - 48))) % 97 ≡ ((v * 10 + (c - 48)) * 10 + (d - 48)) % 97 = omega arith in record {
-      same = rw (two-bytes s i l, every-head isDigit s i 2 w l refl, every-at isDigit s i 2 w l 1 refl, t .value) same;
+      same = rw (cut-two s i l, every-head isDigit s i 2 w l refl, every-at isDigit s i 2 w l 1 refl, t .value) same;
       most = omega (arith, t .most);
     }
 
@@ -172,7 +167,7 @@ module _ (v c : ℕ) (h : isAlnum c ≡ true) where
 
 module _ (s : List ℕ) (i : ℕ) where
   pub signs-2 : (u v r t m : ℕ) → i + 2 ≤ length s → Carried u (getD s i 0 ∷ []) t v → Carried v (getD s (i + 1) 0 ∷ []) m r → Carried u (cut s i (i + 2)) 96 (r % 97)
-  signs-2 u v r t m l p q = rw (two-bytes s i l) (carried-fold u _ m r (carried-on u v r t m (getD s i 0 ∷ []) (getD s (i + 1) 0 ∷ []) p q))
+  signs-2 u v r t m l p q = rw (cut-two s i l) (carried-fold u _ m r (carried-on u v r t m (getD s i 0 ∷ []) (getD s (i + 1) 0 ∷ []) p q))
 
   runs-2 : (k j u v r t m : ℕ) → i + k ≡ j → Carried u (cut s i (i + k)) t v → Carried v (cut s j (j + 2)) m r → Carried u (cut s i (i + k + 2)) m r
   runs-2 k j u v r t m e p q = carried-cut s i k (i + k + 2) u v r t m (omega arith) p (rw e q)

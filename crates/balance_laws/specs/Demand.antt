@@ -113,12 +113,12 @@ bare-held bank day ledger sent b h =
 
 pub demand3 : Demand3
 unfolding opened transferredOf detailedOf held
-demand3 text day area calls h =
+demand3 text list day area calls h =
     let temporary : List ℕ = registerOf text .temporary in
-    let o : Opens text day area = open-accepted text day area h in
-    let r : Ran = ran (cardOpen text day area .area) calls in
-    let w : Running temporary (cardOpen text day area .area) [] [] false =
-    record { engine = opened text day; holding = done-holds (o .done); agrees = record { account = refl; same = same-refl []; history = history-start day; settled = never } } in
+    let o : Opens text list day area = open-accepted text list day area h in
+    let r : Ran = ran (cardOpen text list day area .area) calls in
+    let w : Running temporary (cardOpen text list day area .area) [] [] false =
+    record { engine = opened text list day; holding = done-holds (o .done); agrees = record { account = refl; same = same-refl []; history = history-start day; settled = never } } in
     let z : Ended temporary [] [] false r = ended temporary _ [] [] false calls w in
     record {
       engine = z .end .engine;

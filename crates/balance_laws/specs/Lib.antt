@@ -4,6 +4,7 @@ pub mod Posting
 pub mod Tally
 pub mod Kinds
 pub mod Mute
+pub mod Corrections
 pub mod Details
 pub mod Accounts
 pub mod Message

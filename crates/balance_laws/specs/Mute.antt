@@ -1,25 +1,23 @@
--- Written messages are mute: no line of an MT199, of the MT103 of a return, of an MT204 or of an MT205 is long enough for a posting line.
+-- What an accepted message makes the card write is mute: no line of an MT199 or of the MT103 of a return is long enough for a posting line.
 use mathlib.Core.Path.{_≡_, refl, sym, subst}
 use mathlib.Core.Bool.{Bool, true, false, cond}
 use mathlib.Core.List.{List, [], _++_, append-assoc}
-use Prim.Native.Nat.{ℕ, zero, suc, _+_, _/_, _%_, _≤_}
-use native.Mathlib.Omega.{arith}
+use Prim.Native.Nat.{ℕ, zero, suc, _+_}
 use lib.Dec.{leb}
 use lib.ListN.{length}
 use Rattle.rules.specs.Text.{ascii, every, decimal}
-use Rattle.rules.specs.Amounts.{written, withComma, withPoint}
+use Rattle.rules.specs.Amounts.{withComma}
 use Rattle.rules.specs.Accounts.{isBic, ibanShape}
 use Rattle.rules.specs.Messages.{Detail, branch, payerLines, branchLines, account59, baerefDate, baerefName}
-use Rattle.rules.specs.Engine.{Position, bic, limit}
-use Rattle.rules.specs.Written.{Book, reference, firstLine, field, field32A, temporaryField, baerefRow, size, returnedRows, allReturned, linked, position79, closed79, mt199, partsOf, mt199s, verdicts, return103, returnOf, returns, field72, mt204, mt205}
-use Rattle.laws.specs.Digits.{places-length, width-bound, width-most}
+use Rattle.rules.specs.Engine.{Position, bic}
+use Rattle.rules.specs.Written.{Book, reference, firstLine, field, field32A, temporaryField, baerefRow, size, returnedRows, allReturned, linked, position79, closed79, mt199, partsOf, mt199s, verdicts, return103, returnOf, returns}
 use Rattle.laws.specs.All.{All, All.none, All.more, all-take, all-drop}
 use Rattle.rule_laws.specs.Lines.{inLine}
 use Rattle.balance_laws.specs.Told.{Short, short-join, short-text, short-part, Mute, mute-none, mute-line, mute-join}
 use Rattle.balance_laws.specs.Signs.{short-fixed, short-decimal, short-written, short-bic, short-iban}
 
 infixl 65 _⊕_
-_⊕_ : {m n : ℕ} {a b : List ℕ} → Short m a → Short n b → Short (m + n) (a ++ b)
+pub _⊕_ : {m n : ℕ} {a b : List ℕ} → Short m a → Short n b → Short (m + n) (a ++ b)
 s ⊕ t = short-join s t
 
 infixl 60 _▹_
@@ -28,7 +26,7 @@ s ▹ t = mute-join s t
 
 -- ---- parts of all messages
 
-short-reference : (day n : ℕ) → Short 14 (reference day n)
+pub short-reference : (day n : ℕ) → Short 14 (reference day n)
 unfolding reference every inLine
 short-reference day n = short-fixed 6 day ⊕ short-text (ascii "GA") refl ⊕ short-fixed 6 n
 
@@ -40,7 +38,7 @@ mute-opened : (bank : ℕ) (type : List ℕ) → Short 3 type → isBic (bic ban
 unfolding firstLine every inLine
 mute-opened bank type s h = mute-line (s ⊕ short-text (ascii ",BNBGBGSD,") refl ⊕ short-bic (bic bank) h) refl
 
-short-comma : (v : ℕ) → Short 23 (withComma v)
+pub short-comma : (v : ℕ) → Short 23 (withComma v)
 unfolding every inLine
 short-comma v = short-written v (short-text (ascii ",") refl)
 
@@ -139,43 +137,3 @@ pub mute-returns : (b : Book) (n : ℕ) {ds : List Detail} → isBic (bic (b .ba
 unfolding returns
 mute-returns b n h t none = mute-none
 mute-returns b n h t (more d s) = mute-return b (n + 1) h t d ▹ mute-returns b (n + 1) h t s
-
--- ---- corrections
-
--- a sum within the limit has a digit less than the longest number
-short-point : (v : ℕ) → v ≤ limit → Short 22 (withPoint v)
-unfolding every inLine written
-short-point v h = levs ⊕ short-text (ascii ".") refl ⊕ short-fixed 2 (v % 100)
-  where
-    levs : Short 19 (decimal (v / 100))
-    levs = record { plain = short-decimal (v / 100) .plain; size = rw (places-length, width-bound 18 (v / 100) (omega arith)) (width-most 18 (v / 100)) }
-
-mute-72 : (day n : ℕ) (p : Position) → p .detailed ≤ limit → Mute (field72 day n p)
-unfolding field72 every inLine
-mute-72 day n p h =
-    mute-baeref day n (short-text (ascii ":72:/BAEREF/") refl) refl
-    ▹ mute-field (short-text (ascii "/RELREF/ERRCENTRB") refl) (short-fixed 6 (p .key .date)) refl
-    ▹ mute-line (short-text (ascii "//RAZLIKA OT CENTRALIZACIA NA BS") refl) refl
-    ▹ mute-field (short-text (ascii "//SUMA PREZ RINGS ") refl) (short-written (p .transferred) (short-text (ascii ".") refl)) refl
-    ▹ (mute-field (short-text (ascii "//SUMA PREZ BISERA ") refl) (short-point (p .detailed) h) refl ▹ mute-line (short-text (ascii "-") refl) refl)
-
-pub mute-204 : (day : ℕ) (temporary : List ℕ) (n : ℕ) (p : Position) (v : ℕ) → isBic (bic (p .key .bank)) ≡ true → ibanShape temporary ≡ true → p .detailed ≤ limit → Mute (mt204 day temporary n p v)
-unfolding mt204 every inLine
-mute-204 day temporary n p v h t l =
-    (mute-opened (p .key .bank) (ascii "204") (short-text (ascii "204") refl) h
-    ▹ mute-field (short-text (ascii ":20:") refl) (short-reference day n) refl
-    ▹ mute-field (short-text (ascii ":19:") refl) (short-comma v) refl
-    ▹ mute-field (short-text (ascii ":30:") refl) (short-fixed 6 day) refl)
-    ▹ (mute-temporary temporary (short-text (ascii ":58D:/") refl) t refl ▹ mute-field (short-text (ascii ":20:") refl) (short-reference day n) refl)
-    ▹ (mute-field (short-text (ascii ":32B:BGN") refl) (short-comma v) refl ▹ mute-field (short-text (ascii ":53A:") refl) (short-bic (bic (p .key .bank)) h) refl)
-    ▹ mute-72 day n p l
-
-pub mute-205 : (day n : ℕ) (p : Position) (v : ℕ) → isBic (bic (p .key .bank)) ≡ true → p .detailed ≤ limit → Mute (mt205 day n p v)
-unfolding mt205 every inLine
-mute-205 day n p v h l =
-    (mute-opened (p .key .bank) (ascii "205") (short-text (ascii "205") refl) h
-    ▹ mute-field (short-text (ascii ":20:") refl) (short-reference day n) refl
-    ▹ mute-field (short-text (ascii ":21:") refl) (short-reference day n) refl)
-    ▹ mute-32A day v
-    ▹ (mute-line (short-text (ascii ":52A:BNBGBGSD") refl) refl ▹ mute-field (short-text (ascii ":58A:") refl) (short-bic (bic (p .key .bank)) h) refl)
-    ▹ mute-72 day n p l

@@ -4,36 +4,22 @@ use mathlib.Core.Bool.{Bool, true, false, _||_}
 use mathlib.Core.List.{List, [], _∷_, _++_, append-assoc}
 use mathlib.Core.Option.{some}
 use Prim.Native.Nat.{ℕ, _^_, _≤_, _<_}
-use lib.Dec.{lit<}
 use lib.ListN.{length}
 use borrow.Author.Tests.{le-leb}
 use Rattle.rules.specs.Text.{ascii, isAlnum, every, fixed, decimal, width}
 use Rattle.rules.specs.Accounts.{isBic, ibanShape}
+use Rattle.rules.specs.Lines.{parted}
 use Rattle.rules.specs.Engine.{bic}
 use Rattle.rules.specs.Written.{Book, posting}
-use Rattle.rules.specs.Ledger.{Posted, parted, isParty, isNumber, isPosting, postedParts, posted, Kind, Request, amountIf}
+use Rattle.rules.specs.Ledger.{Posted, isParty, isNumber, isPosting, postedParts, posted, Kind, Request, amountIf}
 use Rattle.laws.specs.Digits.{places-length, width-some}
 use Rattle.laws.specs.Numbers.{digits-decimal}
-use Rattle.laws.specs.Tests.{cond-right, cond-left}
 use Rattle.laws.specs.Every.{every-join}
-use Rattle.rule_laws.specs.Lines.{inLine}
+use Rattle.rule_laws.specs.Lines.{inLine, plain-alnum}
+use Rattle.rule_laws.specs.Commas.{part-alnum, parted-last, parted-next}
 use Rattle.balance_laws.specs.Told.{Tells, tells-line}
 use Rattle.rule_laws.specs.Signs.{bic-alnum, iban-alnum}
-use Rattle.balance_laws.specs.Signs.{alnum-other, plain-alnum, fixed-alnum, fixed-fits}
-
--- ---- commas
-
-pub parted-last : (a : List ℕ) → every isAlnum a ≡ true → parted a ≡ a ∷ []
-unfolding every parted
-parted-last [] h = refl
-parted-last (c ∷ a) h =
-    rw (alnum-other 44 c (lit< tt) (cond-left _ _ h), parted-last a (cond-right (isAlnum c) _ h))
-
-pub parted-next : (a rest : List ℕ) → every isAlnum a ≡ true → parted (a ++ 44 ∷ rest) ≡ a ∷ parted rest
-unfolding every parted
-parted-next [] rest h = refl
-parted-next (c ∷ a) rest h =
-    rw (alnum-other 44 c (lit< tt) (cond-left _ _ h), parted-next a rest (cond-right (isAlnum c) _ h))
+use Rattle.balance_laws.specs.Signs.{fixed-alnum, fixed-fits}
 
 -- ---- the line
 
@@ -65,12 +51,12 @@ module _ (b : Book) (debit credit : List ℕ) (v : ℕ) (bank : isBic (bic (b .b
   unfolding line
   line-parts =
       simp append-assoc
-      (parted-next _ _ (fixed-alnum 6 (b .day)) ∙ ap (λ (ps : List (List ℕ)). fixed 6 (b .day) ∷ ps)
-      (parted-next _ _ (party-alnum debit from) ∙ ap (λ (ps : List (List ℕ)). debit ∷ ps)
-      (parted-next _ _ (party-alnum credit to) ∙ ap (λ (ps : List (List ℕ)). credit ∷ ps)
-      (parted-next _ _ (fixed-alnum (width 19 v) v) ∙ ap (λ (ps : List (List ℕ)). decimal v ∷ ps)
-      (parted-next _ _ (bic-alnum _ bank) ∙ ap (λ (ps : List (List ℕ)). bic (b .bank) ∷ ps)
-      (parted-last _ (fixed-alnum 6 (b .date))))))))
+      (parted-next _ _ (part-alnum _ (fixed-alnum 6 (b .day))) ∙ ap (λ (ps : List (List ℕ)). fixed 6 (b .day) ∷ ps)
+      (parted-next _ _ (part-alnum _ (party-alnum debit from)) ∙ ap (λ (ps : List (List ℕ)). debit ∷ ps)
+      (parted-next _ _ (part-alnum _ (party-alnum credit to)) ∙ ap (λ (ps : List (List ℕ)). credit ∷ ps)
+      (parted-next _ _ (part-alnum _ (fixed-alnum (width 19 v) v)) ∙ ap (λ (ps : List (List ℕ)). decimal v ∷ ps)
+      (parted-next _ _ (part-alnum _ (bic-alnum _ bank)) ∙ ap (λ (ps : List (List ℕ)). bic (b .bank) ∷ ps)
+      (parted-last _ (part-alnum _ (fixed-alnum 6 (b .date)))))))))
 
   pub posted-line : v < 10 ^ 20 → posted (line b debit credit v) ≡ some (entry b debit credit v)
   unfolding posted isPosting postedParts entry isNumber
@@ -78,7 +64,7 @@ module _ (b : Book) (debit credit : List ℕ) (v : ℕ) (bank : isBic (bic (b .b
       let l : 1 ≤ length (decimal v) = rw places-length (width-some 19 v) in
       rw (line-parts, fixed-fits 6 (b .day), from, to, le-leb 1 (length (decimal v)) l, digits-decimal v h, bank, fixed-fits 6 (b .date))
 
-  line-plain : every inLine (line b debit credit v) ≡ true
+  pub line-plain : every inLine (line b debit credit v) ≡ true
   unfolding line
   line-plain =
       let from' : every inLine debit ≡ true = plain-alnum debit (party-alnum debit from) in

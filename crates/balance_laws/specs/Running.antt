@@ -140,7 +140,7 @@ module _ (temporary area : List ℕ) (ledger : List Position) (sent : List Messa
           agrees = record {
             account = g .account;
             same = same-kept (e .positions) ledger (g .same);
-            history = history-turn (g .history) day (t .later) (λ bank. unmet (all-good (e .day) (e .positions) (l .good)) (g .same) bank day (t .later));
+            history = history-turn (g .history) day (t .clear .later) (λ bank. unmet (all-good (e .day) (e .positions) (l .good)) (g .same) bank day (t .clear .later));
             settled = λ f m. kept-bare m ledger;
           };
         };

@@ -1,44 +1,21 @@
--- Letters and digits: what dates, amounts, banks and accounts are made of, so that they stand in a line and hold no comma.
+-- Dates, amounts, banks and accounts are made of letters and digits, and have few of them.
 use mathlib.Core.Path.{_≡_, refl, sym}
-use mathlib.Core.Bool.{Bool, true, false, _||_}
+use mathlib.Core.Bool.{true}
 use mathlib.Core.List.{List}
-use Prim.Native.Nat.{ℕ, zero, suc, _+_, _/_, _%_, _^_, _≤_, _<_}
+use Prim.Native.Nat.{ℕ, zero, suc, _+_, _/_, _%_, _^_, _<_}
 use native.Mathlib.Nat.{mod-lt}
 use native.Mathlib.Omega.{arith}
-use lib.Dec.{eqb, lit<}
+use lib.Dec.{lit<}
 use lib.ListN.{length, replicate}
-use borrow.Author.Tests.{le-leb, ne-eqb}
-use Rattle.rules.specs.Text.{ascii, isDigit, isLetter, isAlnum, every, fits, fitsSign, places, width, fixed, decimal}
+use borrow.Author.Tests.{le-leb}
+use Rattle.rules.specs.Text.{ascii, isDigit, isAlnum, every, fits, fitsSign, places, width, fixed, decimal}
 use Rattle.rules.specs.Amounts.{written}
 use Rattle.rules.specs.Accounts.{isBic, ibanShape}
 use Rattle.laws.specs.Reading.{fits-length}
 use Rattle.laws.specs.Digits.{places-length, width-most}
-use Rattle.laws.specs.Tests.{between-low}
-use Rattle.laws.specs.Every.{every-wider}
 use Rattle.rule_laws.specs.Signs.{isSign, fits-alnum, bic-alnum, iban-alnum}
-use Rattle.rule_laws.specs.Lines.{inLine}
+use Rattle.rule_laws.specs.Lines.{plain-alnum}
 use Rattle.balance_laws.specs.Told.{Short, short-join}
-
--- ---- a letter or digit
-
-alnum-low : (c : ℕ) → isAlnum c ≡ true → 48 ≤ c
-unfolding isAlnum isDigit isLetter
-alnum-low c h = go (isDigit c) refl h
-  where
-    go : (t : Bool) → isDigit c ≡ t → (t || isLetter c) ≡ true → 48 ≤ c
-    go true e k = between-low 48 57 c e
-    go false e k = omega (arith, between-low 65 90 c k)
-
--- no comma, CR or LF
-pub alnum-other : (k c : ℕ) → k < 48 → isAlnum c ≡ true → eqb c k ≡ false
-alnum-other k c l h = let m : 48 ≤ c = alnum-low c h in ne-eqb c k (omega arith)
-
-alnum-in-line : (c : ℕ) → isAlnum c ≡ true → inLine c ≡ true
-unfolding inLine
-alnum-in-line c h = rw (alnum-other 13 c (lit< tt) h, alnum-other 10 c (lit< tt) h)
-
-pub plain-alnum : (cs : List ℕ) → every isAlnum cs ≡ true → every inLine cs ≡ true
-plain-alnum = every-wider isAlnum inLine alnum-in-line
 
 -- ---- digits
 

@@ -3,41 +3,22 @@ use mathlib.Core.Path.{_≡_, refl, _∙_}
 use mathlib.Core.Bool.{Bool, true, false, _||_, cond}
 use mathlib.Core.List.{List, [], _∷_, _++_}
 use mathlib.Core.Option.{none, Option·getD}
-use Prim.Native.Nat.{ℕ, suc, _+_, _≤_, _<_}
+use Prim.Native.Nat.{ℕ, suc, _+_, _≤_}
 use native.Mathlib.Omega.{arith}
-use lib.Dec.{leb, eqb}
+use lib.Dec.{leb}
 use lib.ListN.{length, getD, take, drop, length-append, length-take}
-use lib.Seq.{drop-cons}
 use borrow.Author.Tests.{leb-true, eqb-true, le-leb}
 use Rattle.rules.specs.Text.{ascii, every, fits, given}
 use Rattle.rules.specs.Accounts.{isBic, ibanShape}
-use Rattle.rules.specs.Lines.{begun, Line, lines}
-use Rattle.rules.specs.Ledger.{parted, isParty, isNumber, isPosting, posted, Kind, Request, amountIf, sumOfLines}
+use Rattle.rules.specs.Lines.{Line, lines, parted}
+use Rattle.rules.specs.Ledger.{isParty, isNumber, isPosting, posted, Kind, Request, amountIf, sumOfLines}
 use Rattle.laws.specs.Reading.{fits-length}
 use Rattle.laws.specs.Tests.{and-left, and-right, cond-right, cond-left, cond-both}
 use Rattle.laws.specs.Every.{every-join, every-take, every-drop}
+use Rattle.rule_laws.specs.Commas.{partsLength, parted-length, parts-next}
 use Rattle.rule_laws.specs.Lines.{inLine, Lined, Lined.end, Lined.next, lined-lines, lined-join}
 
 -- ---- a posting line is long
-
--- the bytes of some parts, each with a comma
-unfoldable partsLength : List (List ℕ) → ℕ
-partsLength [] = 0
-partsLength (p ∷ ps) = suc (length p) + partsLength ps
-
-parted-length : (l : Line) → partsLength (parted l) ≡ suc (length l)
-unfolding parted partsLength
-parted-length [] = refl
-parted-length (c ∷ l) = go (eqb c 44) (parted l) (parted-length l)
-  where
-    go : (t : Bool) (ps : List (List ℕ)) → partsLength ps ≡ suc (length l) → partsLength (cond t ([] ∷ ps) (begun c ps)) ≡ suc (suc (length l))
-    go true ps h = omega arith
-    go false [] h = omega arith
-    go false (p ∷ ps) h = omega arith
-
-parts-next : (ps : List (List ℕ)) (i : ℕ) → i < length ps → partsLength (drop i ps) ≡ suc (length (getD ps i [])) + partsLength (drop (suc i) ps)
-unfolding partsLength
-parts-next ps i h = rw (drop-cons ps i [] h)
 
 party-length : (cs : List ℕ) → isParty cs ≡ true → 8 ≤ length cs
 unfolding isParty isBic ibanShape

@@ -16,8 +16,8 @@ use Rattle.laws.specs.Tests.{and-right}
 use Rattle.laws.specs.All.{All, All.none, All.more}
 use Rattle.engine_laws.specs.Limits.{Limits, bank-small}
 use Rattle.engine_laws.specs.Positions.{Good, all-good}
-use Rattle.balance_laws.specs.Told.{Tells, tells-none, tells-join, tells-same, tells-mute, Mute, mute-none, mute-join}
-use Rattle.balance_laws.specs.Mute.{mute-204, mute-205}
+use Rattle.balance_laws.specs.Told.{Tells, tells-none, tells-join, tells-same, tells-mute}
+use Rattle.balance_laws.specs.Corrections.{Correcting, _▹_, on-none, on-204, on-205}
 use Rattle.balance_laws.specs.Accounts.{temporary-shape}
 use Rattle.balance_laws.specs.Kinds.{comesIn, goesOut, Readable, mine, mine-none, bank-party, in-from, out-from, in-paid, out-paid}
 use Rattle.balance_laws.specs.Tally.{Measure, tally, only, ofBank, bare, transfers, details, transferred-tally, detailed-tally, kept-tally, tally-each, tally-add}
@@ -35,28 +35,28 @@ abbrev pub bookOf : ℕ → List ℕ → Position → Book
 bookOf day temporary p = record { day = day; temporary = temporary; bank = p .key .bank; date = p .key .date }
 
 module _ (day : ℕ) (temporary : List ℕ) (a : ibanShape temporary ≡ true) {old : ℕ} where
-  readable : {p : Position} → Good old p → Readable (bookOf day temporary p)
+  pub readable : {p : Position} → Good old p → Readable (bookOf day temporary p)
   unfolding isBank
   readable {p} g = record { known = and-right (leb (p .key .bank) lastBank) _ (g .bank); small = omega (arith, bank-small (p .key .bank) (g .bank)); account = a }
 
   -- ---- messages
 
-  mute-correction : {p : Position} (n : ℕ) → Good old p → Mute (correction day temporary n p)
+  on-correction : {p : Position} (n : ℕ) → Good old p → Correcting day (correction day temporary n p)
   unfolding correction
-  mute-correction {p} n g = go (isRefunded p)
+  on-correction {p} n g = go (isRefunded p)
     where
-      go : (t : Bool) → Mute (cond t (mt205 day n p (p .transferred - p .detailed)) (mt204 day temporary n p (p .detailed - p .transferred)))
-      go true = mute-205 day n p (p .transferred - p .detailed) (readable g .known) (g .detailed)
-      go false = mute-204 day temporary n p (p .detailed - p .transferred) (readable g .known) a (g .detailed)
+      go : (t : Bool) → Correcting day (cond t (mt205 day n p (p .transferred - p .detailed)) (mt204 day temporary n p (p .detailed - p .transferred)))
+      go true = on-205 day n p (p .transferred - p .detailed) (readable g .known) (g .detailed)
+      go false = on-204 day temporary n p (p .detailed - p .transferred) (readable g .known) a (g .detailed)
 
-  mute-corrections : {ps : List Position} (n : ℕ) → All (Good old) ps → Mute (corrections day temporary n ps)
+  pub on-corrections : {ps : List Position} (n : ℕ) → All (Good old) ps → Correcting day (corrections day temporary n ps)
   unfolding corrections
-  mute-corrections n none = mute-none
-  mute-corrections n (more {x = p} {xs = ps} g s) = go (corrected p) (mute-corrections (n + 1) s) (mute-corrections n s)
+  on-corrections n none = on-none
+  on-corrections n (more {x = p} {xs = ps} g s) = go (corrected p) (on-corrections (n + 1) s) (on-corrections n s)
     where
-      go : (t : Bool) → Mute (corrections day temporary (n + 1) ps) → Mute (corrections day temporary n ps)
-          → Mute (cond t (correction day temporary (n + 1) p ++ corrections day temporary (n + 1) ps) (corrections day temporary n ps))
-      go true u v = mute-join (mute-correction (n + 1) g) u
+      go : (t : Bool) → Correcting day (corrections day temporary (n + 1) ps) → Correcting day (corrections day temporary n ps)
+          → Correcting day (cond t (correction day temporary (n + 1) p ++ corrections day temporary (n + 1) ps) (corrections day temporary n ps))
+      go true u v = on-correction (n + 1) g ▹ u
       go false u v = v
 
   -- ---- posting lines, by a kind that counts refunds by up and collections by down
@@ -97,7 +97,7 @@ module _ (day : ℕ) (temporary : List ℕ) (a : ibanShape temporary ≡ true) {
 
     -- the corrections that follow tell nothing
     tells-turn : {ps : List Position} → All (Good old) ps → Tells kind f (correctionPostings day temporary ps ++ corrections day temporary 0 ps) (tally (closed up down) ps)
-    tells-turn g = tells-same (tells-join (tells-postings g) (tells-mute (mute-corrections 0 g))) (omega arith)
+    tells-turn g = tells-same (tells-join (tells-postings g) (tells-mute (on-corrections 0 g .mute))) (omega arith)
 
 -- ---- the two sums
 

@@ -1,13 +1,16 @@
 // Dates: six digits, year, month, day, in 2000 to 2099.
 use text::Num;
 ghost use mathlib.Core.Path.{_≡_};
+ghost use mathlib.Core.Bool.{true};
 ghost use Prim.Native.Nat.{_+_, _/_, _%_, _≤_};
 ghost use lib.ListN.{length};
 ghost use Rattle.laws.specs.Parts.{cut};
+ghost use Rattle.laws.specs.Values.{Valued};
 ghost use Rattle.text.specs.Answers.{numOf};
+ghost use Rattle.rules.specs.Text.{isDigit, every};
 ghost use Rattle.rules.specs.Dates.{monthLength, date};
 ghost use Rattle.rules.specs.Dates as D;
-ghost use Rattle.calendar.specs.Days.{RowOf};
+ghost use Rattle.calendar.specs.Days.{RowOf, isDate, datedOf};
 
 // The lengths of the months, one row for leap years.
 const MONTHS: [[u8; 12]; 2] = [
@@ -26,7 +29,7 @@ fn leap_row(year: u16) -> usize
 }
 
 // The length of a month.
-fn month_length(year: u16, month: usize) -> u8
+pub fn month_length(year: u16, month: usize) -> u8
     requires { ⌜ 1 ≤ month ⌝ }
     requires { ⌜ month ≤ 12 ⌝ }
     ensures { λ r. ⌜ r ≡ monthLength year month ⌝ }
@@ -36,7 +39,7 @@ fn month_length(year: u16, month: usize) -> u8
 }
 
 // The year of six digits.
-fn year_of(n: u32) -> u16
+pub fn year_of(n: u32) -> u16
     requires { ⌜ n ≤ 999999 ⌝ }
     ensures { λ r. ⌜ r ≡ n / 10000 ⌝ }
 {
@@ -44,11 +47,25 @@ fn year_of(n: u32) -> u16
 }
 
 // Their month and day.
-fn month_and_day(n: u32, year: u16) -> u16
+pub fn month_and_day(n: u32, year: u16) -> u16
     requires { ⌜ year ≡ n / 10000 ⌝ }
     ensures { λ r. ⌜ r ≡ n % 10000 ⌝ }
 {
     (n - year as u32 * 10000) as u16
+}
+
+// Do a year, a month and a day make an existing date?
+fn is_date(year: u16, month: u16, day: u16) -> bool
+    ensures { λ r. ⌜ r ≡ isDate year month day ⌝ }
+{
+    if month < 1 {
+        return false;
+    }
+    if 12 < month {
+        return false;
+    }
+    let last = month_length(year, month as usize);
+    1 <= day && day <= last as u16
 }
 
 // Is the number an existing date?
@@ -61,15 +78,33 @@ pub fn exists(n: u32) -> bool
     let year = year_of(n);
     let rest = month_and_day(n, year);
     let month = rest / 100;
-    let day = (rest - month * 100) as u8;
-    if month < 1 {
-        return false;
+    is_date(year, month, rest - month * 100)
+}
+
+// The number of two digits.
+fn two_at(s: &[u8], at: usize) -> u16
+    requires { ⌜ at + 2 ≤ length (now s) ⌝ }
+    requires { ⌜ every isDigit (cut (now s) at (at + 2)) ≡ true ⌝ }
+    ensures { λ r. ⌜ Valued (now (s .entry)) at 2 r ⌝ }
+{
+    (s[at] - 48) as u16 * 10 + (s[at + 1] - 48) as u16
+}
+
+// The date at a place, 0 where there is none.
+pub fn date_at(s: &[u8], at: usize) -> u32
+    requires { ⌜ at + 6 ≤ length (now s) ⌝ }
+    ensures { λ r. ⌜ datedOf r ≡ date (cut (now (s .entry)) at (at + 6)) ⌝ }
+{
+    if text::digits_at(s, at, 6) < 6 {
+        return 0;
     }
-    if 12 < month {
-        return false;
+    let year = two_at(s, at);
+    let month = two_at(s, at + 2);
+    let day = two_at(s, at + 4);
+    if is_date(year, month, day) {
+        return year as u32 * 10000 + (month * 100 + day) as u32;
     }
-    let last = month_length(year, month as usize);
-    1 <= day && day <= last
+    0
 }
 
 // The date at a place: the number of its six digits, where it exists.
@@ -77,12 +112,9 @@ pub fn read_date(s: &[u8], at: usize) -> Num
     requires { ⌜ at + 6 ≤ length (now s) ⌝ }
     ensures { λ r. ⌜ numOf r ≡ date (cut (now (s .entry)) at (at + 6)) ⌝ }
 {
-    if text::digits_at(s, at, 6) < 6 {
+    let n = date_at(s, at);
+    if n == 0 {
         return Num::Bad;
     }
-    let n = text::small_digits(s, at, 6);
-    if exists(n) {
-        return Num::Value(n as u64);
-    }
-    Num::Bad
+    Num::Value(n as u64)
 }

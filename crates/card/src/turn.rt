@@ -5,10 +5,10 @@ ghost use mathlib.Core.Bool.{true};
 ghost use Prim.Native.Nat.{_≤_};
 ghost use lib.ListN.{length};
 ghost use Rattle.rules.specs.Text.{isSome};
-ghost use Rattle.rules.specs.Calls.{turnText};
+ghost use Rattle.rules.specs.Calls.{firstOf, turnText};
 ghost use Rattle.rules.specs.Area.{holds, decode, cardTurn};
 ghost use Rattle.card.specs.Answers.{Answers};
-ghost use Rattle.card.specs.Turn.{Turned};
+ghost use Rattle.card.specs.Turn.{laterStops, dayStops, Turned};
 ghost use Rattle.card.specs.Measured.{Measured};
 
 // A turn that no condition stops: its text is written, its difference told, and the area turned.
@@ -40,6 +40,32 @@ fn turn_size(day: u32, area: &[u8]) -> usize
     text.at
 }
 
+// 11 or 17, the first that holds: of a day that is no later, and of one that is no banking day; 0 where neither does.
+fn later_stop(early: bool, banking: bool) -> u32
+    ensures { λ r. ⌜ r ≡ firstOf (laterStops early banking) ⌝ }
+{
+    if early {
+        return 11;
+    }
+    if !banking {
+        return 17;
+    }
+    0
+}
+
+// 3, 11 or 17, the first that holds of a turn to a day; 0 where none does.
+fn day_stop(day: u32, area: &[u8]) -> u32
+    requires { ⌜ isSome (holds (now area)) ≡ true ⌝ }
+    ensures { λ r. ⌜ r ≡ firstOf (dayStops (decode (now (area .entry))) day) ⌝ }
+{
+    if !calendar::exists(day) {
+        return 3;
+    }
+    let h = engine::header_of(area);
+    let banking = banking_days::is_banking_day(engine::holidays_text(area), day);
+    later_stop(day <= h.day, banking)
+}
+
 // The turn of an area that holds an engine.
 fn turn_engine(
     day: u32,
@@ -53,19 +79,16 @@ fn turn_engine(
 {
     *written = 0;
     *difference = 0;
-    if calendar::exists(day) {
-        let h = engine::header_of(area);
-        if day <= h.day {
-            return 11;
-        }
-        let size = turn_size(day, area);
-        if output.len() < size {
-            return 16;
-        }
-        accept_turn(day, area, output, written, difference);
-        return 0;
+    let stop = day_stop(day, area);
+    if stop != 0 {
+        return stop;
     }
-    3
+    let size = turn_size(day, area);
+    if output.len() < size {
+        return 16;
+    }
+    accept_turn(day, area, output, written, difference);
+    0
 }
 
 // Turns to a later day.

@@ -6,21 +6,21 @@ use mathlib.Core.Option.{Option, none, some}
 use Prim.Native.Nat.{ℕ, _+_, _≤_}
 use lib.ListN.{length, take}
 use Rattle.rules.specs.Text.{ascii, equal, then}
-use Rattle.rules.specs.Replay.{opens, sends, turns, Commanded, lengthOf, sixDigits, withBytes}
+use Rattle.rules.specs.Replay.{opens, sends, turns, Commanded, sixDigits, textsBehind, sending, opening}
 use Rattle.laws.specs.Parts.{cut, from}
 use Rattle.commands.specs.declared.command.Command.{Command}
 use Rattle.commands.specs.declared.command.Command.the-variants.{Opens, Sends, Turns, End}
 
 -- the command and the input behind it
 unfoldable pub commandedOf : List ℕ → Command → Option Commanded
-commandedOf s (Opens day a b) = some record { command = opens day (cut s a b); others = from s b }
+commandedOf s (Opens day a b c) = some record { command = opens day (cut s a b) (cut s b c); others = from s c }
 commandedOf s (Sends a b) = some record { command = sends (cut s a b); others = from s b }
 commandedOf s (Turns day next) = some record { command = turns day; others = from s next }
 commandedOf s End = none
 
 -- its places lie in the input
 unfoldable pub Placed : List ℕ → Command → Type 0
-Placed s (Opens day a b) = (a ≤ b) × (b ≤ length s)
+Placed s (Opens day a b c) = (a ≤ b) × ((b ≤ c) × (c ≤ length s))
 Placed s (Sends a b) = (a ≤ b) × (b ≤ length s)
 Placed s (Turns day next) = next ≤ length s
 Placed s End = Unit {0}
@@ -32,13 +32,11 @@ pub record Commanding (s : List ℕ) (x : Option Commanded) (r : Command) : Type
 
 -- the three command lines, from at to e
 unfoldable pub messageLine : List ℕ → ℕ → ℕ → Option Commanded
-messageLine s at e = then (lengthOf (cut s (at + 2) e)) (λ n. withBytes sends n (from s (e + 2)))
+messageLine s at e = textsBehind sending 0 (cut s (at + 2) e) (from s (e + 2))
 
 unfoldable pub turnLine : List ℕ → ℕ → ℕ → Option Commanded
 turnLine s at e = then (sixDigits (cut s (at + 2) e)) (λ d. some record { command = turns d; others = from s (e + 2) })
 
 unfoldable pub openLine : List ℕ → ℕ → ℕ → Option Commanded
 openLine s at e =
-    cond (equal (take 1 (cut s (at + 8) e)) (ascii ","))
-    (then (sixDigits (take 6 (cut s (at + 2) e))) (λ d. then (lengthOf (cut s (at + 9) e)) (λ n. withBytes (opens d) n (from s (e + 2)))))
-    none
+    cond (equal (take 1 (cut s (at + 8) e)) (ascii ",")) (then (sixDigits (take 6 (cut s (at + 2) e))) (λ d. textsBehind (opening d) 1 (cut s (at + 9) e) (from s (e + 2)))) none

@@ -8,8 +8,8 @@ use native.Mathlib.Omega.{arith}
 use lib.Dec.{leb, eqb}
 use lib.ListN.{length, getD, take}
 use borrow.Author.Tests.{le-leb, lt-leb, eq-eqb, ne-eqb}
-use Rattle.rules.specs.Text.{ascii, equal, then}
-use Rattle.rules.specs.Replay.{opens, sends, lengthOf, sixDigits, withBytes, commandOf, command}
+use Rattle.rules.specs.Text.{ascii, equal, then, addedUp}
+use Rattle.rules.specs.Replay.{lengthOf, lengthsOf, sixDigits, textsIn, withTexts, textsBehind, sending, opening, commandOf, command}
 use Rattle.laws.specs.Parts.{cut, from, cut-step, cut-length, cut-take, cut-drop, from-take, from-drop, from-length}
 use Rattle.laws.specs.Tests.{never}
 use Rattle.lines.specs.Answers.{LineAt, line-told, no-line-told}
@@ -18,10 +18,12 @@ use Rattle.lines.specs.declared.line.Next.the-variants.{Line, Bad as NoNext}
 use Rattle.text.specs.Answers.{numOf}
 use Rattle.text.specs.declared.numbers.Num.{Num}
 use Rattle.text.specs.declared.numbers.Num.the-variants.{Value, Bad}
+use Rattle.commands.specs.declared.number.Lengths.{Lengths}
+use Rattle.commands.specs.declared.number.Lengths.the-variants.{Two, Bad as NoLengths}
 use Rattle.commands.specs.declared.command.Command.{Command}
 use Rattle.commands.specs.declared.command.Command.the-variants.{Opens, Sends, Turns, End}
 use Rattle.commands.specs.Answers.{commandedOf, Placed, Commanding, messageLine, turnLine, openLine}
-use Rattle.commands.specs.Numbers.{six-small, length-small}
+use Rattle.commands.specs.Numbers.{lengthsIn, six-small, two-small}
 
 -- ---- a letter and a comma
 
@@ -62,35 +64,39 @@ module _ (s : List ℕ) (at e c : ℕ) where
       go true z = omega (arith, borrow.Author.Tests.leb-true 2 (e - at) z)
       go false z = never (begins-short h (omega arith) (borrow.Author.Tests.leb-false 2 (e - at) z) ∙ sym u ∙ d)
 
--- ---- a part of the input behind a command line
+-- ---- texts behind a command line
 
-module _ (s : List ℕ) (at n : ℕ) (f : List ℕ → Rattle.rules.specs.Replay.Command) where
-  with-short : length s - at < n → withBytes f n (from s at) ≡ none
-  unfolding withBytes
-  with-short h = rw (from-length s at, lt-leb _ _ h) refl
+module _ (s : List ℕ) (at : ℕ) (f : List (List ℕ) → Rattle.rules.specs.Replay.Command) (ns : List ℕ) where
+  texts-short : length s - at < addedUp ns → withTexts f ns (from s at) ≡ none
+  unfolding withTexts
+  texts-short h = rw (from-length s at, lt-leb _ _ h) refl
 
-  with-whole : n ≤ length s - at → withBytes f n (from s at) ≡ some record { command = f (cut s at (at + n)); others = from s (at + n) }
-  unfolding withBytes
-  with-whole h = rw (from-length s at, le-leb _ _ h, from-take, from-drop) refl
+  texts-whole : addedUp ns ≤ length s - at → withTexts f ns (from s at) ≡ some record { command = f (textsIn ns (from s at)); others = from s (at + addedUp ns) }
+  unfolding withTexts
+  texts-whole h = rw (from-length s at, le-leb _ _ h, from-drop) refl
 
 -- ---- `M,length`
 
 module _ (s : List ℕ) (at e : ℕ) (q : Num) (u : numOf q ≡ lengthOf (cut s (at + 2) e)) where
   pub message-none : q ≡ Bad → Commanding s (messageLine s at e) End
-  unfolding messageLine commandedOf Placed
+  unfolding messageLine textsBehind lengthsOf commandedOf Placed
   message-none w = record { same = let z : lengthOf (cut s (at + 2) e) ≡ none = sym u ∙ ap numOf w in rw z refl; places = tt }
 
   module _ (n : ℕ) (w : q ≡ Value n) where
-    known : lengthOf (cut s (at + 2) e) ≡ some n
-    known = sym u ∙ ap numOf w
+    message-is : messageLine s at e ≡ withTexts sending (n ∷ []) (from s (e + 2))
+    unfolding messageLine textsBehind lengthsOf
+    message-is = let z : lengthOf (cut s (at + 2) e) ≡ some n = sym u ∙ ap numOf w in rw z refl
 
     pub message-short : length s - (e + 2) < n → Commanding s (messageLine s at e) End
-    unfolding messageLine commandedOf Placed
-    message-short h = record { same = rw (known, with-short s (e + 2) n sends h) refl; places = tt }
+    unfolding commandedOf Placed addedUp
+    message-short h = record { same = sym (message-is ∙ texts-short s (e + 2) sending (n ∷ []) (omega arith)); places = tt }
 
     pub message-whole : e + 2 ≤ length s → n ≤ length s - (e + 2) → Commanding s (messageLine s at e) (Sends (e + 2) (e + 2 + n))
-    unfolding messageLine commandedOf Placed
-    message-whole k h = record { same = rw (known, with-whole s (e + 2) n sends h) refl; places = (omega arith, omega arith) }
+    unfolding commandedOf Placed addedUp textsIn sending
+    message-whole k h = record {
+      same = let z : e + 2 + addedUp (n ∷ []) ≡ e + 2 + n = omega arith in sym (message-is ∙ texts-whole s (e + 2) sending (n ∷ []) (omega arith) ∙ rw (z, from-take));
+      places = (omega arith, omega arith);
+    }
 
 -- ---- `T,day`
 
@@ -103,9 +109,9 @@ module _ (s : List ℕ) (at e : ℕ) (q : Num) (u : numOf q ≡ sixDigits (cut s
   unfolding turnLine commandedOf Placed
   turn-day n w k = record { same = let z : sixDigits (cut s (at + 2) e) ≡ some n = sym u ∙ ap numOf w in rw z refl; places = k }
 
--- ---- `O,day,length`
+-- ---- `O,day,length,length`
 
-pub no-comma : (l : List ℕ) → length l ≡ 0 → equal (take 1 l) (ascii ",") ≡ false
+no-comma : (l : List ℕ) → length l ≡ 0 → equal (take 1 l) (ascii ",") ≡ false
 unfolding equal
 no-comma [] h = refl
 no-comma (x ∷ l) h = absurd (omega arith)
@@ -124,7 +130,7 @@ module _ (s : List ℕ) (at e : ℕ) where
     open-other n = record { same = rw (comma, ne-eqb _ _ n) refl; places = tt }
 
     module _ (m : getD s (at + 8) 0 ≡ 44) (q : Num) (u : numOf q ≡ sixDigits (cut s (at + 2) (at + 8))) where
-      line-is : openLine s at e ≡ then (sixDigits (cut s (at + 2) (at + 8))) (λ d. then (lengthOf (cut s (at + 9) e)) (λ n. withBytes (opens d) n (from s (e + 2))))
+      line-is : openLine s at e ≡ then (sixDigits (cut s (at + 2) (at + 8))) (λ d. textsBehind (opening d) 1 (cut s (at + 9) e) (from s (e + 2)))
       unfolding openLine equal
       line-is =
           let z : take 6 (cut s (at + 2) e) ≡ cut s (at + 2) (at + 8) = cut-take s (at + 2) e 6 (omega arith) ∙ ap (cut s (at + 2)) (omega arith) in
@@ -134,25 +140,28 @@ module _ (s : List ℕ) (at e : ℕ) where
       unfolding commandedOf Placed
       open-no-day w = record { same = let z : sixDigits (cut s (at + 2) (at + 8)) ≡ none = sym u ∙ ap numOf w in rw (line-is, z) refl; places = tt }
 
-      module _ (d : ℕ) (w : q ≡ Value d) (p : Num) (v : numOf p ≡ lengthOf (cut s (at + 9) e)) where
-        day-is : sixDigits (cut s (at + 2) (at + 8)) ≡ some d
-        day-is = sym u ∙ ap numOf w
+      module _ (d : ℕ) (w : q ≡ Value d) (p : Lengths) (v : lengthsIn p ≡ lengthsOf 1 (cut s (at + 9) e)) where
+        day-is : openLine s at e ≡ then (lengthsIn p) (λ ns. withTexts (opening d) ns (from s (e + 2)))
+        unfolding textsBehind
+        day-is = let z : sixDigits (cut s (at + 2) (at + 8)) ≡ some d = sym u ∙ ap numOf w in rw (line-is, z, v)
 
-        pub open-no-length : p ≡ Bad → Commanding s (openLine s at e) End
+        pub open-no-lengths : p ≡ NoLengths → Commanding s (openLine s at e) End
         unfolding commandedOf Placed
-        open-no-length y = record { same = let z : lengthOf (cut s (at + 9) e) ≡ none = sym v ∙ ap numOf y in rw (line-is, day-is, z) refl; places = tt }
+        open-no-lengths y = record { same = rw (day-is, y) refl; places = tt }
 
-        module _ (n : ℕ) (y : p ≡ Value n) where
-          length-is : lengthOf (cut s (at + 9) e) ≡ some n
-          length-is = sym v ∙ ap numOf y
+        module _ (i j : ℕ) (y : p ≡ Two i j) where
+          pub open-cut : length s - (e + 2) < i + j → Commanding s (openLine s at e) End
+          unfolding commandedOf Placed addedUp
+          open-cut l = record { same = rw (day-is, y, texts-short s (e + 2) (opening d) (i ∷ j ∷ []) (omega arith)) refl; places = tt }
 
-          pub open-cut : length s - (e + 2) < n → Commanding s (openLine s at e) End
-          unfolding commandedOf Placed
-          open-cut l = record { same = rw (line-is, day-is, length-is, with-short s (e + 2) n (opens d) l) refl; places = tt }
-
-          pub open-whole : n ≤ length s - (e + 2) → Commanding s (openLine s at e) (Opens d (e + 2) (e + 2 + n))
-          unfolding commandedOf Placed
-          open-whole l = record { same = rw (line-is, day-is, length-is, with-whole s (e + 2) n (opens d) l) refl; places = (omega arith, omega arith) }
+          pub open-whole : i + j ≤ length s - (e + 2) → Commanding s (openLine s at e) (Opens d (e + 2) (e + 2 + i) (e + 2 + i + j))
+          unfolding commandedOf Placed addedUp textsIn opening
+          open-whole l = record {
+            same =
+                let z : e + 2 + addedUp (i ∷ j ∷ []) ≡ e + 2 + i + j = omega arith in
+                sym (day-is ∙ rw y (texts-whole s (e + 2) (opening d) (i ∷ j ∷ []) (omega arith) ∙ rw (z, from-drop, from-take, from-take)));
+            places = (omega arith, (omega arith, omega arith));
+          }
 
 -- ---- by its letter
 
@@ -195,4 +204,4 @@ module _ (s : List ℕ) (at : ℕ) (l : Next) (h : LineAt s at l) where
   unfolding command commandedOf Placed
   command-none k = record { same = rw (no-line-told s at l h k .same) refl; places = tt }
 
-pub ruleset commanded = (begins-short, begins-other, begins-comma, begins-long, message-none, message-short, message-whole, turn-none, turn-day, open-short, open-other, open-no-day, open-no-length, open-cut, open-whole, by-message, by-turn, by-open, by-none, line-start, line-room, command-line, command-none, six-small, length-small)
+pub ruleset commanded = (begins-short, begins-other, begins-comma, begins-long, message-none, message-short, message-whole, turn-none, turn-day, open-short, open-other, open-no-day, open-no-lengths, open-cut, open-whole, by-message, by-turn, by-open, by-none, line-start, line-room, command-line, command-none, six-small, two-small)

@@ -1,26 +1,33 @@
--- Laws of days and lengths in command lines.
+-- Laws of days and lengths in command lines: a length is parted from the next by the first comma.
 use mathlib.Core.Path.{_≡_, refl, sym, ap, _∙_}
-use mathlib.Core.Bool.{Bool, true, false, _&&_, cond}
-use mathlib.Core.List.{List, [], _∷_}
-use mathlib.Core.Option.{Option, none, some}
+use mathlib.Core.Bool.{Bool, true, false, _&&_, not, cond}
+use mathlib.Core.List.{List, [], _∷_, _++_}
+use mathlib.Core.Option.{Option, none, some, Option·map}
 use Prim.Native.Nat.{ℕ, zero, suc, _+_, _-_, _*_, _≤_, _<_}
 use native.Mathlib.Omega.{arith}
 use native.Mathlib.Nat.{lt-of-le-of-lt}
-use lib.Dec.{leb, lit<}
+use lib.Dec.{leb, eqb, lit<}
 use lib.ListN.{length, getD, replicate}
-use borrow.Author.Tests.{le-leb, lt-leb, leb-true}
+use borrow.Author.Tests.{le-leb, lt-leb, leb-true, eqb-true, not-true, not-false}
 use borrow.Author.Needs.{fits-under}
 use mir.Val.{Fits}
-use mir.Syntax.{w32}
+use mir.Syntax.{w32, w64}
 use Rattle.text.specs.Answers.{numOf}
 use Rattle.text.specs.declared.numbers.Num.{Num}
 use Rattle.text.specs.declared.numbers.Num.the-variants.{Value, Bad}
-use Rattle.rules.specs.Text.{ascii, isDigit, digitsFrom, digits, fits, fitsSign, then, given}
-use Rattle.rules.specs.Replay.{lengthOf, sixDigits}
-use Rattle.laws.specs.Parts.{cut, cut-step, cut-done, cut-length}
+use Rattle.commands.specs.declared.number.Lengths.{Lengths}
+use Rattle.commands.specs.declared.number.Lengths.the-variants.{Two, Bad as NoLengths}
+use Rattle.rules.specs.Text.{ascii, isDigit, digitsFrom, digits, every, fits, fitsSign, then, given, addedUp}
+use Rattle.rules.specs.Replay.{lengthOf, beforeComma, behindComma, lengthsOf, sixDigits}
+use Rattle.laws.specs.Parts.{cut, cut-step, cut-done, cut-length, cut-join}
+use Rattle.laws.specs.Places.{Passed}
 use Rattle.laws.specs.Reading.{Placed, power, fits-length}
 use Rattle.laws.specs.Numbers.{digits-small}
-use Rattle.laws.specs.Tests.{holds-told, none-some}
+use Rattle.laws.specs.Values.{digits-each}
+use Rattle.laws.specs.Patterns.{digit-sign, fits-last}
+use Rattle.laws.specs.Tests.{holds-told, none-some, never, cond-left, cond-right}
+use Rattle.rule_laws.specs.Commas.{inPart}
+use Rattle.rule_laws.specs.Options.{There, Came, came, Mapped, mapped}
 
 -- the number v and the digits behind it, where it is at most 8192
 unfoldable pub limited : ℕ → List ℕ → Option ℕ
@@ -66,18 +73,89 @@ module _ (s : List ℕ) (i b v : ℕ) (x : Option ℕ) (inv : limited v (cut s i
   unfolding limited digitsFrom
   length-end h k l = rw (cut-done s i b h k, le-leb _ _ l) at inv
 
--- six digits fit their pattern
-digits-fit : (cs : List ℕ) (k v n : ℕ) → length cs ≡ k → digitsFrom v cs ≡ some n → fits (replicate k 110) cs ≡ true
+-- ---- lengths behind each other
+
+-- two that are read, or none
+abbrev pub lengthsIn : Lengths → Option (List ℕ)
+lengthsIn (Two m n) = some (m ∷ n ∷ [])
+lengthsIn NoLengths = none
+
+-- a part without commas, before a comma and as the last
+module _ (x : List ℕ) where
+  pub before-comma : (a : List ℕ) → every inPart a ≡ true → beforeComma (a ++ 44 ∷ x) ≡ a
+  unfolding every beforeComma inPart
+  before-comma [] h = refl
+  before-comma (c ∷ a) h = rw (not-true (eqb c 44) (cond-left _ _ h), before-comma a (cond-right (not (eqb c 44)) _ h))
+
+  pub behind-comma : (a : List ℕ) → every inPart a ≡ true → behindComma (a ++ 44 ∷ x) ≡ x
+  unfolding every behindComma inPart
+  behind-comma [] h = refl
+  behind-comma (c ∷ a) h = rw (not-true (eqb c 44) (cond-left _ _ h)) (behind-comma a (cond-right (not (eqb c 44)) _ h))
+
+behind-none : (a : List ℕ) → every inPart a ≡ true → behindComma a ≡ []
+unfolding every behindComma inPart
+behind-none [] h = refl
+behind-none (c ∷ a) h = rw (not-true (eqb c 44) (cond-left _ _ h)) (behind-none a (cond-right (not (eqb c 44)) _ h))
+
+-- no bytes are no lengths
+pub lengths-empty : (k : ℕ) → lengthsOf k [] ≡ none
+unfolding lengthsOf lengthOf beforeComma
+lengths-empty zero = refl
+lengths-empty (suc k) = refl
+
+-- k of the bytes from a up to e stand before a comma
+module _ (s : List ℕ) (a e k : ℕ) (w : Passed inPart s a (e - a) k) (h : a ≤ e) (l : e ≤ length s) where
+  pub lengths-one : k ≡ e - a → none ≡ lengthsOf 1 (cut s a e)
+  unfolding lengthsOf
+  lengths-one u =
+      let m : a + k ≡ e = omega arith in
+      rw (behind-none (cut s a e) (rw m at (w .front)), lengths-empty 0) (go (lengthOf (beforeComma (cut s a e))))
+    where
+      go : (o : Option ℕ) → none ≡ then o (λ n. Option·map (λ more. n ∷ more) none)
+      go none = refl
+      go (some n) = refl
+
+  module _ (u : (k ≡ e - a → ⊥)) where
+    part-here : cut s a e ≡ cut s a (a + k) ++ 44 ∷ cut s (a + k + 1) e
+    unfolding inPart
+    part-here =
+        let m : k < e - a = omega (arith, w .within, u) in
+        let c : getD s (a + k) 0 ≡ 44 = eqb-true _ _ (not-false _ (w .next m)) in
+        sym (cut-join s a k e (omega arith)) ∙ ap (λ (x : List ℕ). cut s a (a + k) ++ x) (cut-step s (a + k) e (omega arith) l ∙ rw c)
+
+    lengths-are : (j : ℕ) → lengthsOf (suc j) (cut s a e) ≡ then (lengthOf (cut s a (a + k))) (λ n. Option·map (λ more. n ∷ more) (lengthsOf j (cut s (a + k + 1) e)))
+    unfolding lengthsOf
+    lengths-are j = rw (part-here, before-comma (cut s (a + k + 1) e) (cut s a (a + k)) (w .front), behind-comma (cut s (a + k + 1) e) (cut s a (a + k)) (w .front))
+
+    module _ (q : Num) (v : numOf q ≡ lengthOf (cut s a (a + k))) where
+      pub lengths-bad : q ≡ Bad → none ≡ lengthsOf 1 (cut s a e)
+      lengths-bad b = let z : lengthOf (cut s a (a + k)) ≡ none = sym v ∙ ap numOf b in rw (lengths-are 0, z)
+
+      module _ (n : ℕ) (b : q ≡ Value n) (p : Num) (y : numOf p ≡ lengthOf (cut s (a + k + 1) e)) where
+        length-first : lengthOf (cut s a (a + k)) ≡ some n
+        length-first = sym v ∙ ap numOf b
+
+        pub lengths-second-bad : p ≡ Bad → none ≡ lengthsOf 1 (cut s a e)
+        unfolding lengthsOf
+        lengths-second-bad d = let z : lengthOf (cut s (a + k + 1) e) ≡ none = sym y ∙ ap numOf d in rw (lengths-are 0, length-first, z)
+
+        pub lengths-two : (m : ℕ) → p ≡ Value m → some (n ∷ m ∷ []) ≡ lengthsOf 1 (cut s a e)
+        unfolding lengthsOf
+        lengths-two m d = let z : lengthOf (cut s (a + k + 1) e) ≡ some m = sym y ∙ ap numOf d in rw (lengths-are 0, length-first, z)
+
+-- ---- digits
+
+-- what fits a pattern of digits is a number
+pub digits-there : (k v : ℕ) (cs : List ℕ) → fits (replicate k 110) cs ≡ true → There (digitsFrom v cs)
 unfolding fits digitsFrom fitsSign
-digits-fit [] zero v n l e = refl
-digits-fit [] (suc k) v n l e = absurd (omega arith)
-digits-fit (c ∷ cs) zero v n l e = absurd (omega arith)
-digits-fit (c ∷ cs) (suc k) v n l e = go (isDigit c) e (digits-fit cs k (v * 10 + (c - 48)) n (omega arith))
+digits-there zero v [] h = record { value = v; is = refl }
+digits-there zero v (c ∷ cs) h = never h
+digits-there (suc k) v [] h = never h
+digits-there (suc k) v (c ∷ cs) h =
+    go (isDigit c) (cond-left (isDigit c) _ h) (digits-there k (v * 10 + (c - 48)) cs (cond-right (isDigit c) _ h))
   where
-    go : (t : Bool) → cond t (digitsFrom (v * 10 + (c - 48)) cs) none ≡ some n → (digitsFrom (v * 10 + (c - 48)) cs ≡ some n → fits (replicate k 110) cs ≡ true)
-        → cond t (fits (replicate k 110) cs) false ≡ true
-    go true z f = f z
-    go false z f = none-some z
+    go : (t : Bool) → t ≡ true → There (digitsFrom (v * 10 + (c - 48)) cs) → There (cond t (digitsFrom (v * 10 + (c - 48)) cs) none)
+    go t e r = record { value = r .value; is = rw e (r .is) }
 
 module _ (s : List ℕ) (a b : ℕ) where
   pub six-other : b ≤ length s → (b - a ≡ 6 → ⊥) → none ≡ sixDigits (cut s a b)
@@ -98,7 +176,10 @@ module _ (s : List ℕ) (a b : ℕ) where
           pick : (t : Bool) → none ≡ cond {A = Option ℕ} t none none
           pick true = refl
           pick false = refl
-      go (some v) z = rw (digits-fit (cut s a b) 6 0 v (cut-length s a b l ∙ n) z) refl
+      go (some v) z =
+          let m : a + 6 ≡ b = omega arith in
+          let f : fits (ascii "nnnnnn") (cut s a b) ≡ every isDigit (cut s a (a + 6)) = fits-last 110 isDigit digit-sign s 6 a b m l in
+          rw (f, m, digits-each (cut s a b) 0 v z) refl
 
 -- a number within a limit
 given-within : (o : Option ℕ) (limit n : ℕ) → then o (λ m. given (leb m limit) m) ≡ some n → n ≤ limit
@@ -110,10 +191,21 @@ given-within (some m) limit n e = go (leb m limit) refl e
     go false h k = none-some k
 
 -- a length is at most 8,192
-pub length-limit : (l : List ℕ) (n : ℕ) → lengthOf l ≡ some n → n ≤ 8192
+length-limit : (l : List ℕ) (n : ℕ) → lengthOf l ≡ some n → n ≤ 8192
 unfolding lengthOf
 length-limit [] n e = none-some e
 length-limit (c ∷ cs) n e = given-within (digits (c ∷ cs)) 8192 n e
+
+-- and each of some lengths
+pub lengths-limit : (k : ℕ) (l ns : List ℕ) → lengthsOf k l ≡ some ns → addedUp ns ≤ 8192 + 8192 * k
+unfolding lengthsOf addedUp
+lengths-limit zero l ns e =
+    let m : Mapped (λ n. n ∷ []) (lengthOf l) ns = mapped _ _ e in
+    rw (← m .gives) (omega (arith, length-limit l (m .value) (m .is)))
+lengths-limit (suc k) l ns e =
+    let c : Came (lengthOf (beforeComma l)) (λ n. Option·map (λ more. n ∷ more) (lengthsOf k (behindComma l))) ns = came _ _ e in
+    let m : Mapped (λ more. c .value ∷ more) (lengthsOf k (behindComma l)) ns = mapped _ _ (c .gives) in
+    rw (← m .gives) (omega (arith, length-limit (beforeComma l) (c .value) (c .is), lengths-limit k (behindComma l) (m .value) (m .is)))
 
 -- as they were read, they fit their machine numbers
 module _ (s : List ℕ) (a b : ℕ) (q : Num) (n : ℕ) (w : q ≡ Value n) where
@@ -125,8 +217,9 @@ module _ (s : List ℕ) (a b : ℕ) (q : Num) (n : ℕ) (w : q ≡ Value n) wher
       go true z e = rw (← fits-length (ascii "nnnnnn") (cut s a b) z) at (digits-small (cut s a b) n e)
       go false z e = none-some e
 
-  pub length-small : numOf q ≡ lengthOf (cut s a b) → n ≤ 8192
-  length-small u = length-limit (cut s a b) n (sym u ∙ ap numOf w)
+pub two-small : (l : List ℕ) (q : Lengths) (m n : ℕ) → q ≡ Two m n → lengthsIn q ≡ lengthsOf 1 l → Fits w64 (m + n)
+unfolding addedUp
+two-small l q m n w u = fits-under w64 (m + n) 65536 (omega (arith, lengths-limit 1 l (m ∷ n ∷ []) (sym u ∙ ap lengthsIn w))) tt
 
 -- a room of the output, as the program is told it: one to seven digits, at most 1,048,576
 unfoldable pub roomOf : List ℕ → Option ℕ
@@ -169,4 +262,4 @@ pub length-room : (v : ℕ) → v ≤ 8192 → v < power 10 17
 unfolding power
 length-room v h = lt-of-le-of-lt h (lit< tt)
 
-pub ruleset numbers = (holds-told, length-room, length-empty, length-starts, length-large, length-more, length-bad, length-end, six-other, six-read, room-empty, room-long, room-bad, room-large, room-read)
+pub ruleset numbers = (holds-told, length-room, length-empty, length-starts, length-large, length-more, length-bad, length-end, lengths-one, lengths-bad, lengths-second-bad, lengths-two, six-other, six-read, room-empty, room-long, room-bad, room-large, room-read)

@@ -1,21 +1,23 @@
 -- The input read in pieces: a command in the bytes read so far is the input's whatever follows, and behind the longest command's bytes without one none follows.
-use mathlib.Core.Path.{_≡_, refl, sym, ap, _∙_}
-use mathlib.Core.Bool.{Bool, true, false, _&&_, cond}
-use mathlib.Core.List.{List, [], _∷_, _++_, append-assoc}
-use mathlib.Core.Option.{Option, none, some}
-use Prim.Native.Nat.{ℕ, _+_, _-_, _*_, _≤_, _<_}
+use mathlib.Core.Path.{_≡_, refl, sym, ap, subst, _∙_}
+use mathlib.Core.Bool.{Bool, true, false, cond}
+use mathlib.Core.List.{List, [], _∷_, _++_, append-assoc, append-nil}
+use mathlib.Core.Option.{Option, none, some, Option·map}
+use Prim.Native.Nat.{ℕ, zero, suc, _+_, _-_, _*_, _≤_, _<_}
 use native.Mathlib.Omega.{arith}
 use lib.Dec.{leb, eqb}
 use lib.ListN.{length, take, drop, length-append, length-drop, take-append-drop}
 use lib.Seq.{take-at, take-append-le, drop-append-le}
-use borrow.Author.Tests.{le-leb, leb-true, leb-false, ne-eqb}
-use Rattle.rules.specs.Text.{ascii, isDigit, digitsFrom, digits, fits, equal, then, given}
+use borrow.Author.Tests.{le-leb, leb-true, leb-false, eqb-true}
+use Rattle.rules.specs.Text.{ascii, isDigit, digitsFrom, every, then, given, addedUp}
 use Rattle.rules.specs.Lines.{TakenLine, takeLine}
-use Rattle.rules.specs.Replay.{opens, sends, turns, Commanded, lengthOf, sixDigits, withBytes, commandOf, command}
+use Rattle.rules.specs.Replay.{turns, Commanded, lengthOf, beforeComma, behindComma, lengthsOf, textsIn, withTexts, textsBehind, commandOf, command}
+use Rattle.laws.specs.Values.{digits-each}
 use Rattle.laws.specs.Tests.{never, and-left, none-some}
-use Rattle.laws.specs.Reading.{fits-length}
 use Rattle.rule_laws.specs.Lines.{FirstLine, first-line, first-length, line-taken}
-use Rattle.commands.specs.Numbers.{limited, limited-large, length-limit}
+use Rattle.rule_laws.specs.Options.{Came, came, Mapped, mapped, Gave, gave}
+use Rattle.commands.specs.Numbers.{limited, limited-large, lengths-empty, lengths-limit}
+use Rattle.commands.specs.Leads.{Starts, Earlier, Earlier.nothing, Earlier.lengths, NoIdle, Bears, starts-bears, ReadAs, ReadAs.none-read, ReadAs.turn-read, ReadAs.texts-read, read-as}
 
 -- ---- a line
 
@@ -53,7 +55,13 @@ followed c r = record { command = c .command; others = c .others ++ r }
 -- x is what is read with cs behind the line, y with r behind those too
 record Follows (cs r : List ℕ) (x y : Option Commanded) : Type 0 where
   found : (c : Commanded) → x ≡ some c → y ≡ some (followed c r)
-  missed : 8192 ≤ length cs → x ≡ none → y ≡ none
+  missed : 16384 ≤ length cs → x ≡ none → y ≡ none
+
+-- texts that are all there
+texts-more : (ns cs r : List ℕ) → addedUp ns ≤ length cs → textsIn ns (cs ++ r) ≡ textsIn ns cs
+unfolding addedUp textsIn
+texts-more [] cs r h = refl
+texts-more (n ∷ ns) cs r h = rw (take-append-le n cs r (omega arith), drop-append-le n cs r (omega arith), texts-more ns (drop n cs) r (omega (arith, length-drop n cs)))
 
 module _ (cs r : List ℕ) where
   follows-none : Follows cs r none none
@@ -62,115 +70,66 @@ module _ (cs r : List ℕ) where
   follows-some : (c : Rattle.rules.specs.Replay.Command) → Follows cs r (some record { command = c; others = cs }) (some record { command = c; others = cs ++ r })
   follows-some k = record { found = λ c e. (let u : record { command = k; others = cs } ≡ c = cc in rw (← u)); missed = λ _ e. none-some (sym e) }
 
-  follows-with : (f : List ℕ → Rattle.rules.specs.Replay.Command) (n : ℕ) → n ≤ 8192 → Follows cs r (withBytes f n cs) (withBytes f n (cs ++ r))
-  unfolding withBytes
-  follows-with f n h = go (leb n (length cs)) refl
+  follows-with : (f : List (List ℕ) → Rattle.rules.specs.Replay.Command) (ns : List ℕ) → addedUp ns ≤ 16384 → Follows cs r (withTexts f ns cs) (withTexts f ns (cs ++ r))
+  unfolding withTexts
+  follows-with f ns h = go (leb (addedUp ns) (length cs)) refl
     where
-      go : (t : Bool) → leb n (length cs) ≡ t → Follows cs r (given t record { command = f (take n cs); others = drop n cs }) (given (leb n (length (cs ++ r))) record { command = f (take n (cs ++ r)); others = drop n (cs ++ r) })
+      go : (t : Bool) → leb (addedUp ns) (length cs) ≡ t
+          → Follows cs r (given t record { command = f (textsIn ns cs); others = drop (addedUp ns) cs }) (given (leb (addedUp ns) (length (cs ++ r))) record { command = f (textsIn ns (cs ++ r)); others = drop (addedUp ns) (cs ++ r) })
       go true e =
-          let l : n ≤ length cs = leb-true _ _ e in
-          let m : n ≤ length (cs ++ r) = omega (arith, length-append cs r) in
-          rw (le-leb _ _ m, take-append-le n cs r l, drop-append-le n cs r l)
-          record { found = λ c g. (let u : record { command = f (take n cs); others = drop n cs } ≡ c = cc in rw (← u)); missed = λ _ g. none-some (sym g) }
-      go false e = record { found = λ c g. none-some g; missed = λ k g. (let l : n ≤ length cs = omega arith in never (sym e ∙ le-leb _ _ l)) }
+          let l : addedUp ns ≤ length cs = leb-true _ _ e in
+          let m : addedUp ns ≤ length (cs ++ r) = omega (arith, length-append cs r) in
+          rw (le-leb _ _ m, texts-more ns cs r l, drop-append-le (addedUp ns) cs r l)
+          record { found = λ c g. (let u : record { command = f (textsIn ns cs); others = drop (addedUp ns) cs } ≡ c = cc in rw (← u)); missed = λ _ g. none-some (sym g) }
+      go false e = record { found = λ c g. none-some g; missed = λ k g. (let l : addedUp ns ≤ length cs = omega arith in never (sym e ∙ le-leb _ _ l)) }
 
-  -- a length is at most 8,192
-  follows-length : (l : List ℕ) (f : List ℕ → Rattle.rules.specs.Replay.Command) → Follows cs r (then (lengthOf l) (λ n. withBytes f n cs)) (then (lengthOf l) (λ n. withBytes f n (cs ++ r)))
-  follows-length l f = go (lengthOf l) refl
+  follows-texts : (f : List (List ℕ) → Rattle.rules.specs.Replay.Command) (k : ℕ) (u : List ℕ) → 8192 + 8192 * k ≤ 16384 → Follows cs r (textsBehind f k u cs) (textsBehind f k u (cs ++ r))
+  unfolding textsBehind
+  follows-texts f k u h = go (lengthsOf k u) refl
     where
-      go : (o : Option ℕ) → lengthOf l ≡ o → Follows cs r (then o (λ n. withBytes f n cs)) (then o (λ n. withBytes f n (cs ++ r)))
+      go : (o : Option (List ℕ)) → lengthsOf k u ≡ o → Follows cs r (then o (λ ns. withTexts f ns cs)) (then o (λ ns. withTexts f ns (cs ++ r)))
       go none e = follows-none
-      go (some n) e = follows-with f n (length-limit l n e)
+      go (some ns) e = follows-with f ns (omega (arith, lengths-limit k u ns e))
 
   follows-line : (l : List ℕ) → Follows cs r (commandOf l cs) (commandOf l (cs ++ r))
-  unfolding commandOf
-  follows-line l = go (equal (take 2 l) (ascii "M,")) (equal (take 2 l) (ascii "T,")) (equal (take 2 l) (ascii "O,") && equal (take 1 (drop 8 l)) (ascii ",")) (sixDigits (drop 2 l)) (sixDigits (take 6 (drop 2 l)))
+  follows-line l = go (read-as l)
     where
-      go : (p q b : Bool) (o x : Option ℕ)
-          → Follows cs r
-          (cond p (then (lengthOf (drop 2 l)) (λ n. withBytes sends n cs)) (cond q (then o (λ d. some record { command = turns d; others = cs })) (cond b (then x (λ d. then (lengthOf (drop 9 l)) (λ n. withBytes (opens d) n cs))) none)))
-          (cond p (then (lengthOf (drop 2 l)) (λ n. withBytes sends n (cs ++ r))) (cond q (then o (λ d. some record { command = turns d; others = cs ++ r })) (cond b (then x (λ d. then (lengthOf (drop 9 l)) (λ n. withBytes (opens d) n (cs ++ r)))) none)))
-      go true q b o x = follows-length (drop 2 l) sends
-      go false true b none x = follows-none
-      go false true b (some d) x = follows-some (turns d)
-      go false false true o none = follows-none
-      go false false true o (some d) = follows-length (drop 9 l) (opens d)
-      go false false false o x = follows-none
-
-bytes-behind : (f : List ℕ → Rattle.rules.specs.Replay.Command) (n : ℕ) (cs : List ℕ) (c : Commanded) → withBytes f n cs ≡ some c → length (c .others) ≤ length cs
-unfolding withBytes
-bytes-behind f n cs c e = go (leb n (length cs)) e
-  where
-    go : (t : Bool) → given t record { command = f (take n cs); others = drop n cs } ≡ some c → length (c .others) ≤ length cs
-    go true k = let u : record { command = f (take n cs); others = drop n cs } ≡ c = cc in rw (← u, length-drop) (omega arith)
-    go false k = none-some k
+      go : ReadAs l → Follows cs r (commandOf l cs) (commandOf l (cs ++ r))
+      go (none-read e) = rw (e cs, e (cs ++ r)) follows-none
+      go (turn-read d _ e) = rw (e cs, e (cs ++ r)) (follows-some (turns d))
+      go (texts-read q u s e) = let b : Bears q = starts-bears s in rw (e, b .line u cs, b .line u (cs ++ r)) (follows-texts (b .made) (b .more) u (b .text-room))
 
 -- a command that stands in the bytes read is the input's
 pub command-more : (w r : List ℕ) (c : Commanded) → command w ≡ some c → command (w ++ r) ≡ some (followed c r)
 unfolding command
-command-more w r c e = go (takeLine w) refl e
-  where
-    go : (o : Option TakenLine) → takeLine w ≡ o → then o (λ t. commandOf (t .line) (t .others)) ≡ some c → command (w ++ r) ≡ some (followed c r)
-    go none h k = none-some k
-    go (some t) h k = rw (line-more w r t h) (follows-line (t .others) r (t .line) .found c k)
+command-more w r c e =
+    let t : Came (takeLine w) (λ t. commandOf (t .line) (t .others)) c = came _ _ e in
+    rw (line-more w r (t .value) (t .is)) (follows-line (t .value .others) r (t .value .line) .found c (t .gives))
 
 -- less input stands behind a command than before it
+texts-behind : (f : List (List ℕ) → Rattle.rules.specs.Replay.Command) (k : ℕ) (u cs : List ℕ) (c : Commanded) → textsBehind f k u cs ≡ some c → length (c .others) ≤ length cs
+unfolding textsBehind withTexts
+texts-behind f k u cs c e =
+    let t : Came (lengthsOf k u) (λ ns. withTexts f ns cs) c = came _ _ e in
+    let n : ℕ = addedUp (t .value) in
+    let g : Gave (leb n (length cs)) record { command = f (textsIn (t .value) cs); others = drop n cs } c = gave _ _ (t .gives) in
+    rw (← g .is, length-drop) (omega arith)
+
 line-behind : (l cs : List ℕ) (c : Commanded) → commandOf l cs ≡ some c → length (c .others) ≤ length cs
-unfolding commandOf
-line-behind l cs c e = go (equal (take 2 l) (ascii "M,")) (equal (take 2 l) (ascii "T,")) (equal (take 2 l) (ascii "O,") && equal (take 1 (drop 8 l)) (ascii ",")) (lengthOf (drop 2 l)) (sixDigits (drop 2 l)) (sixDigits (take 6 (drop 2 l))) (lengthOf (drop 9 l)) e
+line-behind l cs c h = go (read-as l)
   where
-    go : (p q b : Bool) (n d x m : Option ℕ)
-        → cond p (then n (λ n. withBytes sends n cs)) (cond q (then d (λ d. some record { command = turns d; others = cs })) (cond b (then x (λ d. then m (λ n. withBytes (opens d) n cs))) none)) ≡ some c
-        → length (c .others) ≤ length cs
-    go true q b none d x m h = none-some h
-    go true q b (some n) d x m h = bytes-behind sends n cs c h
-    go false true b n none x m h = none-some h
-    go false true b n (some d) x m h = let u : record { command = turns d; others = cs } ≡ c = cc in rw (← u) (omega arith)
-    go false false true n d none m h = none-some h
-    go false false true n d (some x) none h = none-some h
-    go false false true n d (some x) (some m) h = bytes-behind (opens x) m cs c h
-    go false false false n d x m h = none-some h
+    go : ReadAs l → length (c .others) ≤ length cs
+    go (none-read e) = none-some (sym (e cs) ∙ h)
+    go (turn-read d _ e) = let u : some record { command = turns d; others = cs } ≡ some c = sym (e cs) ∙ h in let v : cs ≡ c .others = cc in rw (← v) (omega arith)
+    go (texts-read q u s e) = let b : Bears q = starts-bears s in texts-behind (b .made) (b .more) u cs c (sym (b .line u cs) ∙ ap (λ (x : List ℕ). commandOf x cs) (sym e) ∙ h)
 
 pub command-behind : (w : List ℕ) (c : Commanded) → command w ≡ some c → length (c .others) < length w
 unfolding command
-command-behind w c e = go (takeLine w) refl e
-  where
-    go : (o : Option TakenLine) → takeLine w ≡ o → then o (λ t. commandOf (t .line) (t .others)) ≡ some c → length (c .others) < length w
-    go none h k = none-some k
-    go (some t) h k = omega (arith, first-length w t h, line-behind (t .line) (t .others) c k)
+command-behind w c e =
+    let t : Came (takeLine w) (λ t. commandOf (t .line) (t .others)) c = came _ _ e in
+    omega (arith, first-length w (t .value) (t .is), line-behind (t .value .line) (t .value .others) c (t .gives))
 
 -- ---- the longest command
-
--- where the length begins on the command line that the bytes begin with, 0 where there is none
-unfoldable pub lengthPlace : List ℕ → ℕ
-lengthPlace cs = cond (equal (take 2 cs) (ascii "M,")) 2 (cond (equal (take 2 cs) (ascii "O,") && equal (take 1 (drop 8 cs)) (ascii ",")) 9 0)
-
--- does it begin with two zeros?
-unfoldable pub doubled : List ℕ → Bool
-doubled cs = let p = lengthPlace cs in cond (eqb p 0) false (equal (take 2 (drop p cs)) (ascii "00"))
-
-place-bound : (cs : List ℕ) → lengthPlace cs ≤ 9
-unfolding lengthPlace
-place-bound cs = go (equal (take 2 cs) (ascii "M,")) (equal (take 2 cs) (ascii "O,") && equal (take 1 (drop 8 cs)) (ascii ","))
-  where
-    go : (p q : Bool) → cond p 2 (cond q 9 0) ≤ 9
-    go true q = omega arith
-    go false true = omega arith
-    go false false = omega arith
-
-place-more : (w r : List ℕ) → 11 ≤ length w → lengthPlace (w ++ r) ≡ lengthPlace w
-unfolding lengthPlace
-place-more w r h =
-    let k : 1 ≤ length (drop 8 w) = omega (arith, length-drop 8 w) in
-    rw (take-append-le 2 w r (omega arith), drop-append-le 8 w r (omega arith), take-append-le 1 (drop 8 w) r k)
-
--- eleven bytes tell
-doubled-more : (w r : List ℕ) → 11 ≤ length w → doubled (w ++ r) ≡ doubled w
-unfolding doubled
-doubled-more w r h =
-    let b : lengthPlace w ≤ 9 = place-bound w in
-    let k : 2 ≤ length (drop (lengthPlace w) w) = omega (arith, length-drop (lengthPlace w) w) in
-    rw (place-more w r h, drop-append-le (lengthPlace w) w r (omega arith), take-append-le 2 (drop (lengthPlace w) w) r k)
 
 -- a digit of a length
 limited-step : (v c n : ℕ) (cs : List ℕ) → limited v (c ∷ cs) ≡ some n → (48 ≤ c) × (limited (v * 10 + (c - 48)) cs ≡ some n)
@@ -209,50 +168,94 @@ long-zeros (a ∷ b ∷ c ∷ d ∷ f ∷ g ∷ cs) n e h =
     let y : b ≡ 48 = omega (arith, u, s2 .0) in
     rw (x, y)
 
--- so where it does not begin with two, it has at most five
-length-none : (l : List ℕ) (p : ℕ) → lengthPlace l ≡ p → 0 < p → p + 6 ≤ length l → doubled l ≡ false → lengthOf (drop p l) ≡ none
-unfolding doubled equal
-length-none l p e h k d = go (lengthOf (drop p l)) refl
+-- the digits of a length
+length-digits : (cs : List ℕ) (n : ℕ) → lengthOf cs ≡ some n → every isDigit cs ≡ true
+unfolding lengthOf every
+length-digits [] n e = refl
+length-digits (c ∷ cs) n e = digits-each (c ∷ cs) 0 (came (digitsFrom 0 (c ∷ cs)) (λ m. given (leb m 8192) m) e .value) (came (digitsFrom 0 (c ∷ cs)) (λ m. given (leb m 8192) m) e .is)
+
+-- lengths of five digits at most, or one that begins with two zeros
+data Sized (k : ℕ) (u : List ℕ) : Type 0 where
+  short : length u ≤ 5 + 6 * k → Sized k u
+  idle : (ps v : List ℕ) → Earlier ps → u ≡ ps ++ (48 ∷ 48 ∷ v) → length ps ≤ 6 * k → Sized k u
+
+-- what stands behind a comma tells where it stands
+comma-apart : (u : List ℕ) → 0 < length (behindComma u) → u ≡ beforeComma u ++ 44 ∷ behindComma u
+unfolding beforeComma behindComma
+comma-apart [] h = absurd (omega arith)
+comma-apart (c ∷ u) h = go (eqb c 44) refl (comma-apart u) h
   where
-    go : (o : Option ℕ) → lengthOf (drop p l) ≡ o → o ≡ none
-    go none f = refl
-    go (some n) f =
-        let z : take 2 (drop p l) ≡ ascii "00" = long-zeros (drop p l) n f (omega (arith, length-drop p l)) in
-        never (sym (rw (e, ne-eqb p 0 (λ (q : p ≡ 0). omega arith), z) at d))
+    go : (t : Bool) → eqb c 44 ≡ t → (0 < length (behindComma u) → u ≡ beforeComma u ++ 44 ∷ behindComma u) → 0 < length (cond t u (behindComma u))
+        → c ∷ u ≡ cond t [] (c ∷ beforeComma u) ++ 44 ∷ cond t u (behindComma u)
+    go true e f k = rw (eqb-true c 44 e)
+    go false e f k = ap (λ (x : List ℕ). c ∷ x) (f k)
 
-six-none : (cs : List ℕ) → 7 ≤ length cs → sixDigits cs ≡ none
-unfolding sixDigits
-six-none cs h = go (fits (ascii "nnnnnn") cs) refl
+module _ (k n : ℕ) (d x : List ℕ) (e : lengthOf d ≡ some n) where
+  sized-first : 6 ≤ length d → Sized k (d ++ x)
+  sized-first h =
+      let z : d ≡ 48 ∷ 48 ∷ drop 2 d = sym (take-append-drop 2 d) ∙ rw (long-zeros d n e h) in
+      idle [] (drop 2 d ++ x) nothing (ap (λ (y : List ℕ). y ++ x) z) (omega arith)
+
+  sized-next : length d < 6 → Sized k x → Sized (suc k) (d ++ 44 ∷ x)
+  sized-next h (short s) = short (rw length-append (omega arith))
+  sized-next h (idle ps v l f s) = idle (d ++ 44 ∷ ps) v (lengths d (length-digits d n e) l) (rw (f, append-assoc)) (rw length-append (omega arith))
+
+filled : (k : ℕ) (x ns : List ℕ) → lengthsOf k x ≡ some ns → 0 < length x
+filled k [] ns h = none-some (sym (lengths-empty k) ∙ h)
+filled k (y ∷ x) ns h = omega arith
+
+sized : (k : ℕ) (u ns : List ℕ) → lengthsOf k u ≡ some ns → Sized k u
+unfolding lengthsOf
+sized zero u ns e = let m : Mapped (λ n. n ∷ []) (lengthOf u) ns = mapped _ _ e in go (m .value) (m .is) (leb 6 (length u)) refl
   where
-    go : (t : Bool) → fits (ascii "nnnnnn") cs ≡ t → cond t (digits cs) none ≡ none
-    go true e = absurd (omega (arith, fits-length (ascii "nnnnnn") cs e))
-    go false e = refl
-
--- and a longer line is no command's
-long-none : (l cs : List ℕ) → 15 ≤ length l → doubled l ≡ false → commandOf l cs ≡ none
-unfolding commandOf lengthPlace
-long-none l cs h d = go (equal (take 2 l) (ascii "M,")) refl (equal (take 2 l) (ascii "T,")) (equal (take 2 l) (ascii "O,") && equal (take 1 (drop 8 l)) (ascii ",")) refl
+    go : (n : ℕ) → lengthOf u ≡ some n → (t : Bool) → leb 6 (length u) ≡ t → Sized zero u
+    go n f true h = rw append-nil at (sized-first zero n u [] f (leb-true _ _ h))
+    go n f false h = short (omega (arith, leb-false 6 (length u) h))
+sized (suc k) u ns e =
+    let c : Came (lengthOf (beforeComma u)) (λ n. Option·map (λ more. n ∷ more) (lengthsOf k (behindComma u))) ns = came _ _ e in
+    let m : Mapped (λ more. c .value ∷ more) (lengthsOf k (behindComma u)) ns = mapped _ _ (c .gives) in
+    let a : u ≡ beforeComma u ++ 44 ∷ behindComma u = comma-apart u (filled k (behindComma u) (m .value) (m .is)) in
+    subst (Sized (suc k)) (sym a) (go (beforeComma u) (c .value) (c .is) (sized k (behindComma u) (m .value) (m .is)) (leb 6 (length (beforeComma u))) refl)
   where
-    opened : (x : Option ℕ) → lengthOf (drop 9 l) ≡ none → then x (λ d. then (lengthOf (drop 9 l)) (λ n. withBytes (opens d) n cs)) ≡ none
-    opened none e = refl
-    opened (some d) e = rw e
+    go : (d : List ℕ) (n : ℕ) → lengthOf d ≡ some n → Sized k (behindComma u) → (t : Bool) → leb 6 (length d) ≡ t → Sized (suc k) (d ++ 44 ∷ behindComma u)
+    go d n f s true h = sized-first (suc k) n d (44 ∷ behindComma u) f (leb-true _ _ h)
+    go d n f s false h = sized-next k n d (behindComma u) f (leb-false 6 (length d) h) s
 
-    go : (p : Bool) → equal (take 2 l) (ascii "M,") ≡ p → (q b : Bool) → (equal (take 2 l) (ascii "O,") && equal (take 1 (drop 8 l)) (ascii ",")) ≡ b
-        → cond p (then (lengthOf (drop 2 l)) (λ n. withBytes sends n cs)) (cond q (then (sixDigits (drop 2 l)) (λ d. some record { command = turns d; others = cs }))
-        (cond b (then (sixDigits (take 6 (drop 2 l))) (λ d. then (lengthOf (drop 9 l)) (λ n. withBytes (opens d) n cs))) none)) ≡ none
-    go true e q b f = let z : lengthOf (drop 2 l) ≡ none = length-none l 2 (rw e) (omega arith) (omega arith) d in rw z
-    go false e true b f = let z : sixDigits (drop 2 l) ≡ none = six-none (drop 2 l) (omega (arith, length-drop 2 l)) in rw z
-    go false e false true f = opened (sixDigits (take 6 (drop 2 l))) (length-none l 9 (rw (e, f)) (omega arith) (omega arith) d)
-    go false e false false f = refl
-
--- the longest command: fourteen bytes and CR LF, and 8,192 bytes
+-- the longest command: twenty bytes and CR LF, and two texts of 8,192 bytes
 abbrev pub longest : ℕ
-longest = 8208
+longest = 16406
 
 -- where as many bytes are read, and no command stands there, none follows
-module _ (w r : List ℕ) (h : longest ≤ length w) (d : doubled w ≡ false) where
-  line-none : (l cs : List ℕ) → 15 ≤ length l → w ++ r ≡ l ++ (13 ∷ 10 ∷ cs) → commandOf l cs ≡ none
-  line-none l cs k e = long-none l cs k (sym (doubled-more l (13 ∷ 10 ∷ cs) (omega arith)) ∙ ap doubled (sym e) ∙ doubled-more w r (omega arith) ∙ d)
+module _ (w r : List ℕ) (h : longest ≤ length w) (d : NoIdle w) where
+  -- what stands in front of the input stands in front of what is read
+  front : (x y : List ℕ) → length x ≤ length w → w ++ r ≡ x ++ y → w ≡ x ++ drop (length x) w
+  front x y k e =
+      let a : take (length x) w ≡ x = sym (take-append-le (length x) w r k) ∙ ap (take (length x)) e ∙ take-at x y (length x) refl in
+      sym (take-append-drop (length x) w) ∙ rw a
+
+  line-none : (l cs : List ℕ) → 21 ≤ length l → w ++ r ≡ l ++ (13 ∷ 10 ∷ cs) → commandOf l cs ≡ none
+  unfolding textsBehind
+  line-none l cs k e = go (read-as l)
+    where
+      long : (q u : List ℕ) (b : Bears q) → Starts q → l ≡ q ++ u → Sized (b .more) u → ⊥
+      long q u b s f (short m) = omega (arith, ap length f ∙ length-append q u, b .line-room)
+      long q u b s f (idle ps v p g m) =
+          let x : List ℕ = q ++ (ps ++ (48 ∷ 48 ∷ [])) in
+          let n : length x ≡ length q + (length ps + 2) = rw (length-append, length-append) in
+          let y : w ++ r ≡ x ++ (v ++ (13 ∷ 10 ∷ cs)) = e ∙ rw (f, g) (simp append-assoc) in
+          let z : w ≡ q ++ (ps ++ (48 ∷ 48 ∷ drop (length x) w)) = front x (v ++ (13 ∷ 10 ∷ cs)) (omega (arith, b .line-room)) y ∙ simp append-assoc in
+          d .none q (ps ++ (48 ∷ 48 ∷ drop (length x) w)) s z .none ps (drop (length x) w) p refl
+
+      texts : (q u : List ℕ) (b : Bears q) → Starts q → l ≡ q ++ u → (o : Option (List ℕ)) → lengthsOf (b .more) u ≡ o → then o (λ ns. withTexts (b .made) ns cs) ≡ none
+      texts q u b s f none g = refl
+      texts q u b s f (some ns) g = absurd (long q u b s f (sized (b .more) u ns g))
+
+      go : ReadAs l → commandOf l cs ≡ none
+      go (none-read f) = f cs
+      go (turn-read _ n f) = absurd (omega arith)
+      go (texts-read q u s f) =
+          let b : Bears q = starts-bears s in
+          ap (λ (x : List ℕ). commandOf x cs) f ∙ b .line u cs ∙ texts q u b s f (lengthsOf (b .more) u) refl
 
   pub none-follows : command w ≡ none → command (w ++ r) ≡ none
   unfolding command
@@ -262,11 +265,11 @@ module _ (w r : List ℕ) (h : longest ≤ length w) (d : doubled w ≡ false) w
       late none m k = refl
       late (some t) m k = line-none (t .line) (t .others) (omega (arith, line-late w r t m k)) (first-line (w ++ r) t k .text)
 
-      soon : (t : TakenLine) → takeLine w ≡ some t → commandOf (t .line) (t .others) ≡ none → (b : Bool) → leb 8192 (length (t .others)) ≡ b → commandOf (t .line) (t .others ++ r) ≡ none
+      soon : (t : TakenLine) → takeLine w ≡ some t → commandOf (t .line) (t .others) ≡ none → (b : Bool) → leb 16384 (length (t .others)) ≡ b → commandOf (t .line) (t .others ++ r) ≡ none
       soon t m k true f = follows-line (t .others) r (t .line) .missed (leb-true _ _ f) k
       soon t m k false f =
-          line-none (t .line) (t .others ++ r) (omega (arith, first-length w t m, leb-false 8192 (length (t .others)) f)) (first-line (w ++ r) _ (line-more w r t m) .text)
+          line-none (t .line) (t .others ++ r) (omega (arith, first-length w t m, leb-false 16384 (length (t .others)) f)) (first-line (w ++ r) _ (line-more w r t m) .text)
 
       go : (o : Option TakenLine) → takeLine w ≡ o → then o (λ t. commandOf (t .line) (t .others)) ≡ none → then (takeLine (w ++ r)) (λ t. commandOf (t .line) (t .others)) ≡ none
       go none m k = late (takeLine (w ++ r)) m refl
-      go (some t) m k = rw (line-more w r t m) (soon t m k (leb 8192 (length (t .others))) refl)
+      go (some t) m k = rw (line-more w r t m) (soon t m k (leb 16384 (length (t .others))) refl)

@@ -1,6 +1,8 @@
 // Commands.
+use crate::number::Lengths;
 use crate::number::read_length;
 use crate::number::six_digits;
+use crate::number::two_lengths;
 use lines::Next;
 use text::Num;
 ghost use mathlib.Core.Path.{_≡_};
@@ -14,8 +16,8 @@ ghost use Rattle.commands.specs.Answers.{Commanding, messageLine, turnLi
 
 // A command, by its places in the input.
 pub enum Command {
-    // An opening: its day, and where its register begins and ends.
-    Opens(u32, usize, usize),
+    // An opening: its day, and where its register begins, where that ends and its holiday list begins, and where that ends.
+    Opens(u32, usize, usize, usize),
     // Where a message begins and ends.
     Sends(usize, usize),
     // A turn: its day, and the place behind it.
@@ -25,7 +27,7 @@ pub enum Command {
 }
 
 // Does the line begin with the letter and a comma?
-pub fn begins(s: &[u8], at: usize, e: usize, c: u8) -> bool
+fn begins(s: &[u8], at: usize, e: usize, c: u8) -> bool
     requires { ⌜ (at ≤ e) × (e ≤ length (now s)) ⌝ }
     ensures { λ r. ⌜ r ≡ equal (take 2 (cut (now (s .entry)) at e)) (c ∷ 44 ∷ []) ⌝ }
 {
@@ -64,7 +66,7 @@ fn turn_command(s: &[u8], at: usize, e: usize) -> Command
     Command::Turns(day as u32, e + 2)
 }
 
-// `O,day,length` and a register.
+// `O,day,length,length`, a register and a holiday list.
 fn open_command(s: &[u8], at: usize, e: usize) -> Command
     requires { ⌜ (at + 2 ≤ e) × (e + 2 ≤ length (now s)) ⌝ }
     ensures { λ r. ⌜ Commanding (now (s .entry)) (openLine (now (s .entry)) at e) r ⌝ }
@@ -78,14 +80,15 @@ fn open_command(s: &[u8], at: usize, e: usize) -> Command
     let Num::Value(day) = six_digits(s, at + 2, at + 8) else {
         return Command::End;
     };
-    let Num::Value(n) = read_length(s, at + 9, e) else {
+    let Lengths::Two(m, n) = two_lengths(s, at + 9, e) else {
         return Command::End;
     };
     let start = e + 2;
-    if s.len() - start < n as usize {
+    if s.len() - start < (m + n) as usize {
         return Command::End;
     }
-    Command::Opens(day as u32, start, start + n as usize)
+    let middle = start + m as usize;
+    Command::Opens(day as u32, start, middle, middle + n as usize)
 }
 
 // The command of the line from at to e.

@@ -82,7 +82,7 @@ module _ {s : List ℕ} {at n : ℕ} (l : Unread s at n) {r : ℕ} {s' : List �
   pub wants-none : r ≡ length s' → Wanted s at n s' Ends
   wants-none h =
       let f : command (cut s' 0 r) ≡ none = ap command (sym (append-nil (cut s' 0 r))) ∙ w .same [] ∙ ap command (append-nil (cut s at n)) ∙ l .stands in
-      record { told = record { size = w .size; none = λ more. sym (w .same more) ∙ none-follows (cut s' 0 r) more (omega (arith, front-length, w .size, l .wide)) (w .single) f } }
+      record { told = record { size = w .size; none = λ more. sym (w .same more) ∙ none-follows (cut s' 0 r) more (omega (arith, front-length, w .size, l .wide)) (w .idle (omega (arith, h, w .fewer, w .size, l .order, l .within))) f } }
 
 -- ---- a turn
 

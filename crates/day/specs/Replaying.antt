@@ -27,27 +27,27 @@ use Rattle.day.specs.Told.{CallTold, answerText, answer-printed, answer-
 
 -- the place behind a command
 unfoldable pub nextOf : Command → ℕ
-nextOf (Opens day a b) = b
+nextOf (Opens day a b c) = c
 nextOf (Sends a b) = b
 nextOf (Turns day n) = n
 nextOf End = 0
 
 unfoldable pub isEnd : Command → Bool
-isEnd (Opens day a b) = false
+isEnd (Opens day a b c) = false
 isEnd (Sends a b) = false
 isEnd (Turns day n) = false
 isEnd End = true
 
 -- the card's answer to a command
 unfoldable pub answerTo : List ℕ → Command → ℕ → Option Engine → Answer
-answerTo s (Opens day a b) room engine = openCall areaSize engine (cut s a b) day
+answerTo s (Opens day a b c) room engine = openCall areaSize engine (cut s a b) (cut s b c) day
 answerTo s (Sends a b) room engine = messageCall room engine (cut s a b)
 answerTo s (Turns day n) room engine = turnCall room engine day
 answerTo s End room engine = turnCall room engine 0
 
 pub next-within : (s : List ℕ) (x : Option Commanded) (c : Command) → Commanding s x c → nextOf c ≤ length s
 unfolding nextOf Placed
-next-within s x (Opens day a b) w = w .places .1
+next-within s x (Opens day a b c) w = w .places .1 .1
 next-within s x (Sends a b) w = w .places .1
 next-within s x (Turns day n) w = w .places
 next-within s x End w = omega arith
@@ -61,7 +61,7 @@ record CommandFound (s : List ℕ) (x : Option Commanded) (c : Command) (room : 
 
 found-by : (s : List ℕ) (x : Option Commanded) (c : Command) (room : ℕ) (engine : Option Engine) → Commanding s x c → isEnd c ≡ false → CommandFound s x c room engine
 unfolding isEnd answerTo nextOf commandedOf called
-found-by s x (Opens day a b) room engine w e = record { found = record { command = R.opens day (cut s a b); others = from s b }; stands = sym (w .same); others = refl; answers = refl }
+found-by s x (Opens day a b c) room engine w e = record { found = record { command = R.opens day (cut s a b) (cut s b c); others = from s c }; stands = sym (w .same); others = refl; answers = refl }
 found-by s x (Sends a b) room engine w e = record { found = record { command = R.sends (cut s a b); others = from s b }; stands = sym (w .same); others = refl; answers = refl }
 found-by s x (Turns day n) room engine w e = record { found = record { command = R.turns day; others = from s n }; stands = sym (w .same); others = refl; answers = refl }
 found-by s x End room engine w e = never (sym e)
@@ -105,7 +105,7 @@ module _ {s : List ℕ} {at o : ℕ} {area area' out out' shown shown' : List �
 module _ (s : List ℕ) (at : ℕ) (c : Command) (w : Commanding s (command (from s at)) c) (t : Bool) (u : t ≡ isEnd c) where
   nothing : (c : Command) → Commanding s (command (from s at)) c → isEnd c ≡ true → command (from s at) ≡ none
   unfolding isEnd commandedOf
-  nothing (Opens day a b) v e = never e
+  nothing (Opens day a b k) v e = never e
   nothing (Sends a b) v e = never e
   nothing (Turns day n) v e = never e
   nothing End v e = sym (v .same)
@@ -170,9 +170,9 @@ module _ {s area out shown whole start : List ℕ} {at k o room span : ℕ} (m :
 -- ---- by the case of a command
 
 module _ (s : List ℕ) (c : Command) {r : Outcome} {area area' out out' : List ℕ} where
-  pub perform-open : (day a b : ℕ) → c ≡ Opens day a b → CallTold (openCall areaSize (holds area) (cut s a b) day) r area area' out out' → CallTold (answerTo s c (length out) (holds area)) r area area' out out'
+  pub perform-open : (day a b k : ℕ) → c ≡ Opens day a b k → CallTold (openCall areaSize (holds area) (cut s a b) (cut s b k) day) r area area' out out' → CallTold (answerTo s c (length out) (holds area)) r area area' out out'
   unfolding answerTo
-  perform-open day a b e t = rw e t
+  perform-open day a b k e t = rw e t
 
   pub perform-message : (a b : ℕ) → c ≡ Sends a b → CallTold (messageCall (length out) (holds area) (cut s a b)) r area area' out out' → CallTold (answerTo s c (length out) (holds area)) r area area' out out'
   unfolding answerTo
@@ -187,13 +187,17 @@ module _ (s : List ℕ) (c : Command) {r : Outcome} {area area' out out' : List 
   perform-end e t = rw e t
 
 module _ (s : List ℕ) (c : Command) (p : Placed s c) where
-  pub opens-order : (day a b : ℕ) → c ≡ Opens day a b → a ≤ b
+  pub opens-order : (day a b k : ℕ) → c ≡ Opens day a b k → a ≤ b
   unfolding Placed
-  opens-order day a b e = (subst (Placed s) e p) .0
+  opens-order day a b k e = (subst (Placed s) e p) .0
 
-  pub opens-room : (day a b : ℕ) → c ≡ Opens day a b → b ≤ length s
+  pub opens-behind : (day a b k : ℕ) → c ≡ Opens day a b k → b ≤ k
   unfolding Placed
-  opens-room day a b e = (subst (Placed s) e p) .1
+  opens-behind day a b k e = (subst (Placed s) e p) .1 .0
+
+  pub opens-room : (day a b k : ℕ) → c ≡ Opens day a b k → k ≤ length s
+  unfolding Placed
+  opens-room day a b k e = (subst (Placed s) e p) .1 .1
 
   pub sends-order : (a b : ℕ) → c ≡ Sends a b → a ≤ b
   unfolding Placed
@@ -204,9 +208,9 @@ module _ (s : List ℕ) (c : Command) (p : Placed s c) where
   sends-room a b e = (subst (Placed s) e p) .1
 
 module _ (c : Command) where
-  pub end-opens : (day a b : ℕ) → c ≡ Opens day a b → false ≡ isEnd c
+  pub end-opens : (day a b k : ℕ) → c ≡ Opens day a b k → false ≡ isEnd c
   unfolding isEnd
-  end-opens day a b e = rw e refl
+  end-opens day a b k e = rw e refl
 
   pub end-sends : (a b : ℕ) → c ≡ Sends a b → false ≡ isEnd c
   unfolding isEnd
@@ -220,9 +224,9 @@ module _ (c : Command) where
   unfolding isEnd
   end-end e = rw e refl
 
-  pub next-opens : (day a b : ℕ) → c ≡ Opens day a b → b ≡ nextOf c
+  pub next-opens : (day a b k : ℕ) → c ≡ Opens day a b k → k ≡ nextOf c
   unfolding nextOf
-  next-opens day a b e = rw e refl
+  next-opens day a b k e = rw e refl
 
   pub next-sends : (a b : ℕ) → c ≡ Sends a b → b ≡ nextOf c
   unfolding nextOf
@@ -236,4 +240,4 @@ module _ (c : Command) where
   unfolding nextOf
   next-end e = rw e refl
 
-pub ruleset replaying = (perform-open, perform-message, perform-turn, perform-end, opens-order, opens-room, sends-order, sends-room, end-opens, end-sends, end-turns, end-end, next-opens, next-sends, next-turns, next-end, step-none, step-done, replay-starts, replay-out, replay-ends, replay-goes)
+pub ruleset replaying = (perform-open, perform-message, perform-turn, perform-end, opens-order, opens-behind, opens-room, sends-order, sends-room, end-opens, end-sends, end-turns, end-end, next-opens, next-sends, next-turns, next-end, step-none, step-done, replay-starts, replay-out, replay-ends, replay-goes)

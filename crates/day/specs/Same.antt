@@ -66,18 +66,18 @@ same-answered ss a area out f = go (eqb (firstOf ss) 0) refl
 
 module _ (area : List ℕ) (l : areaSize ≤ length area) where
   -- opening: its output is nobody's
-  module _ (text : List ℕ) (day : ℕ) where
-    open-same : firstOf (openStops (length area) text day) ≡ 0 → SameAnswer (acceptedOpening text day) (onAreas (acceptedOpening text day) area []) area []
+  module _ (text list : List ℕ) (day : ℕ) where
+    open-same : firstOf (openStops (length area) text list day) ≡ 0 → SameAnswer (acceptedOpening text list day) (onAreas (acceptedOpening text list day) area []) area []
     unfolding acceptedOpening onAreas stored over
-    open-same k = same-done refl l (omega arith) record { good = opened-within (length area) text day k; written = refl; difference = refl; area = refl; output = refl }
+    open-same k = same-done refl l (omega arith) record { good = opened-within (length area) text list day k; written = refl; difference = refl; area = refl; output = refl }
 
-    sizes : openStops areaSize text day ≡ openStops (length area) text day
+    sizes : openStops areaSize text list day ≡ openStops (length area) text list day
     unfolding openStops
     sizes = rw (le-leb _ _ l)
 
-    pub same-open : SameAnswer (openCall areaSize (holds area) text day) (cardOpen text day area) area []
+    pub same-open : SameAnswer (openCall areaSize (holds area) text list day) (cardOpen text list day area) area []
     unfolding openCall cardOpen
-    same-open = rw sizes (same-answered (openStops (length area) text day) (acceptedOpening text day) area [] open-same)
+    same-open = rw sizes (same-answered (openStops (length area) text list day) (acceptedOpening text list day) area [] open-same)
 
   -- a message
   module _ (out s : List ℕ) where
@@ -100,7 +100,7 @@ module _ (area : List ℕ) (l : areaSize ≤ length area) where
     turn-same k =
         let w : Turns day area out = turn-there day area out k in
         let r : Result = onAreas (acceptedTurn (some (w .engine)) day) area out in
-        rw (w .holding) (same-done {r = r} (on-zero (acceptedTurn (some (w .engine)) day) area out refl) l (w .fits) (rw (answered-accepted _ (holds area) (acceptedTurn (holds area) day) k, w .holding) at (w .done)))
+        rw (w .holding) (same-done {r = r} (on-zero (acceptedTurn (some (w .engine)) day) area out refl) l (w .clear .fits) (rw (answered-accepted _ (holds area) (acceptedTurn (holds area) day) k, w .holding) at (w .done)))
 
     pub same-turn : SameAnswer (turnCall (length out) (holds area) day) (cardTurn day area out) area out
     unfolding turnCall cardTurn

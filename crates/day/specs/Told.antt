@@ -92,10 +92,10 @@ module _ (area : List ℕ) (l : areaSize ≤ length area) {k n : ℕ} {d : ℤ} 
   told-message input a b out h w = rw (part-is input a b h) (told _ _ (same-message area l out (take (b - a) (drop a input))) w)
 
   -- opening writes nothing
-  opened-told : (text : List ℕ) (day : ℕ) (out : List ℕ) → Answers (cardOpen text day area) k n d area' [] → CallTold (openCall areaSize (holds area) text day) (record { number = k; written = n; difference = toZ w64 (ofZ w64 d) }) area area' out out
-  opened-told text day out w =
-      let s : SameAnswer (openCall areaSize (holds area) text day) (cardOpen text day area) area [] = same-open area l text day in
-      let y : cardOpen text day area .written ≡ 0 = omega (arith, s .fits) in
+  opened-told : (text list : List ℕ) (day : ℕ) (out : List ℕ) → Answers (cardOpen text list day area) k n d area' [] → CallTold (openCall areaSize (holds area) text list day) (record { number = k; written = n; difference = toZ w64 (ofZ w64 d) }) area area' out out
+  opened-told text list day out w =
+      let s : SameAnswer (openCall areaSize (holds area) text list day) (cardOpen text list day area) area [] = same-open area l text list day in
+      let y : cardOpen text list day area .written ≡ 0 = omega (arith, s .fits) in
       let z : n ≡ 0 = w .written ∙ y in record {
         number = w .number ∙ s .number;
         difference = toZ-ofZ record { sfits = w .small } ∙ w .difference ∙ s .difference;
@@ -107,9 +107,9 @@ module _ (area : List ℕ) (l : areaSize ≤ length area) {k n : ℕ} {d : ℤ} 
         small = rw (toZ-ofZ record { sfits = w .small }) (w .small);
       }
 
-  -- the text is a part of the input
-  pub told-open : (input : List ℕ) (a b day : ℕ) (out : List ℕ) → a ≤ b → Answers (cardOpen (take (b - a) (drop a input)) day area) k n d area' []
-      → CallTold (openCall areaSize (holds area) (cut input a b) day) (record { number = k; written = n; difference = toZ w64 (ofZ w64 d) }) area area' out out
-  told-open input a b day out h w = rw (part-is input a b h) (opened-told (take (b - a) (drop a input)) day out w)
+  -- the texts are parts of the input
+  pub told-open : (input : List ℕ) (a b c day : ℕ) (out : List ℕ) → a ≤ b → b ≤ c → Answers (cardOpen (take (b - a) (drop a input)) (take (c - b) (drop b input)) day area) k n d area' []
+      → CallTold (openCall areaSize (holds area) (cut input a b) (cut input b c) day) (record { number = k; written = n; difference = toZ w64 (ofZ w64 d) }) area area' out out
+  told-open input a b c day out h g w = rw (part-is input a b h, part-is input b c g) (opened-told (take (b - a) (drop a input)) (take (c - b) (drop b input)) day out w)
 
 pub ruleset telling = (answer-wrote, told-turn, told-message, told-open)

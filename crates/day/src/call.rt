@@ -19,16 +19,32 @@ pub struct Outcome {
     pub difference: i64,
 }
 
-// An opening with the register that stands from a up to b.
-fn call_open(input: &[u8], a: usize, b: usize, day: u32, area: &mut [u8], out: &[u8]) -> Outcome
+// An opening with the register that stands from a up to b and the holiday list from there up to c.
+fn call_open(
+    input: &[u8],
+    a: usize,
+    b: usize,
+    c: usize,
+    day: u32,
+    area: &mut [u8],
+    out: &[u8],
+) -> Outcome
     requires { ⌜ a ≤ b ⌝ }
-    requires { ⌜ b ≤ length (now input) ⌝ }
+    requires { ⌜ b ≤ c ⌝ }
+    requires { ⌜ c ≤ length (now input) ⌝ }
     requires { ⌜ areaSize ≤ length (now area) ⌝ }
-    ensures { λ r. ⌜ CallTold (openCall areaSize (holds (now (area .entry))) (cut (now (input .entry)) a b) day) r (now (area .entry)) (now (area .exit)) (now (out .entry)) (now (out .entry)) ⌝ }
+    ensures { λ r. ⌜ CallTold (openCall areaSize (holds (now (area .entry))) (cut (now (input .entry)) a b) (cut (now (input .entry)) b c) day) r (now (area .entry)) (now (area .exit)) (now (out .entry)) (now (out .entry)) ⌝ }
 {
     let mut written: usize = 0;
     let mut difference: i64 = 0;
-    let number = card::card_open(&input[a..b], day, area, &mut written, &mut difference);
+    let number = card::card_open(
+        &input[a..b],
+        &input[b..c],
+        day,
+        area,
+        &mut written,
+        &mut difference,
+    );
     Outcome {
         number,
         written,
@@ -75,7 +91,7 @@ pub fn perform(input: &[u8], c: Command, area: &mut [u8], out: &mut [u8]) -> Out
     ensures { λ r. ⌜ CallTold (answerTo (now (input .entry)) c (length (now (out .entry))) (holds (now (area .entry)))) r (now (area .entry)) (now (area .exit)) (now (out .entry)) (now (out .exit)) ⌝ }
 {
     match c {
-        Command::Opens(day, a, b) => call_open(input, a, b, day, area, out),
+        Command::Opens(day, a, b, e) => call_open(input, a, b, e, day, area, out),
         Command::Sends(a, b) => call_message(input, a, b, area, out),
         Command::Turns(day, _) => call_turn(day, area, out),
         Command::End => call_turn(0, area, out),

@@ -16,7 +16,7 @@ fn is_end(c: Command) -> bool
     ensures { λ r. ⌜ r ≡ isEnd c ⌝ }
 {
     match c {
-        Command::Opens(_, _, _) => false,
+        Command::Opens(_, _, _, _) => false,
         Command::Sends(_, _) => false,
         Command::Turns(_, _) => false,
         Command::End => true,
@@ -28,7 +28,7 @@ fn next_of(c: Command) -> usize
     ensures { λ r. ⌜ r ≡ nextOf c ⌝ }
 {
     match c {
-        Command::Opens(_, _, b) => b,
+        Command::Opens(_, _, _, c) => c,
         Command::Sends(_, b) => b,
         Command::Turns(_, n) => n,
         Command::End => 0,

@@ -1,4 +1,4 @@
--- The texts of an area: the place of text k by the lengths of those before it, the register's text in an area that holds an engine, and the temporary account at its front.
+-- The texts of an area: the place of text k by the lengths of those before it; in an area that holds an engine the register, the holiday list, and the temporary account at the register's front.
 use mathlib.Core.Path.{_≡_, refl, sym, _∙_}
 use mathlib.Core.Bool.{true}
 use mathlib.Core.List.{List}
@@ -8,6 +8,7 @@ use native.Mathlib.Omega.{arith}
 use lib.ListN.{length, take, drop, length-take}
 use lib.Seq.{take-take}
 use Rattle.rules.specs.Text.{isSome}
+use Rattle.rules.specs.BankingDays.{holidays}
 use Rattle.rules.specs.Register.{register, registerOf}
 use Rattle.rules.specs.Area.{lengthAt, textPlace, textAt, decode, holds, lengthsPlace, textsPlace}
 use Rattle.laws.specs.Parts.{cut}
@@ -53,6 +54,11 @@ pub record RegisterOf (a t : List ℕ) : Type 0 where
   pub passes : isSome (register t) ≡ true
   pub enough : 22 ≤ length t
 
+-- t is the holiday list, which passes 18
+pub record ListOf (a t : List ℕ) : Type 0 where
+  pub same : t ≡ decode a .holidays
+  pub passes : isSome (holidays t) ≡ true
+
 module _ (a : List ℕ) (h : isSome (holds a) ≡ true) where
   pub text-room : 2342 ≤ length a
   text-room = omega (arith, decoded a h .long)
@@ -67,7 +73,17 @@ module _ (a : List ℕ) (h : isSome (holds a) ≡ true) where
       let size : length (decode a .register) ≡ place (count (decode a .register)) = text-size (decode a .register) (decoded-limits a h .register) in
       record { same = e; passes = rw e (decoded-limits a h .register); enough = rw e (omega (arith, size)) }
 
-  -- it begins with the temporary account
+  -- ---- the holiday list, text 1
+
+  pub list-room : TextRoom a 1 (lengthAt a 1)
+  list-room = decoded-text a h 1 (omega arith)
+
+  pub list-told : {t : List ℕ} → t ≡ textAt a 1 → ListOf a t
+  unfolding decode
+  list-told e = record { same = e; passes = rw e (decoded-limits a h .holidays) }
+
+  -- ---- the temporary account, at the register's front
+
   begins : (n : ℕ) (cs : List ℕ) → isSome (register (take n cs)) ≡ true → registerOf (take n cs) .temporary ≡ take 22 cs
   unfolding cut
   begins n cs p =
@@ -81,4 +97,4 @@ module _ (a : List ℕ) (h : isSome (holds a) ≡ true) where
   pub temporary-told : {t : List ℕ} → t ≡ take 22 (drop textsPlace a) → t ≡ registerOf (decode a .register) .temporary
   temporary-told e = e ∙ sym temporary-stands
 
-pub ruleset lettering = (place-first, place-next, place-last, text-ends, text-told, text-room, register-room, register-told, temporary-told)
+pub ruleset lettering = (place-first, place-next, place-last, text-ends, text-told, text-room, register-room, register-told, list-room, list-told, temporary-told)

@@ -13,7 +13,7 @@ pub const CURRENCY: usize = 9;
 
 pub const LENGTHS: usize = 10;
 
-pub const NO_LENGTHS: usize = LENGTHS + 2;
+pub const NO_LENGTHS: usize = LENGTHS + 4;
 
 // Where the sections begin, where the temporary account ends that the first text begins with, and where the area ends.
 pub const REFERENCES: u32 = 16;

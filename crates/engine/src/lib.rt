@@ -20,6 +20,7 @@ pub use positions::key_at;
 pub use positions::nth_position;
 pub use positions::position_at;
 pub use positions::position_place;
+pub use texts::holidays_text;
 pub use texts::length_at;
 pub use texts::register_text;
 pub use texts::temporary;

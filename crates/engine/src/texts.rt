@@ -12,7 +12,7 @@ ghost use Rattle.rules.specs.Register.{registerOf};
 ghost use Rattle.rules.specs.Area.{lengthAt, textAt, decode, holds, lengthsPlace, referencesPlace};
 ghost use Rattle.engine_laws.specs.Several.{TextRoom};
 ghost use Rattle.text.specs.Numbers.{NumberAt};
-ghost use Rattle.engine.specs.Texts.{PlaceAt, RegisterOf};
+ghost use Rattle.engine.specs.Texts.{PlaceAt, RegisterOf, ListOf};
 
 // The length of text k.
 pub fn length_at(area: &[u8], k: u32) -> usize
@@ -57,7 +57,15 @@ pub fn register_text<'a>(area: &'a [u8]) -> &'a [u8]
     text_at(area, 0)
 }
 
-// The temporary account, with which it begins.
+// The holiday list.
+pub fn holidays_text<'a>(area: &'a [u8]) -> &'a [u8]
+    requires { ⌜ isSome (holds (now area)) ≡ true ⌝ }
+    ensures { λ r. ⌜ ListOf (now (area .entry)) (now r) ⌝ }
+{
+    text_at(area, 1)
+}
+
+// The temporary account, with which the register begins.
 pub fn temporary<'a>(area: &'a [u8]) -> &'a [u8]
     requires { ⌜ isSome (holds (now area)) ≡ true ⌝ }
     ensures { λ r. ⌜ now r ≡ registerOf (decode (now (area .entry)) .register) .temporary ⌝ }

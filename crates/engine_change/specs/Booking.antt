@@ -47,6 +47,7 @@ use Rattle.engine.specs.Totals.{PositionFound, found}
 unfoldable pub bookedWith : Engine → Position → Reference → ℕ → Engine
 bookedWith e q r count = record {
   register = e .register;
+  holidays = e .holidays;
   day = e .day;
   positions = booked q (e .positions);
   references = filed r (e .references);

@@ -31,7 +31,7 @@ use Rattle.engine_change.specs.Next.{position-wide, positions-section, F
 
 -- the engine after a turn to a day, with the outgoing number at a count
 unfoldable pub turned : Engine → ℕ → ℕ → Engine
-turned e day count = record { register = e .register; day = day; positions = kept (e .positions); references = []; count = count }
+turned e day count = record { register = e .register; holidays = e .holidays; day = day; positions = kept (e .positions); references = []; count = count }
 
 -- with the count of the corrections it is the turn's
 pub turned-after : (e : Engine) (day : ℕ) → turned e day (correctedCount (e .positions)) ≡ afterTurn e day

@@ -1,6 +1,6 @@
 -- Number 10 by the numbers of the header as they were read: each test is that of the bytes where they stand, and the texts end where the last one does.
 use mathlib.Core.Path.{_≡_}
-use mathlib.Core.Bool.{Bool, false, not}
+use mathlib.Core.Bool.{Bool, true, false, not}
 use mathlib.Core.List.{List}
 use Prim.Native.Nat.{ℕ, _+_, _≤_}
 use lib.ListN.{take, drop, length}
@@ -9,19 +9,20 @@ use Rattle.rules.specs.Dates.{exists}
 use Rattle.rules.specs.Engine.{keyBefore}
 use Rattle.rules.specs.Area.{positionIn, areaSize, dayPlace, countPlace, manyPositionsPlace, manyReferencesPlace, currencyPlace, recordSize}
 use Rattle.laws.specs.Parts.{cut}
-use Rattle.engine_laws.specs.Tests.{countsTest, headerTest, referencesTest, valueAt, keyAt, valuesTest, orderTest, positionsTest, isZero, textCount, registerTest, textsTest}
-use Rattle.engine_laws.specs.Ways.{bank-part, block-part, few-references, few-positions, register-behind}
+use Rattle.engine_laws.specs.Tests.{countsTest, headerTest, referencesTest, valueAt, keyAt, valuesTest, orderTest, positionsTest, isZero, textCount, isRegister, isList, registerTest, listTest, textsTest}
+use Rattle.engine_laws.specs.Ways.{bank-part, block-part, few-references, few-positions, text-behind}
 use Rattle.position.specs.Values.{keyValue, positionValue}
 use Rattle.position.specs.declared.Key as K
 use Rattle.position.specs.declared.Position as P
 use Rattle.engine.specs.Positions.{PositionAt}
 use Rattle.engine.specs.Header.{HeaderAt, day-stands, count-stands, positions-stand, references-stand}
 use native.Mathlib.Omega.{arith}
-use borrow.Author.Tests.{not-false}
-use Rattle.engine_laws.specs.Several.{first-room}
+use borrow.Author.Tests.{not-true, not-false}
+use Rattle.engine_laws.specs.Several.{TextRoom, first-room}
 use Rattle.engine.specs.Texts.{PlaceAt}
 use Rattle.engine.specs.declared.header.Header.{Header}
 use Rattle.rule_laws.specs.Registers.{longestRegister}
+use Rattle.rule_laws.specs.Holidays.{longestList}
 
 module _ (a : List ℕ) (x : Header) (n : HeaderAt a x) (t : Bool) where
   pub day-read : t ≡ exists (x .day) → t ≡ exists (bigEndian (cut a dayPlace countPlace))
@@ -55,13 +56,23 @@ module _ (a : List ℕ) (p : ℕ) (t : Bool) where
 
 pub ruleset positions = (bank-part, block-part, values-told, order-told)
 
--- texts that passed end at p, within the area
-module _ (a : List ℕ) (t : Bool) (u : t ≡ registerTest a 0) (h : not t ≡ false) {p : ℕ} (q : PlaceAt a textCount p) where
-  pub texts-within : areaSize ≤ length a → p ≤ areaSize
-  texts-within l = omega (arith, q .value, register-behind a 0 0 t (first-room a longestRegister l (omega arith)) u h .fits)
+-- behind a register that passed there is room for a holiday list
+module _ (a : List ℕ) (t : Bool) (u : t ≡ registerTest a 0) (h : not t ≡ false) where
+  pub list-room : areaSize ≤ length a → TextRoom a 1 longestList
+  list-room l = text-behind longestRegister isRegister a 0 longestList t (first-room a (longestRegister + longestList) l (omega arith)) u h
 
-  pub texts-read : (r : Bool) → r ≡ every isZero (cut a p areaSize) → r ≡ textsTest a
-  unfolding textsTest
-  texts-read r e = rw (← u, not-false t h, ← q .value) e
+  module _ (s : Bool) (v : s ≡ listTest a 1) where
+    pub list-refused : not s ≡ true → false ≡ textsTest a
+    unfolding textsTest
+    list-refused g = rw (← u, not-false t h, ← v, not-true s g)
 
-pub ruleset read = (day-read, counts-read, references-read, positions-read, references-within, positions-within, texts-within, texts-read)
+    -- texts that passed end at p, within the area
+    module _ (g : not s ≡ false) {p : ℕ} (q : PlaceAt a textCount p) where
+      pub texts-within : areaSize ≤ length a → p ≤ areaSize
+      texts-within l = omega (arith, q .value, text-behind longestList isList a 1 0 s (list-room l) v g .fits)
+
+      pub texts-read : (r : Bool) → r ≡ every isZero (cut a p areaSize) → r ≡ textsTest a
+      unfolding textsTest
+      texts-read r e = rw (← u, not-false t h, ← v, not-false s g, ← q .value) e
+
+pub ruleset read = (day-read, counts-read, references-read, positions-read, references-within, positions-within, list-room, list-refused, texts-within, texts-read)

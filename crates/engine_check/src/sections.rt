@@ -15,8 +15,9 @@ ghost use lib.ListN.{length};
 ghost use Rattle.rules.specs.Text.{isSome};
 ghost use Rattle.rules.specs.Area.{holds, areaSize};
 ghost use Rattle.rule_laws.specs.Registers.{longestRegister};
+ghost use Rattle.rule_laws.specs.Holidays.{longestList};
 ghost use Rattle.engine_laws.specs.Several.{TextRoom};
-ghost use Rattle.engine_laws.specs.Tests.{registerTest, textsTest, areaTest};
+ghost use Rattle.engine_laws.specs.Tests.{registerTest, listTest, textsTest, areaTest};
 
 // Is text k a register?
 fn register_holds(area: &[u8], k: u32) -> bool
@@ -30,6 +31,18 @@ fn register_holds(area: &[u8], k: u32) -> bool
     register::register_passes(text_at(area, k))
 }
 
+// Is text k a holiday list?
+fn list_holds(area: &[u8], k: u32) -> bool
+    requires { ⌜ k < 3 ⌝ }
+    requires { ⌜ TextRoom (now area) k longestList ⌝ }
+    ensures { λ r. ⌜ r ≡ listTest (now (area .entry)) k ⌝ }
+{
+    if length_at(area, k) > banking_days::LONGEST {
+        return false;
+    }
+    banking_days::list_passes(text_at(area, k))
+}
+
 // Do the texts pass, with zeros behind the last?
 fn texts_hold(area: &[u8]) -> bool
     requires { ⌜ areaSize ≤ length (now area) ⌝ }
@@ -38,7 +51,10 @@ fn texts_hold(area: &[u8]) -> bool
     if !register_holds(area, 0) {
         return false;
     }
-    zeros_hold(area, text_place(area, 1), AREA)
+    if !list_holds(area, 1) {
+        return false;
+    }
+    zeros_hold(area, text_place(area, 2), AREA)
 }
 
 // Does the whole area pass?

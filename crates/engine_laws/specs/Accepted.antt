@@ -1,7 +1,7 @@
 -- What a message that 1 to 8 let pass has: the sender is a bank, field 20 a reference, and its date exists.
 use mathlib.Core.Path.{_≡_, refl, sym, ap, _∙_}
 use mathlib.Core.Bool.{true, false, _&&_}
-use mathlib.Core.List.{List, [], _∷_, _++_}
+use mathlib.Core.List.{List}
 use mathlib.Core.Option.{some}
 use Prim.Native.Nat.{ℕ, _+_, _^_, _≤_, _<_}
 use native.Mathlib.Omega.{arith}
@@ -9,7 +9,7 @@ use lib.Dec.{leb, lit≤}
 use lib.ListN.{length, take, drop}
 use lib.Seq.{take-take}
 use borrow.Author.Tests.{le-leb}
-use Rattle.rules.specs.Text.{ascii, isText, run, fits, fitsSign, bigEndian}
+use Rattle.rules.specs.Text.{ascii, isText, run, fits, bigEndian}
 use Rattle.rules.specs.Dates.{exists}
 use Rattle.rules.specs.Accounts.{isBic}
 use Rattle.rules.specs.Lines.{Line, hasFirstLine, lines, inLines, framed, sender}
@@ -18,7 +18,8 @@ use Rattle.rules.specs.Messages.{Message, Detail, past, readTransfer, readOrder
 use Rattle.rules.specs.Engine.{isBank, lastBank}
 use Rattle.laws.specs.Numbers.{bic-number, bic-small}
 use Rattle.laws.specs.Parts.{cut, from, from-take}
-use Rattle.laws.specs.Tests.{and-right, cond-right, never, cond-left, cond-both}
+use Rattle.laws.specs.Reading.{fits-front, fits-behind}
+use Rattle.laws.specs.Tests.{and-right}
 use Rattle.rule_laws.specs.Dates.{date-exists}
 use Rattle.rule_laws.specs.Messages.{row-first, DetailsRead, DetailsRead.last, DetailsRead.more, ReadAs, ReadAs.transfer, ReadAs.order, transfer-as, order-as, read-as}
 
@@ -57,18 +58,6 @@ module _ (s : List ℕ) (m : Message) where
   read-has h = as-has (read-as s m h)
 
 -- ---- the sender
-
-fits-front : (a b cs : List ℕ) → fits (a ++ b) cs ≡ true → fits a (take (length a) cs) ≡ true
-unfolding fits
-fits-front [] b cs h = refl
-fits-front (p ∷ a) b [] h = h
-fits-front (p ∷ a) b (c ∷ cs) h = cond-both _ _ (cond-left (fitsSign p c) (fits (a ++ b) cs) h) (fits-front a b cs (cond-right (fitsSign p c) (fits (a ++ b) cs) h))
-
-fits-behind : (a b cs : List ℕ) → fits (a ++ b) cs ≡ true → fits b (drop (length a) cs) ≡ true
-unfolding fits
-fits-behind [] b cs h = h
-fits-behind (p ∷ a) b [] h = never h
-fits-behind (p ∷ a) b (c ∷ cs) h = fits-behind a b cs (cond-right (fitsSign p c) (fits (a ++ b) cs) h)
 
 -- a part of a front
 front-part : (s : List ℕ) (a n k : ℕ) → a + n ≤ k → take n (drop a (take k s)) ≡ take n (drop a s)

@@ -2,8 +2,8 @@
 use mathlib.Core.Path.{_≡_, refl}
 use mathlib.Core.Bool.{Bool, true, false}
 use mathlib.Core.List.{List, [], _++_}
-use mathlib.Core.Option.{Option, none, some}
-use Prim.Native.Nat.{ℕ, _≤_, _<_}
+use mathlib.Core.Option.{Option, some}
+use Prim.Native.Nat.{ℕ, _≤_}
 use native.Mathlib.Omega.{arith}
 use lib.Dec.{eqb}
 use lib.IntN.{ℤ, pos, subℕ}
@@ -16,7 +16,7 @@ use Rattle.rules.specs.Engine.{Engine, within}
 use Rattle.rules.specs.Calls.{Stop, firstOf, Answer, answered, openStops, opened, acceptedOpening, openCall, messageStops, messageText, positionAfter, afterMessage, acceptedMessage, bothOf, messageCall, turnText, turnStops, refunded, collected, afterTurn, acceptedTurn, turnCall}
 use Rattle.rules.specs.Area.{encode, holds, Result, stored, onAreas, cardOpen, cardMessage, cardTurn, areaSize}
 use Rattle.rule_laws.specs.Conditions.{answered-accepted, answered-zero}
-use Rattle.rule_laws.specs.Clear.{open-clear, Clear, clear, message-engine, message-read, TurnClear, turn-clear, turn-engine}
+use Rattle.rule_laws.specs.Clear.{OpenClear, open-clear, Clear, clear, message-engine, message-read, TurnClear, turn-clear, turn-engine}
 use Rattle.rule_laws.specs.Options.{There, there}
 use Rattle.engine_laws.specs.EngineIn.{encode-length, holds-encode, engine-in}
 use Rattle.engine_laws.specs.Keeps.{opened-within, message-within, turn-within}
@@ -83,19 +83,17 @@ on-done text d next area out w = record { good = w; written = refl; difference =
 
 -- ---- opening
 
-module _ (text : List ℕ) (day : ℕ) (area : List ℕ) where
+module _ (text list : List ℕ) (day : ℕ) (area : List ℕ) where
   pub record Opens : Type 0 where
-    pub none : firstOf (openStops (length area) text day) ≡ 0
-    pub long : areaSize ≤ length area
-    pub done : Done (cardOpen text day area) area [] [] (pos 0) (opened text day)
+    pub clear : OpenClear (length area) text list day
+    pub done : Done (cardOpen text list day area) area [] [] (pos 0) (opened text list day)
 
-  pub open-accepted : cardOpen text day area .number ≡ 0 → Opens
+  pub open-accepted : cardOpen text list day area .number ≡ 0 → Opens
   unfolding cardOpen openCall acceptedOpening
   open-accepted h =
-      let k : firstOf (openStops (length area) text day) ≡ 0 = on-ends _ (holds area) (acceptedOpening text day) area [] .accepted h in record {
-        none = k;
-        long = open-clear (length area) text day k .long;
-        done = rw (answered-accepted _ (holds area) (acceptedOpening text day) k) (on-done [] (pos 0) (opened text day) area [] (opened-within (length area) text day k));
+      let k : firstOf (openStops (length area) text list day) ≡ 0 = on-ends _ (holds area) (acceptedOpening text list day) area [] .accepted h in record {
+        clear = open-clear (length area) text list day k;
+        done = rw (answered-accepted _ (holds area) (acceptedOpening text list day) k) (on-done [] (pos 0) (opened text list day) area [] (opened-within (length area) text list day k));
       }
 
 -- ---- message
@@ -139,8 +137,7 @@ module _ (day : ℕ) (area out : List ℕ) where
   pub record Turns : Type 0 where
     pub engine : Engine
     pub holding : holds area ≡ some engine
-    pub later : engine .day < day
-    pub fits : length (turnText engine day) ≤ length out
+    pub clear : TurnClear (length out) engine day
     pub done : Done (cardTurn day area out) area out (turnText engine day) (subℕ (refunded (engine .positions)) (collected (engine .positions))) (afterTurn engine day)
 
   -- where there is an engine and no condition holds
@@ -148,11 +145,10 @@ module _ (day : ℕ) (area out : List ℕ) where
   unfolding cardTurn turnCall acceptedTurn
   turn-done e h k =
       let z : firstOf (turnStops (length out) (some e) day) ≡ 0 = rw h at k in
-      let c : TurnClear (length out) e day = turn-clear (length out) e day z in record {
+      record {
         engine = e;
         holding = h;
-        later = c .later;
-        fits = c .fits;
+        clear = turn-clear (length out) e day z;
         done = rw (answered-accepted _ (holds area) (acceptedTurn (holds area) day) k, h) (on-done _ _ (afterTurn e day) area out (turn-within (length out) e day (engine-in area e h .good) z));
       }
 

@@ -20,6 +20,7 @@ use Rattle.laws.specs.All.{All, All.none, All.more}
 use Rattle.rule_laws.specs.Options.{Gave, gave}
 use Rattle.rule_laws.specs.Dates.{date-small}
 use Rattle.rule_laws.specs.Registers.{register-length}
+use Rattle.rule_laws.specs.Holidays.{list-length}
 use Rattle.engine_laws.specs.Limits.{Limits, limits}
 use Rattle.engine_laws.specs.Layout.{WrittenBack, number-at, position-kept, reference-kept, written-length, written-read}
 use Rattle.engine_laws.specs.Tests.{textCount}
@@ -50,12 +51,18 @@ texts-few e = omega (arith, texts-count e)
 
 pub texts-fit : (e : Engine) → Limits e → length (joined (textsOf e)) ≤ textsRoom
 unfolding textsOf joined
-texts-fit e l = rw append-nil (omega (arith, register-length (e .register) (l .register)))
+texts-fit e l =
+    rw (append-nil, length-append)
+    (omega (arith, register-length (e .register) (l .register), list-length (e .holidays) (l .holidays)))
 
--- the first is the register
-pub register-first : (e : Engine) → getD (textsOf e) 0 [] ≡ e .register
+-- the first is the register, the second the holiday list
+register-first : (e : Engine) → getD (textsOf e) 0 [] ≡ e .register
 unfolding textsOf
 register-first e = refl
+
+list-second : (e : Engine) → getD (textsOf e) 1 [] ≡ e .holidays
+unfolding textsOf
+list-second e = refl
 
 -- ---- an encoded engine
 
@@ -134,13 +141,14 @@ module _ (e : Engine) (l : Limits e) (m : List ℕ) (two : length m ≡ 2) where
         texts = record { before = simp (length-append, places-length, two, length-L, zeros-length) (omega arith); whole = simp append-assoc };
       } in
       let text : textAt a 0 ≡ e .register = text-back stand 0 (omega (arith, texts-count e)) ∙ register-first e in
+      let list : textAt a 1 ≡ e .holidays = text-back stand 1 (omega (arith, texts-count e)) ∙ list-second e in
       let rs : map referenceIn (records (numberAt a manyReferencesPlace 1) (drop referencesPlace a)) ≡ e .references =
       rw (references-at, from-R) (written-read referenceRecord referenceIn (u ++ (P ++ (v ++ (G ++ w)))) (references-kept (e .references) (l .forms))) in
       let ps : map positionIn (records (numberAt a manyPositionsPlace 1) (drop positionsPlace a)) ≡ e .positions =
       rw (positions-at, from-P) (written-read positionRecord positionIn (v ++ (G ++ w)) (positions-kept (e .day) (e .positions) (l .good))) in
       let at-day : numberAt a dayPlace 3 ≡ e .day =
       number-at a m (C ++ (N ++ (M ++ (O ++ (L ++ texts))))) 2 3 (e .day) two (omega arith) (simp append-assoc) in
-      λ i. record { register = text i; day = at-day i; positions = ps i; references = rs i; count = count-at i }
+      λ i. record { register = text i; holidays = list i; day = at-day i; positions = ps i; references = rs i; count = count-at i }
 
 module _ (e : Engine) (h : within e ≡ true) where
   pub encode-length : length (encode e) ≡ areaSize

@@ -11,6 +11,7 @@ use lib.Seq.{take-add, length-take-le}
 use borrow.Author.Tests.{leb-true, le-leb}
 use Rattle.rules.specs.Text.{every, equal, bigEndian, bytes, isSome, given}
 use Rattle.rules.specs.Dates.{exists}
+use Rattle.rules.specs.BankingDays.{holidays}
 use Rattle.rules.specs.Register.{register}
 use Rattle.rules.specs.Engine.{Engine, within}
 use Rattle.rules.specs.Area.{padded, joined, textsOf, lengthsOf, mark, header, encode, numberAt, lengthAt, textPlace, textAt, referenceIn, positionIn, referenceRecord, positionRecord, records, recordsOf, decode, holds, areaSize, currencyPlace, lengthsPlace, lengthsRoom, referencesPlace, positionsPlace, positionsRoom, referencesRoom, textsPlace, textsRoom, dayPlace, countPlace, manyPositionsPlace, manyReferencesPlace, recordSize}
@@ -24,6 +25,7 @@ use Rattle.laws.specs.All.{All}
 use Rattle.rule_laws.specs.Options.{isSome-is, There, there}
 use Rattle.engine_laws.specs.Bytes.{Bytes}
 use Rattle.rule_laws.specs.Registers.{register-length, longestRegister}
+use Rattle.rule_laws.specs.Holidays.{list-length, longestList}
 use Rattle.engine_laws.specs.Limits.{Limits, limits, limits-within}
 use Rattle.engine_laws.specs.Layout.{WrittenBack, part-at, written-length, written-each, written-back}
 use Rattle.engine_laws.specs.Several.{Texts, stands-zeros, zeros-stand, text-size, lengths-behind, texts-behind, textsBefore, lengths-same, texts-same}
@@ -31,7 +33,7 @@ use Rattle.engine_laws.specs.EngineIn.{EngineIn, engine-in, positions-ke
 use Rattle.engine_laws.specs.Positions.{Good, all-good, good-all}
 use Rattle.engine_laws.specs.Sections.{Of, referencePart, positionPart, textPart, engine-sections, references-stand, positions-stand, lengths-apart, engine-texts}
 use Rattle.engine_laws.specs.Walk.{walk, always}
-use Rattle.engine_laws.specs.Tests.{isZero, countsTest, headerTest, referenceTest, filedTest, referencesTest, positionFits, positionTest, orderTest, positionsTest, areaTest, textCount, registerTest, textsTest}
+use Rattle.engine_laws.specs.Tests.{isZero, countsTest, headerTest, referenceTest, filedTest, referencesTest, positionFits, positionTest, orderTest, positionsTest, areaTest, textCount, textTest, isRegister, isList, registerTest, listTest, textsTest}
 use Rattle.engine_laws.specs.Records.{cut-is, zero-bytes, zeros-zero, bytes-zero, bytes-stand, take-part}
 use Rattle.engine_laws.specs.Checked.{each, Rec, Checks, records-bytes, reads-length, each-good, each-same, each-test, position-checks, positions-walk, order-walk, referenceFits, reference-checks, references-walk, whole-all, Filed, filed-all, filed-walk}
 use Rattle.engine_laws.specs.References.{Form, all-forms, forms-all}
@@ -121,6 +123,10 @@ module _ (a : List ℕ) (b : Bytes a) (e : Engine) (h : EngineIn a e) where
   unfolding decode
   register-at = ap (λ (x : Engine). x .register) (h .read)
 
+  list-at : textAt a 1 ≡ e .holidays
+  unfolding decode
+  list-at = ap (λ (x : Engine). x .holidays) (h .read)
+
   x : Texts (textsOf e) a
   x = engine-texts a e h
 
@@ -164,14 +170,20 @@ module _ (a : List ℕ) (b : Bytes a) (e : Engine) (h : EngineIn a e) where
       rw (n, d, positions-walk, c .pass, order-walk a (numberAt a manyPositionsPlace 1) positionsPlace r, positions-at, l .order) (c .zero)
 
   register-passes : registerTest a 0 ≡ true
-  unfolding registerTest
+  unfolding textTest isRegister
   register-passes =
       let n : lengthAt a 0 ≡ length (e .register) = text-size x 0 (omega (arith, texts-count e)) ∙ ap length register-at in
       rw (n, le-leb _ _ (register-length (e .register) (l .register)), register-at) (l .register)
 
+  list-passes : listTest a 1 ≡ true
+  unfolding textTest isList
+  list-passes =
+      let n : lengthAt a 1 ≡ length (e .holidays) = text-size x 1 (omega (arith, texts-count e)) ∙ ap length list-at in
+      rw (n, le-leb _ _ (list-length (e .holidays) (l .holidays)), list-at) (l .holidays)
+
   texts-pass : textsTest a ≡ true
   unfolding textsTest
-  texts-pass = rw register-passes (rw (texts-count e) at (texts-behind x))
+  texts-pass = rw (register-passes, list-passes) (rw (texts-count e) at (texts-behind x))
 
   pub engine-passes : areaTest a ≡ true
   unfolding areaTest
@@ -214,10 +226,12 @@ record TestsPassed (a : List ℕ) : Type 0 where
   behind-positions : every isZero (cut a (positionsPlace + recordSize * numberAt a manyPositionsPlace 1) textsPlace) ≡ true
   short : lengthAt a 0 ≤ longestRegister
   register : isSome (register (textAt a 0)) ≡ true
+  list-short : lengthAt a 1 ≤ longestList
+  holidays : isSome (holidays (textAt a 1)) ≡ true
   behind-texts : every isZero (cut a (textPlace a textCount) areaSize) ≡ true
 
 passed : (a : List ℕ) → areaTest a ≡ true → TestsPassed a
-unfolding referencesTest positionsTest registerTest textsTest
+unfolding referencesTest positionsTest textTest isRegister isList textsTest
 passed a t =
     let k : _ ≡ true = sym (area-form a) ∙ t in
     let h : headerTest a ≡ true = search (and-left, and-right) in
@@ -241,6 +255,8 @@ passed a t =
       behind-positions = search (and-left, and-right) depth 9;
       short = leb-true _ _ (and-left _ _ (and-left _ _ x));
       register = search (and-left, and-right) depth 9;
+      list-short = leb-true _ _ (search (and-left, and-right) depth 9);
+      holidays = search (and-left, and-right) depth 9;
       behind-texts = search (and-left, and-right) depth 9;
     }
 
@@ -269,12 +285,13 @@ module _ (a : List ℕ) (b : Bytes a) (t : TestsPassed a) where
 
   texts-room : textPlace a textCount ≤ areaSize
   unfolding textPlace
-  texts-room = omega (arith, t .short)
+  texts-room = omega (arith, t .short, t .list-short)
 
   decoded-within : within (decode a) ≡ true
   unfolding decode
   decoded-within = limits-within (decode a) record {
     register = t .register;
+    holidays = t .holidays;
     day = t .day;
     few = rw reads-length (t .few);
     good = good-all positions-good;

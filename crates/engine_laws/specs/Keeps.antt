@@ -26,12 +26,13 @@ use Rattle.engine_laws.specs.Accepted.{Has, read-has, sender-bank}
 
 -- ---- opening
 
-pub opened-within : (size : ℕ) (text : List ℕ) (day : ℕ) → firstOf (openStops size text day) ≡ 0 → within (opened text day) ≡ true
+pub opened-within : (size : ℕ) (text list : List ℕ) (day : ℕ) → firstOf (openStops size text list day) ≡ 0 → within (opened text list day) ≡ true
 unfolding opened goodPositions ordered goodReferences
-opened-within size text day h =
-    let c : OpenClear size text day = open-clear size text day h in
-    limits-within (opened text day) record {
+opened-within size text list day h =
+    let c : OpenClear size text list day = open-clear size text list day h in
+    limits-within (opened text list day) record {
       register = c .accounts;
+      holidays = c .listed;
       day = c .date;
       few = omega arith;
       good = refl;
@@ -102,6 +103,7 @@ message-within room e s m w r h =
     } in
     limits-within (afterMessage e m) record {
       register = l .register;
+      holidays = l .holidays;
       day = l .day;
       few = booked-few q sorted (l .few) (c .opens);
       good = good-all (booked-good q (rw (a .sent) (sender-bank s (c .frame))) (a .date) (dated (e .day) m (c .today)) passes (all-good (e .day) (e .positions) (l .good)));
@@ -122,6 +124,7 @@ turn-within room e day w h =
     let later : e .day < day = c .later in
     limits-within (afterTurn e day) record {
       register = l .register;
+      holidays = l .holidays;
       day = c .date;
       few = omega (arith, kept-length (e .positions), l .few);
       good = good-all (kept-good {day = e .day} (omega arith) (all-good (e .day) (e .positions) (l .good)));

@@ -7,12 +7,14 @@ use lib.ListN.{length, take, drop}
 use Rattle.rules.specs.Text.{isText, every, run, equal, textBefore, bigEndian, isSome}
 use Rattle.rules.specs.Dates.{exists}
 use Rattle.rules.specs.Accounts.{isBic}
+use Rattle.rules.specs.BankingDays.{holidays}
 use Rattle.rules.specs.Register.{register}
 use Rattle.rules.specs.Engine.{Key, Position, keyBefore, limit, slashed}
 use Rattle.rules.specs.Area.{mark, untilZero, keyIn, positionIn, areaSize, positionsPlace, textsPlace, recordSize, blockOffset, lengthAt, textPlace, textAt, currencyPlace, lengthsPlace, referencesPlace, dayPlace, countPlace, manyPositionsPlace, manyReferencesPlace}
 use Rattle.laws.specs.Parts.{cut}
 use Rattle.engine_laws.specs.Walk.{walk, always}
 use Rattle.rule_laws.specs.Registers.{longestRegister}
+use Rattle.rule_laws.specs.Holidays.{longestList}
 
 -- "unused room is zero"
 unfoldable pub isZero : ℕ → Bool
@@ -24,7 +26,7 @@ countsTest count positions references = leb references 64 && (leb positions 32 &
 
 -- how many texts there are
 abbrev pub textCount : ℕ
-textCount = 1
+textCount = 2
 
 -- mark, day, outgoing count, numbers of positions and references; currency, and the lengths behind those of the texts there are, are zero
 unfoldable pub headerTest : List ℕ → Bool
@@ -93,13 +95,26 @@ positionsTest day a n = walk (always (positionTest day a)) n positionsPlace && (
 
 -- ---- texts
 
--- text k is a register, which has at most 1,544 bytes
-unfoldable pub registerTest : List ℕ → ℕ → Bool
-registerTest a k = leb (lengthAt a k) longestRegister && isSome (register (textAt a k))
+-- text k has at most m bytes and passes a test of its own
+unfoldable pub textTest : ℕ → (List ℕ → Bool) → List ℕ → ℕ → Bool
+textTest m passes a k = leb (lengthAt a k) m && passes (textAt a k)
+
+-- it is a register, or a holiday list
+unfoldable pub isRegister : List ℕ → Bool
+isRegister t = isSome (register t)
+
+unfoldable pub isList : List ℕ → Bool
+isList t = isSome (holidays t)
+
+abbrev pub registerTest : List ℕ → ℕ → Bool
+registerTest a k = textTest longestRegister isRegister a k
+
+abbrev pub listTest : List ℕ → ℕ → Bool
+listTest a k = textTest longestList isList a k
 
 -- each text passes its own test, and zeros stand behind the last
 unfoldable pub textsTest : List ℕ → Bool
-textsTest a = registerTest a 0 && every isZero (cut a (textPlace a textCount) areaSize)
+textsTest a = registerTest a 0 && (listTest a 1 && every isZero (cut a (textPlace a textCount) areaSize))
 
 -- ---- all of them
 

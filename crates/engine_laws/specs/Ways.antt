@@ -8,18 +8,16 @@ use lib.Dec.{leb, lit≤}
 use lib.ListN.{take, drop}
 use lib.Seq.{take-take}
 use borrow.Author.Tests.{le-leb, lt-leb, leb-true, eq-eqb, ne-eqb, not-true, not-false}
-use Rattle.rules.specs.Text.{every, textBefore, bigEndian, isSome}
+use Rattle.rules.specs.Text.{every, textBefore, bigEndian}
 use Rattle.rules.specs.Accounts.{isBic}
-use Rattle.rules.specs.Register.{register}
 use Rattle.rules.specs.Area.{blockOffset, transferredOffset, lengthAt, textAt, countPlace, manyPositionsPlace, manyReferencesPlace, currencyPlace, recordSize}
 use Rattle.laws.specs.Parts.{cut}
 use Rattle.laws.specs.Reading.{reading}
 use Rattle.laws.specs.Tests.{and-left, and-right, tests}
 use Rattle.engine_laws.specs.Walk.{walking}
 use Rattle.engine_laws.specs.Records.{cut-is, in-record}
-use Rattle.engine_laws.specs.Tests.{countsTest, headerTest, precedesBy, filedTest, isZero, registerTest}
+use Rattle.engine_laws.specs.Tests.{countsTest, headerTest, precedesBy, filedTest, isZero, textTest}
 use Rattle.engine_laws.specs.Several.{TextRoom, first-room, next-room}
-use Rattle.rule_laws.specs.Registers.{longestRegister}
 
 -- ---- a limit, and the tests behind it
 
@@ -94,24 +92,24 @@ pub text-stands : (a : List ℕ) (k m n : ℕ) → TextRoom a k m → n ≡ leng
 text-stands a k m n r e h = record { long = r .long; fits = omega (arith, r .fits) }
 
 -- the test of text k, n being its length
-module _ (a : List ℕ) (k n : ℕ) (e : n ≡ lengthAt a k) where
-  pub register-long : longestRegister < n → false ≡ registerTest a k
-  unfolding registerTest
-  register-long h = rw (← e, lt-leb n longestRegister h)
+module _ (m : ℕ) (passes : List ℕ → Bool) (a : List ℕ) (k n : ℕ) (e : n ≡ lengthAt a k) where
+  pub text-long : m < n → false ≡ textTest m passes a k
+  unfolding textTest
+  text-long h = rw (← e, lt-leb n m h)
 
-  pub register-short : n ≤ longestRegister → {t : List ℕ} → t ≡ textAt a k → (r : Bool) → r ≡ isSome (register t) → r ≡ registerTest a k
-  unfolding registerTest
-  register-short h f r g = rw (← e, le-leb n longestRegister h, ← f) g
+  pub text-short : n ≤ m → {t : List ℕ} → t ≡ textAt a k → (r : Bool) → r ≡ passes t → r ≡ textTest m passes a k
+  unfolding textTest
+  text-short h f r g = rw (← e, le-leb n m h, ← f) g
 
--- behind a register that passed the next text has the room that is left
-pub register-behind : (a : List ℕ) (k n : ℕ) (t : Bool) → TextRoom a k (longestRegister + n) → t ≡ registerTest a k → not t ≡ false → TextRoom a (suc k) n
-unfolding registerTest
-register-behind a k n t r u h = next-room a k longestRegister n r (leb-true _ _ (and-left _ _ (sym u ∙ not-false t h)))
+-- behind a text that passed the next one has the room that is left
+pub text-behind : (m : ℕ) (passes : List ℕ → Bool) (a : List ℕ) (k n : ℕ) (t : Bool) → TextRoom a k (m + n) → t ≡ textTest m passes a k → not t ≡ false → TextRoom a (suc k) n
+unfolding textTest
+text-behind m passes a k n t r u h = next-room a k m n r (leb-true _ _ (and-left _ _ (sym u ∙ not-false t h)))
 
 pub ruleset filing = (lower-sender, higher-sender, same-sender)
 
 pub ruleset calling = (call-failed, call-passed, bar-met, bar-passed)
 
-pub ruleset lettering = (first-room, text-stands, register-long, register-short)
+pub ruleset lettering = (first-room, text-stands, text-long, text-short)
 
 pub ruleset limiting = (limit-holds, limit-failed, call-failed, call-out, tests, walking, reading)

@@ -63,6 +63,10 @@ module _ (s : List ℕ) (a b : ℕ) where
   unfolding cut
   cut-cut k m h = ap (λ (l : List ℕ). drop k l) (cut-take m h) ∙ drop-drop k a (take (a + m) s)
 
+-- two bytes
+pub cut-two : (s : List ℕ) (a : ℕ) → a + 2 ≤ length s → cut s a (a + 2) ≡ getD s a 0 ∷ getD s (a + 1) 0 ∷ []
+cut-two s a l = rw (cut-step s a (a + 2) (omega arith) l, cut-step s (a + 1) (a + 2) (omega arith) l, cut-done s (a + 1 + 1) (a + 2) (omega arith) (omega arith))
+
 -- two parts, one behind the other
 pub cut-join : (s : List ℕ) (a k b : ℕ) → a + k ≤ b → cut s a (a + k) ++ cut s (a + k) b ≡ cut s a b
 cut-join s a k b h = rw (← cut-take s a b k h, ← cut-drop s a b k) (take-append-drop k (cut s a b))

@@ -1,17 +1,17 @@
 -- Reading a part byte by byte: what is left of the part gives the answer, a law for each way on and out of the loop.
 use mathlib.Core.Path.{_≡_, refl, sym, ap, _∙_}
 use mathlib.Core.Bool.{Bool, true, false, cond}
-use mathlib.Core.List.{List, [], _∷_}
+use mathlib.Core.List.{List, [], _∷_, _++_}
 use mathlib.Core.Option.{Option, none, some}
 use Prim.Native.Nat.{ℕ, suc, _+_, _-_, _*_, _^_, _≤_, _<_, min}
 use native.Mathlib.Nat.{zero-add, add-zero, suc-mul, pow-zero, pow-suc, pow-le-pow-right, mul-le-mul-right, lt-of-lt-of-le}
 use native.Mathlib.Omega.{arith}
-use lib.ListN.{length, getD}
+use lib.ListN.{length, getD, take, drop}
 use lib.Dec.{eqb, lit<}
 use borrow.Author.Tests.{le-leb, lt-leb}
 use Rattle.rules.specs.Text.{isDigit, every, run, equal, fits, fitsSign, digitsFrom, numberFrom}
 use Rattle.laws.specs.Parts.{cut, cut-step, cut-done, cut-length, cut-size, cut-all}
-use Rattle.laws.specs.Tests.{between-low, between-high, cond-right, not-holds, holds-told, never}
+use Rattle.laws.specs.Tests.{between-low, between-high, cond-left, cond-right, cond-both, not-holds, holds-told, never}
 
 -- ---- any function of what is left: one byte on, and at the end
 
@@ -92,6 +92,19 @@ fits-length [] [] h = refl
 fits-length [] (c ∷ cs) h = never h
 fits-length (p ∷ ps) [] h = never h
 fits-length (p ∷ ps) (c ∷ cs) h = ap suc (fits-length ps cs (cond-right (fitsSign p c) (fits ps cs) h))
+
+-- one pattern behind the other: its front, and the rest
+pub fits-front : (a b cs : List ℕ) → fits (a ++ b) cs ≡ true → fits a (take (length a) cs) ≡ true
+unfolding fits
+fits-front [] b cs h = refl
+fits-front (p ∷ a) b [] h = h
+fits-front (p ∷ a) b (c ∷ cs) h = cond-both _ _ (cond-left (fitsSign p c) (fits (a ++ b) cs) h) (fits-front a b cs (cond-right (fitsSign p c) (fits (a ++ b) cs) h))
+
+pub fits-behind : (a b cs : List ℕ) → fits (a ++ b) cs ≡ true → fits b (drop (length a) cs) ≡ true
+unfolding fits
+fits-behind [] b cs h = h
+fits-behind (p ∷ a) b [] h = never h
+fits-behind (p ∷ a) b (c ∷ cs) h = fits-behind a b cs (cond-right (fitsSign p c) (fits (a ++ b) cs) h)
 
 module _ (p s : List ℕ) (at : ℕ) where
   -- too few bytes are left

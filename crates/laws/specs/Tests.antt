@@ -1,10 +1,10 @@
 -- From facts to Bool tests and back, as branches hand them out and contracts ask for them.
 use mathlib.Core.Path.{_≡_, refl, sym, _∙_}
-use mathlib.Core.Bool.{Bool, true, false, _&&_, _||_, cond, false≢true}
+use mathlib.Core.Bool.{Bool, true, false, _&&_, _||_, not, cond, false≢true}
 use mathlib.Core.Option.{Option, none, some, Option·none-ne-some}
 use Prim.Native.Nat.{ℕ, _≤_, _<_}
 use lib.Dec.{leb, eqb}
-use borrow.Author.Tests.{le-leb, lt-leb, leb-true, eq-eqb, ne-eqb}
+use borrow.Author.Tests.{le-leb, lt-leb, leb-true, eq-eqb, ne-eqb, not-false}
 use Rattle.rules.specs.Text.{between}
 
 -- what follows from a test that both holds and fails, and from an answer that is both there and not
@@ -85,6 +85,9 @@ not-holds false h = refl
 -- a test holds where a call answered so
 pub holds-told : (t a : Bool) → t ≡ a → t ≡ true → a ≡ true
 holds-told t a u h = sym u ∙ h
+
+pub passed-told : (t a : Bool) → t ≡ a → not t ≡ false → a ≡ true
+passed-told t a u h = sym u ∙ not-false t h
 
 -- the answer of `a && b` in code, t being what the first test answered: the second answer where it holds, else t itself
 pub and-holds : (a b t r : Bool) → t ≡ a → t ≡ true → r ≡ b → r ≡ (a && b)

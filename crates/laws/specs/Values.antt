@@ -118,6 +118,17 @@ module _ (p : ℕ → Bool) (s : List ℕ) (a n : ℕ) (w : every p (cut s a (a 
   pub group-last : 9 < n → every p (cut s (a + (n - 9)) (a + (n - 9) + 9)) ≡ true
   group-last h = every-within p s a (a + n) (a + (n - 9)) (a + (n - 9) + 9) w (omega arith) (omega arith) (omega arith)
 
+-- a number's digits
+pub digits-each : (cs : List ℕ) (v n : ℕ) → digitsFrom v cs ≡ some n → every isDigit cs ≡ true
+unfolding every digitsFrom
+digits-each [] v n h = refl
+digits-each (c ∷ cs) v n h = go (isDigit c) h (digits-each cs (v * 10 + (c - 48)) n)
+  where
+    go : (t : Bool) → cond t (digitsFrom (v * 10 + (c - 48)) cs) none ≡ some n → (digitsFrom (v * 10 + (c - 48)) cs ≡ some n → every isDigit cs ≡ true)
+        → cond t (every isDigit cs) false ≡ true
+    go true g i = i g
+    go false g i = none-some g
+
 -- not all bytes are digits: no number
 digits-none : (cs : List ℕ) (v : ℕ) → every isDigit cs ≡ false → digitsFrom v cs ≡ none
 unfolding every digitsFrom

@@ -10,25 +10,31 @@ use Rattle.rules.specs.Text.{isSome, any}
 use Rattle.rules.specs.Dates.{exists}
 use Rattle.rules.specs.Lines.{framed}
 use Rattle.rules.specs.Messages.{Message, read, detailsOf}
+use Rattle.rules.specs.BankingDays.{holidays, holidaysOf, isBankingDay}
 use Rattle.rules.specs.Register.{register, registerOf}
 use Rattle.rules.specs.Engine.{Engine, sameReference}
 use Rattle.rules.specs.Calls.{Stop, firstOf, holdsOf, openStops, addressed, badReference, badAmount, badAccount, manyDates, misdated, ownReference, noRoom, overLimit, messageText, formStops, inputStops, limitStops, roomStops, stateStops, messageStops, turnText, turnStops}
 use Rattle.rules.specs.Area.{areaSize}
 use Rattle.rule_laws.specs.Conditions.{numbered, conditionOf, none-holds}
 
--- none of 10, 3 and 9 holds of an opening
-pub record OpenClear (size : ℕ) (text : List ℕ) (day : ℕ) : Type 0 where
+-- none of 10, 3, 9, 18 and 17 holds of an opening
+pub record OpenClear (size : ℕ) (text list : List ℕ) (day : ℕ) : Type 0 where
   pub long : areaSize ≤ size
   pub date : exists day ≡ true
   pub accounts : isSome (register text) ≡ true
+  pub listed : isSome (holidays list) ≡ true
+  pub banking : isBankingDay (holidaysOf list) day ≡ true
 
-pub open-clear : (size : ℕ) (text : List ℕ) (day : ℕ) → firstOf (openStops size text day) ≡ 0 → OpenClear size text day
+pub open-clear : (size : ℕ) (text list : List ℕ) (day : ℕ) → firstOf (openStops size text list day) ≡ 0 → OpenClear size text list day
 unfolding openStops numbered conditionOf
-open-clear size text day h = record {
-  long = leb-true _ _ (not-false _ (none-holds 10 (openStops size text day) refl h));
-  date = not-false _ (none-holds 3 (openStops size text day) refl h);
-  accounts = not-false _ (none-holds 9 (openStops size text day) refl h);
-}
+open-clear size text list day h =
+    let ss : List Stop = openStops size text list day in record {
+      long = leb-true _ _ (not-false _ (none-holds 10 ss refl h));
+      date = not-false _ (none-holds 3 ss refl h);
+      accounts = not-false _ (none-holds 9 ss refl h);
+      listed = not-false _ (none-holds 18 ss refl h);
+      banking = not-false _ (none-holds 17 ss refl h);
+    }
 
 -- ---- a message
 
@@ -98,10 +104,11 @@ pub turn-engine : (room : ℕ) (engine : Option Engine) (day : ℕ) → firstOf 
 unfolding turnStops numbered conditionOf
 turn-engine room engine day h = not-false _ (none-holds 10 (turnStops room engine day) refl h)
 
--- none of 3, 11 and 16 holds
+-- none of 3, 11, 17 and 16 holds
 pub record TurnClear (room : ℕ) (e : Engine) (day : ℕ) : Type 0 where
   pub date : exists day ≡ true
   pub later : e .day < day
+  pub banking : isBankingDay (holidaysOf (e .holidays)) day ≡ true
   pub fits : length (turnText e day) ≤ room
 
 pub turn-clear : (room : ℕ) (e : Engine) (day : ℕ) → firstOf (turnStops room (some e) day) ≡ 0 → TurnClear room e day
@@ -110,5 +117,6 @@ turn-clear room e day h =
     let ss : List Stop = turnStops room (some e) day in record {
       date = not-false _ (none-holds 3 ss refl h);
       later = leb-false _ _ (none-holds 11 ss refl h);
+      banking = not-false _ (none-holds 17 ss refl h);
       fits = leb-true _ _ (not-false _ (none-holds 16 ss refl h));
     }

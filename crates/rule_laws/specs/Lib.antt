@@ -2,6 +2,8 @@ pub mod Options
 pub mod Dates
 pub mod Signs
 pub mod Lines
+pub mod Commas
+pub mod Holidays
 pub mod Messages
 pub mod Returns
 pub mod Registers

@@ -5,18 +5,25 @@ use mathlib.Core.List.{List, [], _∷_, _++_, append-assoc}
 use mathlib.Core.Option.{Option, none, some, Option·map}
 use Prim.Native.Nat.{ℕ, _+_, _<_}
 use native.Mathlib.Omega.{arith}
-use lib.Dec.{eqb}
+use lib.Dec.{eqb, lit<}
 use lib.ListN.{length, length-append}
 use borrow.Author.Tests.{eqb-true, not-true}
-use Rattle.rules.specs.Text.{every}
+use Rattle.rules.specs.Text.{isAlnum, every}
 use Rattle.rules.specs.Lines.{Line, TakenLine, lead, takeLine, before, begun, lines, body}
 use Rattle.laws.specs.Parts.{from}
+use Rattle.laws.specs.Every.{every-wider}
 use Rattle.laws.specs.Tests.{and-left, and-right, cond-left, cond-right, none-some}
 use Rattle.rule_laws.specs.Options.{some-is, Mapped, mapped}
+use Rattle.rule_laws.specs.Signs.{alnum-other}
 
 -- a byte of a line: "CR and LF stand nowhere else"
 unfoldable pub inLine : ℕ → Bool
 inLine c = not (eqb c 13) && not (eqb c 10)
+
+-- letters and digits are such bytes
+pub plain-alnum : (cs : List ℕ) → every isAlnum cs ≡ true → every inLine cs ≡ true
+unfolding inLine
+plain-alnum = every-wider isAlnum inLine (λ c h. rw (alnum-other 13 c (lit< tt) h, alnum-other 10 c (lit< tt) h))
 
 -- ---- the first two bytes of a text
 

@@ -2,19 +2,34 @@
 use mathlib.Core.Path.{_≡_, refl}
 use mathlib.Core.Bool.{Bool, true, false, _||_, cond}
 use mathlib.Core.List.{List, [], _∷_}
-use Prim.Native.Nat.{ℕ}
+use Prim.Native.Nat.{ℕ, _≤_, _<_}
+use native.Mathlib.Omega.{arith}
 use lib.Dec.{eqb}
-use borrow.Author.Tests.{eqb-true}
+use borrow.Author.Tests.{eqb-true, ne-eqb}
 use Rattle.rules.specs.Text.{ascii, isDigit, isLetter, isAlnum, every, fits, fitsSign}
 use Rattle.rules.specs.Accounts.{isBic, ibanShape}
-use Rattle.laws.specs.Tests.{never, cond-left, cond-right}
+use Rattle.laws.specs.Tests.{never, cond-left, cond-right, between-low}
 
 -- a sign that letters and digits alone fit
 unfoldable pub isSign : ℕ → Bool
 isSign p = eqb p 110 || eqb p 97 || eqb p 99 || isAlnum p
 
+-- ---- letters and digits
+
+alnum-low : (c : ℕ) → isAlnum c ≡ true → 48 ≤ c
+unfolding isAlnum isDigit isLetter
+alnum-low c h = go (isDigit c) refl h
+  where
+    go : (t : Bool) → isDigit c ≡ t → (t || isLetter c) ≡ true → 48 ≤ c
+    go true e k = between-low 48 57 c e
+    go false e k = omega (arith, between-low 65 90 c k)
+
+-- no comma, CR or LF
+pub alnum-other : (k c : ℕ) → k < 48 → isAlnum c ≡ true → eqb c k ≡ false
+alnum-other k c l h = let m : 48 ≤ c = alnum-low c h in ne-eqb c k (omega arith)
+
 -- digits and letters are such bytes
-digit-alnum : (c : ℕ) → isDigit c ≡ true → isAlnum c ≡ true
+pub digit-alnum : (c : ℕ) → isDigit c ≡ true → isAlnum c ≡ true
 unfolding isAlnum
 digit-alnum c h = rw h
 

@@ -15,7 +15,7 @@ use Rattle.rules.specs.Calls.{Answer, openCall, messageCall, turnCall}
 --   0  mark (2), day (3), outgoing count (2), positions (1), references (1), currency (1), lengths of at most three texts (2 each)
 --   16  64 references of 24 bytes: sender (8), reference (16)
 --   1,552  32 positions of 24 bytes: key (12), that is bank (8), date (3) and block (1), transferred (6), detailed (6)
---   2,320  texts one behind the other, 3,824 bytes: the register
+--   2,320  texts one behind the other, 3,824 bytes: the register, the holiday list
 
 -- where the header's numbers stand: day, outgoing count, how many positions and references, currency, lengths of texts
 abbrev pub dayPlace : ℕ
@@ -100,9 +100,9 @@ keyBytes k = bytes 8 (k .bank) ++ bytes 3 (k .date) ++ bytes 1 0
 unfoldable pub positionRecord : Position → List ℕ
 positionRecord p = keyBytes (p .key) ++ bytes 6 (p .transferred) ++ bytes 6 (p .detailed)
 
--- the texts of an engine, in the order in which they stand: the register
+-- the texts of an engine, in the order in which they stand: the register, the holiday list
 unfoldable pub textsOf : Engine → List (List ℕ)
-textsOf e = e .register ∷ []
+textsOf e = e .register ∷ e .holidays ∷ []
 
 -- the length of a text
 unfoldable pub lengthRecord : List ℕ → List ℕ
@@ -179,6 +179,7 @@ records n cs = recordsOf recordSize n cs
 unfoldable pub decode : List ℕ → Engine
 decode a = record {
   register = textAt a 0;
+  holidays = textAt a 1;
   day = numberAt a dayPlace 3;
   positions = map positionIn (records (numberAt a manyPositionsPlace 1) (drop positionsPlace a));
   references = map referenceIn (records (numberAt a manyReferencesPlace 1) (drop referencesPlace a));
@@ -212,8 +213,8 @@ onAreas a area out =
     (record { number = a .number; written = 0; difference = pos 0; area = area; output = out })
 
 -- opening has no output
-unfoldable pub cardOpen : List ℕ → ℕ → List ℕ → Result
-cardOpen text day area = onAreas (openCall (length area) (holds area) text day) area []
+unfoldable pub cardOpen : List ℕ → List ℕ → ℕ → List ℕ → Result
+cardOpen text list day area = onAreas (openCall (length area) (holds area) text list day) area []
 
 -- a message, with the engine area and the output lent to the call
 unfoldable pub cardMessage : List ℕ → List ℕ → List ℕ → Result

@@ -9,6 +9,7 @@ use lib.ListN.{length, take, drop}
 use Rattle.rules.specs.Text.{ascii, equal, bigEndian, isSome, any, twice}
 use Rattle.rules.specs.Dates.{exists}
 use Rattle.rules.specs.Accounts.{passes}
+use Rattle.rules.specs.BankingDays.{holidays, holidaysOf, isBankingDay}
 use Rattle.rules.specs.Lines.{framed, type, receiver}
 use Rattle.rules.specs.Messages.{Message, mt103, mt101, Detail, currency32A, account103, field21, currency32B, payer, account59, read, senderOf, referenceOf, detailsOf, dateOf, transferredBy, detailedBy, firstDate}
 use Rattle.rules.specs.Register.{Register, register, registerOf}
@@ -52,27 +53,29 @@ unfoldable pub holdsOf : {A : Type 0} → (A → Bool) → Option A → Bool
 holdsOf p none = false
 holdsOf p (some a) = p a
 
--- ---- opening: "Opening tests 10, 3, then 9"
+-- ---- opening: "Opening tests 10, 3, then 9", and with CR 2: 18 "tested at opening after 9", 17 "after 18 at opening"
 
--- size is the engine area's
-unfoldable pub openStops : ℕ → List ℕ → ℕ → List Stop
-openStops size text day =
+-- size is the engine area's, text the register's, list the holiday list
+unfoldable pub openStops : ℕ → List ℕ → List ℕ → ℕ → List Stop
+openStops size text list day =
     stop 10 (not (leb areaSize size))
     ∷ stop 3 (not (exists day))
     ∷ stop 9 (not (isSome (register text)))
+    ∷ stop 18 (not (isSome (holidays list)))
+    ∷ stop 17 (not (isBankingDay (holidaysOf list) day))
     ∷ []
 
--- "Opening takes the register and a day and gives an engine with no positions, references or output."
-unfoldable pub opened : List ℕ → ℕ → Engine
-opened text day = record { register = text; day = day; positions = []; references = []; count = 0 }
+-- "Opening takes the register and a day and gives an engine with no positions, references or output.", "Opening now also takes 0 to 60 holidays"
+unfoldable pub opened : List ℕ → List ℕ → ℕ → Engine
+opened text list day = record { register = text; holidays = list; day = day; positions = []; references = []; count = 0 }
 
 -- accepted, it writes nothing
-unfoldable pub acceptedOpening : List ℕ → ℕ → Answer
-acceptedOpening text day = record { number = 0; text = []; difference = pos 0; next = some (opened text day) }
+unfoldable pub acceptedOpening : List ℕ → List ℕ → ℕ → Answer
+acceptedOpening text list day = record { number = 0; text = []; difference = pos 0; next = some (opened text list day) }
 
 -- an opening of an area that is lent with a size
-unfoldable pub openCall : ℕ → Option Engine → List ℕ → ℕ → Answer
-openCall size engine text day = answered (openStops size text day) engine (acceptedOpening text day)
+unfoldable pub openCall : ℕ → Option Engine → List ℕ → List ℕ → ℕ → Answer
+openCall size engine text list day = answered (openStops size text list day) engine (acceptedOpening text list day)
 
 -- ---- message: conditions
 
@@ -203,6 +206,7 @@ messageText e m =
 unfoldable pub afterMessage : Engine → Message → Engine
 afterMessage e m = record {
   register = e .register;
+  holidays = e .holidays;
   day = e .day;
   positions = booked (addition m) (e .positions);
   references = filed (ownReference m) (e .references);
@@ -245,7 +249,7 @@ stateStops room e m = limitStops e m ++ roomStops room e m
 -- "10, tested before all others"; behind it, where there is no engine, nothing is tested of any
 unfoldable pub messageStops : ℕ → Option Engine → List ℕ → List Stop
 messageStops room engine s =
-    let e = Option·getD engine (opened [] 0) in
+    let e = Option·getD engine (opened [] [] 0) in
     (stop 10 (not (isSome engine)) ∷ [])
     ++ inputStops (registerOf (e .register) .temporary) s
     ++ stateStops room e (read s)
@@ -269,7 +273,7 @@ bothOf (some e) (some m) = acceptedMessage e m
 unfoldable pub messageCall : ℕ → Option Engine → List ℕ → Answer
 messageCall room engine s = answered (messageStops room engine s) engine (bothOf engine (read s))
 
--- ---- turn: "A turn tests 10, 3, 11, then 16"
+-- ---- turn: "A turn tests 10, 3, 11, then 16", and with CR 2: 17 "tested after 11 in a turn"
 
 -- "References and the outgoing number start anew, before corrections are numbered."
 unfoldable pub turnText : Engine → ℕ → List ℕ
@@ -277,13 +281,14 @@ turnText e day =
     let t = registerOf (e .register) .temporary in
     correctionPostings day t (e .positions) ++ corrections day t 0 (e .positions)
 
--- 3 "a date that doesn't exist"; 11 "turn to no later day"; 16 "output shorter than this call's bytes"
+-- 3 "a date that doesn't exist"; 11 "turn to no later day"; 17 "the day is a Saturday, a Sunday or a listed holiday"; 16 "output shorter than this call's bytes"
 unfoldable pub turnStops : ℕ → Option Engine → ℕ → List Stop
 turnStops room engine day =
-    let e = Option·getD engine (opened [] 0) in
+    let e = Option·getD engine (opened [] [] 0) in
     stop 10 (not (isSome engine))
     ∷ stop 3 (not (exists day))
     ∷ stop 11 (leb day (e .day))
+    ∷ stop 17 (not (isBankingDay (holidaysOf (e .holidays)) day))
     ∷ stop 16 (not (leb (length (turnText e day)) room))
     ∷ []
 
@@ -301,6 +306,7 @@ collected (p ∷ ps) = let r = collected ps in cond (hasDetails p) ((p .detailed
 unfoldable pub afterTurn : Engine → ℕ → Engine
 afterTurn e day = record {
   register = e .register;
+  holidays = e .holidays;
   day = day;
   positions = kept (e .positions);
   references = [];

@@ -18,9 +18,13 @@ monthLengths =
 unfoldable pub leapRow : ℕ → ℕ
 leapRow year = cond (eqb (year % 4) 0) 1 0
 
+-- the lengths of a year's months
+abbrev pub monthsOf : ℕ → List ℕ
+monthsOf year = getD monthLengths (leapRow year) []
+
 -- the length of a month, 1 to 12
 unfoldable pub monthLength : ℕ → ℕ → ℕ
-monthLength year month = getD (getD monthLengths (leapRow year) []) (month - 1) 0
+monthLength year month = getD (monthsOf year) (month - 1) 0
 
 -- "A day handed to a call is the number of these digits.": the number is an existing date
 unfoldable pub exists : ℕ → Bool

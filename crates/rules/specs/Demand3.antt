@@ -55,6 +55,6 @@ pub record Balanced (temporary : List ℕ) (r : Ran) : Type 0 where
 -- "After any list of message and turn calls (refused ones included) behind an accepted opening"
 abbrev pub Demand3 : Type 0
 Demand3 =
-    (text : List ℕ) (day : ℕ) (area : List ℕ) (calls : List Call)
-    → cardOpen text day area .number ≡ 0
-    → Balanced (registerOf text .temporary) (ran (cardOpen text day area .area) calls)
+    (text list : List ℕ) (day : ℕ) (area : List ℕ) (calls : List Call)
+    → cardOpen text list day area .number ≡ 0
+    → Balanced (registerOf text .temporary) (ran (cardOpen text list day area .area) calls)

@@ -7,6 +7,7 @@ use lib.ListN.{length, getD}
 use Rattle.rules.specs.Text.{isText, run, equal, bytes, isSome, any, ordered, textBefore}
 use Rattle.rules.specs.Dates.{exists}
 use Rattle.rules.specs.Accounts.{isBic}
+use Rattle.rules.specs.BankingDays.{holidays}
 use Rattle.rules.specs.Register.{register}
 
 -- "One position per sender and centralisation date": what tells it from the others; a bank is the number of its BIC
@@ -25,9 +26,10 @@ pub record Reference : Type 0 where
   pub sender : ℕ
   pub text : List ℕ
 
--- "An engine is the register, day, open positions, references accepted today with their senders, and outgoing number."
+-- "An engine is the register, day, open positions, references accepted today with their senders, and outgoing number.", and the holiday list
 pub record Engine : Type 0 where
   pub register : List ℕ
+  pub holidays : List ℕ
   pub day : ℕ
   pub positions : List Position
   pub references : List Reference
@@ -142,10 +144,11 @@ unfoldable pub goodReferences : List Reference → Bool
 goodReferences [] = true
 goodReferences (r ∷ rs) = let q = goodReferences rs in cond (goodReference r) q false
 
--- the engine is within the limits: "positions distinct and dated no later than the day, references of one sender distinct, at most 64 of them in all, outgoing number at most 32 + 18 × their count"
+-- the engine is within the limits: register and holiday list pass, "positions distinct and dated no later than the day, references of one sender distinct, at most 64 of them in all, outgoing number at most 32 + 18 × their count"
 unfoldable pub within : Engine → Bool
 within e =
     isSome (register (e .register))
+    && isSome (holidays (e .holidays))
     && exists (e .day)
     && leb (length (e .positions)) 32
     && goodPositions (e .day) (e .positions)

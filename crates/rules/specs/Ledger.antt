@@ -8,7 +8,7 @@ use lib.IntN.{ℤ, subℕ}
 use lib.ListN.{length, getD}
 use Rattle.rules.specs.Text.{ascii, equal, fits, digits, isSome, given, any}
 use Rattle.rules.specs.Accounts.{isBic, ibanShape}
-use Rattle.rules.specs.Lines.{begun, Line, lines}
+use Rattle.rules.specs.Lines.{Line, lines, parted}
 use Rattle.rules.specs.Messages.{Message, mt103, mt101, read, dateOf, transferredBy}
 use Rattle.rules.specs.Engine.{Position, alike, raised, kept, bic}
 use Rattle.rules.specs.Calls.{addition, bankOf}
@@ -79,11 +79,6 @@ pub record Posted : Type 0 where
   pub amount : ℕ
   pub bank : List ℕ
   pub date : List ℕ
-
--- a line parted at its commas
-unfoldable pub parted : List ℕ → List (List ℕ)
-parted [] = [] ∷ []
-parted (c ∷ cs) = let r = parted cs in cond (eqb c 44) ([] ∷ r) (begun c r)
 
 -- a bank or an account
 unfoldable pub isParty : List ℕ → Bool

@@ -3,6 +3,7 @@ pub mod Dates
 pub mod Amounts
 pub mod Accounts
 pub mod Lines
+pub mod BankingDays
 pub mod Forms
 pub mod Messages
 pub mod Register
@@ -13,6 +14,7 @@ pub mod Calls
 pub mod Area
 pub mod Ledger
 pub mod Demand3
+pub mod OnBankingDays
 pub mod Replay
 pub mod Cases
 pub mod Listing

@@ -47,6 +47,11 @@ lines (c ∷ d ∷ cs) =
     let on = Option·map (begun c) (lines (d ∷ cs)) in
     cond (eqb c 13) (cond (eqb d 10) ended none) (cond (eqb c 10) none on)
 
+-- a line parted at its commas
+unfoldable pub parted : Line → List (List ℕ)
+parted [] = [] ∷ []
+parted (c ∷ cs) = let r = parted cs in cond (eqb c 44) ([] ∷ r) (begun c r)
+
 -- "last line `-`"
 unfoldable pub lastIsClosing : List Line → Bool
 lastIsClosing [] = false

@@ -1,19 +1,19 @@
 -- Document 01, "Written": the replay program, from all its input to all its output.
 use mathlib.Core.Bool.{_&&_, cond}
 use mathlib.Core.List.{List, [], _∷_, _++_}
-use mathlib.Core.Option.{Option, none, some}
+use mathlib.Core.Option.{Option, none, some, Option·map}
 use Prim.Native.Nat.{ℕ, zero, suc, _+_}
-use lib.Dec.{leb}
+use lib.Dec.{leb, eqb}
 use lib.IntN.{ℤ, pos, negsuc}
-use lib.ListN.{length, take, drop}
-use Rattle.rules.specs.Text.{ascii, digits, decimal, fits, equal, then, given}
+use lib.ListN.{length, getD, take, drop}
+use Rattle.rules.specs.Text.{ascii, digits, decimal, fits, equal, then, given, addedUp}
 use Rattle.rules.specs.Lines.{takeLine}
 use Rattle.rules.specs.Engine.{Engine, areaSize}
 use Rattle.rules.specs.Calls.{Answer, openCall, messageCall, turnCall}
 
--- a command: "`O,day,length` and a register, `M,length` and a message, `T,day`"
+-- a command: "`O,day,length` and a register, `M,length` and a message, `T,day`"; with CR 2 the holiday list follows the register
 pub data Command : Type 0 where
-  opens : ℕ → List ℕ → Command
+  opens : ℕ → List ℕ → List ℕ → Command
   sends : List ℕ → Command
   turns : ℕ → Command
 
@@ -31,16 +31,48 @@ unfoldable pub lengthOf : List ℕ → Option ℕ
 lengthOf [] = none
 lengthOf (c ∷ cs) = then (digits (c ∷ cs)) (λ n. given (leb n 8192) n)
 
--- n bytes behind a command line, all of which must be there
-unfoldable pub withBytes : (List ℕ → Command) → ℕ → List ℕ → Option Commanded
-withBytes f n cs = given (leb n (length cs)) record { command = f (take n cs); others = drop n cs }
+-- the part before the first comma
+unfoldable pub beforeComma : List ℕ → List ℕ
+beforeComma [] = []
+beforeComma (c ∷ cs) = let r = beforeComma cs in cond (eqb c 44) [] (c ∷ r)
+
+-- and what stands behind that comma
+unfoldable pub behindComma : List ℕ → List ℕ
+behindComma [] = []
+behindComma (c ∷ cs) = let r = behindComma cs in cond (eqb c 44) cs r
+
+-- a length, and k more, each behind a comma
+unfoldable pub lengthsOf : ℕ → List ℕ → Option (List ℕ)
+lengthsOf zero cs = Option·map (λ n. n ∷ []) (lengthOf cs)
+lengthsOf (suc k) cs = then (lengthOf (beforeComma cs)) (λ n. Option·map (λ more. n ∷ more) (lengthsOf k (behindComma cs)))
+
+-- texts of some lengths, one behind the other
+unfoldable pub textsIn : List ℕ → List ℕ → List (List ℕ)
+textsIn [] cs = []
+textsIn (n ∷ ns) cs = take n cs ∷ textsIn ns (drop n cs)
+
+-- behind a command line, all of which must be there
+unfoldable pub withTexts : (List (List ℕ) → Command) → List ℕ → List ℕ → Option Commanded
+withTexts f ns cs = let size = addedUp ns in given (leb size (length cs)) record { command = f (textsIn ns cs); others = drop size cs }
+
+-- a line's lengths, 1 + k of them, and the texts behind it
+unfoldable pub textsBehind : (List (List ℕ) → Command) → ℕ → List ℕ → List ℕ → Option Commanded
+textsBehind f k l cs = then (lengthsOf k l) (λ ns. withTexts f ns cs)
+
+-- "`M,length` and a message"
+unfoldable pub sending : List (List ℕ) → Command
+sending ts = sends (getD ts 0 [])
+
+-- "Text that a request adds to opening adds a length and follows the register.": register and holiday list
+unfoldable pub opening : ℕ → List (List ℕ) → Command
+opening day ts = opens day (getD ts 0 []) (getD ts 1 [])
 
 -- the command of a line, with what stands behind the line
 unfoldable pub commandOf : List ℕ → List ℕ → Option Commanded
 commandOf l cs =
-    cond (equal (take 2 l) (ascii "M,")) (then (lengthOf (drop 2 l)) (λ n. withBytes sends n cs))
+    cond (equal (take 2 l) (ascii "M,")) (textsBehind sending 0 (drop 2 l) cs)
     (cond (equal (take 2 l) (ascii "T,")) (then (sixDigits (drop 2 l)) (λ d. some record { command = turns d; others = cs }))
-    (cond (equal (take 2 l) (ascii "O,") && equal (take 1 (drop 8 l)) (ascii ",")) (then (sixDigits (take 6 (drop 2 l))) (λ d. then (lengthOf (drop 9 l)) (λ n. withBytes (opens d) n cs)))
+    (cond (equal (take 2 l) (ascii "O,") && equal (take 1 (drop 8 l)) (ascii ",")) (then (sixDigits (take 6 (drop 2 l))) (λ d. textsBehind (opening d) 1 (drop 9 l) cs))
     none))
 
 -- "command lines end in CR LF"
@@ -58,7 +90,7 @@ printed a = decimal (a .number) ++ ascii "," ++ signed (a .difference) ++ ascii 
 
 -- the call that a command makes
 unfoldable pub called : ℕ → Option Engine → Command → Answer
-called room engine (opens day text) = openCall areaSize engine text day
+called room engine (opens day text list) = openCall areaSize engine text list day
 called room engine (sends s) = messageCall room engine s
 called room engine (turns day) = turnCall room engine day
 

@@ -132,6 +132,11 @@ width (suc k) v = cond (leb v 9) 1 (suc (width k (v / 10)))
 abbrev pub decimal : ℕ → List ℕ
 decimal v = fixed (width 19 v) v
 
+-- some numbers added up
+unfoldable pub addedUp : List ℕ → ℕ
+addedUp [] = 0
+addedUp (n ∷ ns) = n + addedUp ns
+
 -- the number n and then the bytes bs behind it, big-endian
 unfoldable pub numberFrom : ℕ → List ℕ → ℕ
 numberFrom n [] = n

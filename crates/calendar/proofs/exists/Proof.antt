@@ -1,4 +1,4 @@
--- `calendar::exists` meets its contract: year, month and day are compared with their bounds in the order of the definition.
+-- `calendar::exists` meets its contract: the number is taken apart in year, month and day, and `is_date` tells of these.
 use Rattle.calendar.specs.Days.{days}
 use borrow.Author.Needs.{needs}
 use Rattle.calendar.proofs.exists.Statement.{statement}
@@ -13,32 +13,17 @@ year-of-requires c κs = search (days, needs)
 month-and-day-requires : tie.Need-month-and-day-requires
 month-and-day-requires c κs = search (days, needs)
 
-mul-day : tie.Need-mul-day
-mul-day c = search (days, needs)
+mul-is-date : tie.Need-mul-is-date
+mul-is-date c = search (days, needs)
 
-sub-day : tie.Need-sub-day
-sub-day c = search (days, needs)
+sub-is-date : tie.Need-sub-is-date
+sub-is-date c = search (days, needs)
 
-cast-day : tie.Need-cast-day
-cast-day c = search (days, needs)
+is-date-requires : tie.Need-is-date-requires
+is-date-requires c κs = search (days, needs)
 
 returns-2 : tie.Need-returns-2
 returns-2 c = search (days, needs)
-
-returns-3 : tie.Need-returns-3
-returns-3 c = search (days, needs)
-
-cast-month-length : tie.Need-cast-month-length
-cast-month-length c = search (days, needs)
-
-month-length-requires : tie.Need-month-length-requires
-month-length-requires c κs = search (days, needs)
-
-returns-4 : tie.Need-returns-4
-returns-4 c = search (days, needs)
-
-returns-5 : tie.Need-returns-5
-returns-5 c = search (days, needs)
 
 pub exists-spec : {M : Type 1} → statement M
 exists-spec =
@@ -47,12 +32,7 @@ exists-spec =
     returns
     year-of-requires
     month-and-day-requires
-    mul-day
-    sub-day
-    cast-day
-    returns-2
-    returns-3
-    cast-month-length
-    month-length-requires
-    returns-4
-    returns-5)
+    mul-is-date
+    sub-is-date
+    is-date-requires
+    returns-2)

@@ -1,4 +1,5 @@
--- Opening: each way out answers what the conditions of document 01 give, in their order.
+-- Opening: each way out answers what the conditions give, in their order: 10, 3, 9, 18, 17.
+use Rattle.laws.specs.Tests.{passed-told}
 use Rattle.card.specs.Opening.{opening}
 use borrow.Author.Needs.{needs}
 use Rattle.card.proofs.opening.card_open.Statement.{statement}
@@ -16,23 +17,34 @@ returns c = search (opening, needs)
 exists-requires : tie.Need-exists-requires
 exists-requires c κs = search (opening, needs)
 
-register-passes-requires : tie.Need-register-passes-requires
-register-passes-requires c κs = search (opening, needs)
-
-open-area-requires : tie.Need-open-area-requires
-open-area-requires c κs = search (opening, needs)
-
 same-length-2 : tie.Need-same-length-2
 same-length-2 c = search (opening, needs)
 
 returns-2 : tie.Need-returns-2
 returns-2 c = search (opening, needs)
 
+register-passes-requires : tie.Need-register-passes-requires
+register-passes-requires c κs = search (opening, needs)
+
+list-passes-requires : tie.Need-list-passes-requires
+list-passes-requires c κs = search (opening, needs)
+
+is-banking-day-requires : tie.Need-is-banking-day-requires
+is-banking-day-requires c κs =
+    let at-if2 = c .before .before in
+    passed-told _ _ (at-if2 .before .exists .ensures) (at-if2 .if2 .left)
+
+opening-stop-requires : tie.Need-opening-stop-requires
+opening-stop-requires c κs = search (opening, needs)
+
 same-length-3 : tie.Need-same-length-3
 same-length-3 c = search (opening, needs)
 
 returns-3 : tie.Need-returns-3
 returns-3 c = search (opening, needs)
+
+open-area-requires : tie.Need-open-area-requires
+open-area-requires c κs = (search (opening, needs), (search (opening, needs), search (opening, needs)))
 
 same-length-4 : tie.Need-same-length-4
 same-length-4 c = search (opening, needs)
@@ -48,11 +60,14 @@ card-open-spec =
     same-length
     returns
     exists-requires
-    register-passes-requires
-    open-area-requires
     same-length-2
     returns-2
+    register-passes-requires
+    list-passes-requires
+    is-banking-day-requires
+    opening-stop-requires
     same-length-3
     returns-3
+    open-area-requires
     same-length-4
     returns-4)

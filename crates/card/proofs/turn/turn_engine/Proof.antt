@@ -1,4 +1,4 @@
--- Each way out answers what the conditions of document 01 give, in their order: 3, 11, 16.
+-- Each way out answers what the conditions of a turn give, in their order: 3, 11, 17, 16.
 use denote.Ref.{now}
 use native.Mathlib.Omega.{arith}
 use Rattle.card.specs.Turn.{turn-fits, turn-made, turning}
@@ -6,11 +6,8 @@ use borrow.Author.Needs.{needs}
 use Rattle.card.proofs.turn.turn_engine.Statement.{statement}
 use Rattle.card.proofs.turn.turn_engine.Tie as tie
 
-exists-requires : tie.Need-exists-requires
-exists-requires c κs = search (turning, needs)
-
-header-of-requires : tie.Need-header-of-requires
-header-of-requires c κs = search (turning, needs)
+day-stop-requires : tie.Need-day-stop-requires
+day-stop-requires c κs = search (turning, needs)
 
 same-length : tie.Need-same-length
 same-length c = search (turning, needs)
@@ -29,14 +26,12 @@ returns-2 c = search (turning, needs)
 
 accept-turn-requires : tie.Need-accept-turn-requires
 accept-turn-requires c κs =
-    let at-if3 = c .before .before .before .before in
-    let at-turn-size = at-if3 .before in
-    let at-if2 = at-turn-size .before .before in
-    let at-header-of = at-if2 .before .before in
-    let at-if1 = at-header-of .before .before in
-    let at-exists = at-if1 .before in
-    let entry = at-exists .before .before .before in
-    ((entry .pre), turn-fits _ _ (now (entry .args .output)) (entry .pre) _ (at-exists .exists .ensures) (at-if1 .if1 .taken) _ (at-header-of .header-of .ensures) (at-if2 .if2 .left) (at-turn-size .turn-size .ensures) (at-if3 .if3 .left) (omega arith))
+    let at-if2 = c .before .before .before .before in
+    let at-turn-size = at-if2 .before in
+    let at-if1 = at-turn-size .before .before in
+    let at-day-stop = at-if1 .before in
+    let entry = at-day-stop .before .before .before .before in
+    ((entry .pre), turn-fits _ _ (now (entry .args .output)) (entry .pre) _ (at-day-stop .day-stop .ensures) (at-if1 .if1 .left) (at-turn-size .turn-size .ensures) (at-if2 .if2 .left) (omega arith))
 
 same-length-3 : tie.Need-same-length-3
 same-length-3 c = search (turning, needs)
@@ -47,24 +42,18 @@ same-length-4 c = search (turning, needs)
 returns-3 : tie.Need-returns-3
 returns-3 c =
     let at-accept-turn = c .before .before .before .before in
-    let at-if3 = at-accept-turn .before .before .before .before .before in
-    let at-turn-size = at-if3 .before in
-    let at-if2 = at-turn-size .before .before in
-    let at-header-of = at-if2 .before .before in
-    let at-if1 = at-header-of .before .before in
-    let at-exists = at-if1 .before in
-    let entry = at-exists .before .before .before in
-    turn-made _ _ _ (entry .pre) _ (at-exists .exists .ensures) (at-if1 .if1 .taken) _ (at-header-of .header-of .ensures) (at-if2 .if2 .left) (at-turn-size .turn-size .ensures) (at-if3 .if3 .left) (omega arith) (at-accept-turn .accept-turn .ensures)
-
-returns-4 : tie.Need-returns-4
-returns-4 c = search (turning, needs)
+    let at-if2 = at-accept-turn .before .before .before .before .before in
+    let at-turn-size = at-if2 .before in
+    let at-if1 = at-turn-size .before .before in
+    let at-day-stop = at-if1 .before in
+    let entry = at-day-stop .before .before .before .before in
+    turn-made _ _ _ (entry .pre) _ (at-day-stop .day-stop .ensures) (at-if1 .if1 .left) (at-turn-size .turn-size .ensures) (at-if2 .if2 .left) (omega arith) (at-accept-turn .accept-turn .ensures)
 
 pub turn-engine-spec : {M : Type 1} → statement M
 turn-engine-spec =
     tie.close
     (tie.spec
-    exists-requires
-    header-of-requires
+    day-stop-requires
     same-length
     returns
     turn-size-requires
@@ -73,5 +62,4 @@ turn-engine-spec =
     accept-turn-requires
     same-length-3
     same-length-4
-    returns-3
-    returns-4)
+    returns-3)

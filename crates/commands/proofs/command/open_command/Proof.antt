@@ -1,4 +1,4 @@
--- An opening's command: day, comma, length, and as many bytes behind the line.
+-- An opening's command: day, comma, two lengths, and as many bytes behind the line.
 use Rattle.commands.specs.Lines.{commanded}
 use borrow.Author.Needs.{needs}
 use Rattle.commands.proofs.command.open_command.Statement.{statement}
@@ -37,14 +37,14 @@ enum-told c = search (commanded, needs)
 returns-3 : tie.Need-returns-3
 returns-3 c = search (commanded, needs)
 
-add-read-length : tie.Need-add-read-length
-add-read-length c = search (commanded, needs)
+add-two-lengths : tie.Need-add-two-lengths
+add-two-lengths c = search (commanded, needs)
 
-read-length-requires : tie.Need-read-length-requires
-read-length-requires c κs = search (commanded, needs)
+two-lengths-requires : tie.Need-two-lengths-requires
+two-lengths-requires c κs = search (commanded, needs)
 
-enum-known-n : tie.Need-enum-known-n
-enum-known-n c = search (commanded, needs)
+enum-known-m : tie.Need-enum-known-m
+enum-known-m c = search (commanded, needs)
 
 enum-told-2 : tie.Need-enum-told-2
 enum-told-2 c = search (commanded, needs)
@@ -58,14 +58,20 @@ add-start c = search (commanded, needs)
 sub-if3 : tie.Need-sub-if3
 sub-if3 c = search (commanded, needs)
 
+add-if3 : tie.Need-add-if3
+add-if3 c = search (commanded, needs)
+
 returns-5 : tie.Need-returns-5
 returns-5 c = search (commanded, needs)
 
-cast-t15 : tie.Need-cast-t15
-cast-t15 c = search (commanded, needs)
+add-middle : tie.Need-add-middle
+add-middle c = search (commanded, needs)
 
-add-t7 : tie.Need-add-t7
-add-t7 c = search (commanded, needs)
+cast-t18 : tie.Need-cast-t18
+cast-t18 c = search (commanded, needs)
+
+add-t14 : tie.Need-add-t14
+add-t14 c = search (commanded, needs)
 
 returns-6 : tie.Need-returns-6
 returns-6 c = search (commanded, needs)
@@ -85,14 +91,16 @@ open-command-spec =
     enum-known-day
     enum-told
     returns-3
-    add-read-length
-    read-length-requires
-    enum-known-n
+    add-two-lengths
+    two-lengths-requires
+    enum-known-m
     enum-told-2
     returns-4
     add-start
     sub-if3
+    add-if3
     returns-5
-    cast-t15
-    add-t7
+    add-middle
+    cast-t18
+    add-t14
     returns-6)

@@ -14,6 +14,15 @@ part-card-open-start c = search (telling, needs)
 part-card-open-end : tie.Need-part-card-open-end
 part-card-open-end c = search (telling, needs)
 
+sub-card-open-2 : tie.Need-sub-card-open-2
+sub-card-open-2 c = search (telling, needs)
+
+part-card-open-start-2 : tie.Need-part-card-open-start-2
+part-card-open-start-2 c = search (telling, needs)
+
+part-card-open-end-2 : tie.Need-part-card-open-end-2
+part-card-open-end-2 c = search (telling, needs)
+
 card-open-requires : tie.Need-card-open-requires
 card-open-requires c κs = search (telling, needs)
 
@@ -23,8 +32,8 @@ same-length c = search (telling, needs)
 returns : tie.Need-returns
 returns c =
     let at-card-open = c .before .before in
-    let entry = at-card-open .before .before .before .before .before .before .before .before in
-    told-open _ (entry .pre .1 .1) _ _ _ _ _ (entry .pre .0) (at-card-open .card-open .ensures)
+    let entry = at-card-open .before .before .before .before .before .before .before .before .before in
+    told-open _ (entry .pre .1 .1 .1) _ _ _ _ _ _ (entry .pre .0) (entry .pre .1 .0) (at-card-open .card-open .ensures)
 
 pub call-open-spec : {M : Type 1} → statement M
 call-open-spec =
@@ -33,6 +42,9 @@ call-open-spec =
     sub-card-open
     part-card-open-start
     part-card-open-end
+    sub-card-open-2
+    part-card-open-start-2
+    part-card-open-end-2
     card-open-requires
     same-length
     returns)

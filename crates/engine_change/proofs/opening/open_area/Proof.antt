@@ -1,4 +1,4 @@
--- An opening: its parts are written from the first byte on and fill 6,144 bytes, since a register has room.
+-- An opening: its parts are written from the first byte on and fill 6,144 bytes, since a register and a holiday list have room.
 use Rattle.engine_change.specs.Sets.{opening}
 use borrow.Author.Needs.{needs}
 use Rattle.engine_change.proofs.opening.open_area.Statement.{statement}

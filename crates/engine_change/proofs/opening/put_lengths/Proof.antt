@@ -1,4 +1,4 @@
--- The currency, the length of the text, and zeros where others would stand.
+-- The currency, the lengths of both texts, and zeros where a third would stand.
 use Rattle.rules.specs.Area.{lengthsOf, lengthRecord}
 use Rattle.engine_change.specs.Header.{lengths}
 use Rattle.engine_change.specs.Sets.{opening}
@@ -12,6 +12,9 @@ put-be-requires c κs = search (opening, needs)
 put-be-requires-2 : tie.Need-put-be-requires-2
 put-be-requires-2 c κs = search (opening, needs)
 
+put-be-requires-3 : tie.Need-put-be-requires-3
+put-be-requires-3 c κs = search (opening, needs)
+
 put-zeros-requires : tie.Need-put-zeros-requires
 put-zeros-requires c κs = search (opening, needs)
 
@@ -24,4 +27,5 @@ returns c = search (opening, needs)
 
 pub put-lengths-spec : {M : Type 1} → statement M
 put-lengths-spec =
-    tie.close (tie.spec put-be-requires put-be-requires-2 put-zeros-requires same-length returns)
+    tie.close
+    (tie.spec put-be-requires put-be-requires-2 put-be-requires-3 put-zeros-requires same-length returns)

@@ -1,4 +1,4 @@
--- The text, and zeros in the room that it leaves.
+-- The texts one behind the other, and zeros in the room that they leave.
 use Rattle.engine_laws.specs.Sections.{textPart}
 use Rattle.engine_change.specs.Sets.{opening}
 use borrow.Author.Needs.{needs}
@@ -8,8 +8,14 @@ use Rattle.engine_change.proofs.opening.put_texts.Tie as tie
 put-bytes-requires : tie.Need-put-bytes-requires
 put-bytes-requires c κs = search (opening, needs)
 
+put-bytes-requires-2 : tie.Need-put-bytes-requires-2
+put-bytes-requires-2 c κs = search (opening, needs)
+
 sub-put-zeros : tie.Need-sub-put-zeros
 sub-put-zeros c = search (opening, needs)
+
+sub-put-zeros-2 : tie.Need-sub-put-zeros-2
+sub-put-zeros-2 c = search (opening, needs)
 
 put-zeros-requires : tie.Need-put-zeros-requires
 put-zeros-requires c κs = search (opening, needs)
@@ -23,4 +29,12 @@ returns c = search (opening, needs)
 
 pub put-texts-spec : {M : Type 1} → statement M
 put-texts-spec =
-    tie.close (tie.spec put-bytes-requires sub-put-zeros put-zeros-requires same-length returns)
+    tie.close
+    (tie.spec
+    put-bytes-requires
+    put-bytes-requires-2
+    sub-put-zeros
+    sub-put-zeros-2
+    put-zeros-requires
+    same-length
+    returns)

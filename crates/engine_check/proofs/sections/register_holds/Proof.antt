@@ -1,4 +1,5 @@
 -- Text k is no longer than a register can be, and is one.
+use Rattle.engine_laws.specs.Tests.{isRegister}
 use Rattle.engine_laws.specs.Ways.{lettering}
 use borrow.Author.Needs.{needs}
 use Rattle.engine_check.proofs.sections.register_holds.Statement.{statement}
@@ -17,6 +18,7 @@ register-passes-requires : tie.Need-register-passes-requires
 register-passes-requires c κs = search (lettering, needs)
 
 returns-2 : tie.Need-returns-2
+unfolding isRegister
 returns-2 c = search (lettering, needs)
 
 pub register-holds-spec : {M : Type 1} → statement M

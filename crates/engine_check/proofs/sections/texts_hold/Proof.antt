@@ -13,16 +13,29 @@ returns : tie.Need-returns
 unfolding textsTest
 returns c = search (calling, needs)
 
+list-holds-requires : tie.Need-list-holds-requires
+list-holds-requires c κs = search (read, needs)
+
+returns-2 : tie.Need-returns-2
+returns-2 c = search (read, needs)
+
 text-place-requires : tie.Need-text-place-requires
 text-place-requires c κs = search (lettering, needs)
 
 zeros-hold-requires : tie.Need-zeros-hold-requires
 zeros-hold-requires c κs = search (read, needs)
 
-returns-2 : tie.Need-returns-2
-returns-2 c = search (read, needs)
+returns-3 : tie.Need-returns-3
+returns-3 c = search (read, needs)
 
 pub texts-hold-spec : {M : Type 1} → statement M
 texts-hold-spec =
     tie.close
-    (tie.spec register-holds-requires returns text-place-requires zeros-hold-requires returns-2)
+    (tie.spec
+    register-holds-requires
+    returns
+    list-holds-requires
+    returns-2
+    text-place-requires
+    zeros-hold-requires
+    returns-3)

@@ -1,0 +1,139 @@
+-- What stands before a length of a command line, and each line told by it: no command's, a turn's, or a start with lengths behind it.
+use mathlib.Core.Path.{_≡_, refl, sym, ap, _∙_}
+use mathlib.Core.Bool.{Bool, true, false, _&&_}
+use mathlib.Core.List.{List, [], _∷_, _++_, append-assoc}
+use mathlib.Core.Option.{none, some}
+use Prim.Native.Nat.{ℕ, _+_, _*_, _≤_}
+use native.Mathlib.Omega.{arith}
+use lib.ListN.{length, take, drop, length-append, take-append-drop}
+use lib.Seq.{take-at, drop-at, drop-drop}
+use Rattle.rules.specs.Text.{ascii, isDigit, isAlnum, digits, every, equal, fits}
+use Rattle.rules.specs.Replay.{turns, sixDigits, textsBehind, sending, commandOf}
+use Rattle.laws.specs.Tests.{and-left, and-right}
+use Rattle.laws.specs.Equal.{equal-true}
+use Rattle.laws.specs.Every.{every-join, every-wider}
+use Rattle.laws.specs.Reading.{fits-length}
+use Rattle.rule_laws.specs.Signs.{isSign, digit-alnum, fits-alnum}
+use Rattle.rule_laws.specs.Lines.{inLine, plain-alnum}
+use Rattle.rule_laws.specs.Options.{There}
+use Rattle.commands.specs.Numbers.{digits-there}
+
+-- ---- before a length
+
+-- before the first: `M,`, or `O,`, a day and a comma
+pub data Starts : List ℕ → Type 0 where
+  message : Starts (77 ∷ 44 ∷ [])
+  opening : (d : List ℕ) → fits (ascii "nnnnnn") d ≡ true → Starts (79 ∷ 44 ∷ (d ++ 44 ∷ []))
+
+pub day-comma : (d : List ℕ) → fits (ascii "nnnnnn") d ≡ true → length (d ++ 44 ∷ []) ≡ 7
+day-comma d h = length-append d (44 ∷ []) ∙ rw (← fits-length (ascii "nnnnnn") d h)
+
+-- from there on: earlier lengths, each with its comma
+pub data Earlier : List ℕ → Type 0 where
+  nothing : Earlier []
+  lengths : (ds : List ℕ) {ps : List ℕ} → every isDigit ds ≡ true → Earlier ps → Earlier (ds ++ 44 ∷ ps)
+
+-- so a length begins behind q
+pub record Leads (q : List ℕ) : Type 0 where
+  pub start : List ℕ
+  pub between : List ℕ
+  pub starts : Starts start
+  pub earlier : Earlier between
+  pub is : q ≡ start ++ between
+
+earlier-on : (es : List ℕ) {ps : List ℕ} → every isDigit es ≡ true → Earlier ps → Earlier (ps ++ (es ++ 44 ∷ []))
+earlier-on es h nothing = lengths es h nothing
+earlier-on es h (lengths ds {ps} k e) = rw (append-assoc ds (44 ∷ ps) (es ++ 44 ∷ [])) (lengths ds k (earlier-on es h e))
+
+pub leads-on : {q : List ℕ} (es : List ℕ) → every isDigit es ≡ true → Leads q → Leads (q ++ (es ++ 44 ∷ []))
+leads-on {q} es h l = record {
+  start = l .start;
+  between = l .between ++ (es ++ 44 ∷ []);
+  starts = l .starts;
+  earlier = earlier-on es h (l .earlier);
+  is = ap (λ (x : List ℕ). x ++ (es ++ 44 ∷ [])) (l .is) ∙ append-assoc (l .start) (l .between) (es ++ 44 ∷ []);
+}
+
+-- no CR or LF stands there
+starts-plain : {q : List ℕ} → Starts q → every inLine q ≡ true
+unfolding every inLine isSign
+starts-plain message = refl
+starts-plain (opening d h) = every-join inLine d (44 ∷ []) (plain-alnum d (fits-alnum (ascii "nnnnnn") d refl h)) refl
+
+earlier-plain : {ps : List ℕ} → Earlier ps → every inLine ps ≡ true
+unfolding every inLine
+earlier-plain nothing = refl
+earlier-plain (lengths ds {ps} h e) = every-join inLine ds (44 ∷ ps) (plain-alnum ds (every-wider isDigit isAlnum digit-alnum ds h)) (earlier-plain e)
+
+pub leads-plain : {q : List ℕ} → Leads q → every inLine q ≡ true
+leads-plain l = ap (every inLine) (l .is) ∙ every-join inLine (l .start) (l .between) (starts-plain (l .starts)) (earlier-plain (l .earlier))
+
+-- ---- a line by its start
+
+-- a line that begins so has lengths behind, 1 + more of them: with five digits each it has at most 20 bytes, and their texts have at most 16,384
+pub record Bears (q : List ℕ) : Type 0 where
+  pub made : List (List ℕ) → Rattle.rules.specs.Replay.Command
+  pub more : ℕ
+  pub line : (u cs : List ℕ) → commandOf (q ++ u) cs ≡ textsBehind made more u cs
+  pub line-room : length q + (5 + 6 * more) ≤ 20
+  pub text-room : 8192 + 8192 * more ≤ 16384
+
+pub starts-bears : {q : List ℕ} → Starts q → Bears q
+unfolding commandOf equal sixDigits
+starts-bears message = record { made = sending; more = 0; line = λ u cs. refl; line-room = omega arith; text-room = omega arith }
+starts-bears (opening d h) =
+    let t : There (digits d) = digits-there 6 0 d h in
+    let k : length d ≡ 6 = sym (fits-length (ascii "nnnnnn") d h) in record {
+      made = Rattle.rules.specs.Replay.opening (t .value);
+      more = 1;
+      line = λ u cs.
+          let a : (d ++ 44 ∷ []) ++ u ≡ d ++ 44 ∷ u = append-assoc d (44 ∷ []) u in
+          let x : drop 7 ((d ++ 44 ∷ []) ++ u) ≡ u = drop-at (d ++ 44 ∷ []) u 7 (day-comma d h) in
+          let y : take 6 ((d ++ 44 ∷ []) ++ u) ≡ d = ap (take 6) a ∙ take-at d (44 ∷ u) 6 k in
+          let z : drop 6 ((d ++ 44 ∷ []) ++ u) ≡ 44 ∷ u = ap (drop 6) a ∙ drop-at d (44 ∷ u) 6 k in
+          rw (x, y, z, h, t .is);
+      line-room = omega (arith, day-comma d h);
+      text-room = omega arith;
+    }
+
+pub data ReadAs (l : List ℕ) : Type 0 where
+  none-read : ((cs : List ℕ) → commandOf l cs ≡ none) → ReadAs l
+  turn-read : (d : ℕ) → length l ≡ 8 → ((cs : List ℕ) → commandOf l cs ≡ some record { command = turns d; others = cs }) → ReadAs l
+  texts-read : (q u : List ℕ) → Starts q → l ≡ q ++ u → ReadAs l
+
+pub read-as : (l : List ℕ) → ReadAs l
+unfolding commandOf sixDigits
+read-as l = go (equal (take 2 l) (ascii "M,")) refl (equal (take 2 l) (ascii "T,")) refl (equal (take 2 l) (ascii "O,") && equal (take 1 (drop 8 l)) (ascii ",")) refl
+  where
+    whole : (x : List ℕ) → equal (take 2 l) x ≡ true → l ≡ x ++ drop 2 l
+    whole x e = sym (take-append-drop 2 l) ∙ ap (λ (y : List ℕ). y ++ drop 2 l) (equal-true _ _ e)
+
+    turned : equal (take 2 l) (ascii "M,") ≡ false → equal (take 2 l) (ascii "T,") ≡ true → (b : Bool) → fits (ascii "nnnnnn") (drop 2 l) ≡ b → ReadAs l
+    turned e f false g = none-read (λ cs. rw (e, f, g))
+    turned e f true g =
+        let t : There (digits (drop 2 l)) = digits-there 6 0 (drop 2 l) g in
+        turn-read (t .value) (ap length (whole (ascii "T,") f) ∙ omega (arith, fits-length (ascii "nnnnnn") (drop 2 l) g)) (λ cs. rw (e, f, g, t .is))
+
+    opened : equal (take 2 l) (ascii "M,") ≡ false → equal (take 2 l) (ascii "T,") ≡ false → (equal (take 2 l) (ascii "O,") && equal (take 1 (drop 8 l)) (ascii ",")) ≡ true → (b : Bool) → fits (ascii "nnnnnn") (take 6 (drop 2 l)) ≡ b → ReadAs l
+    opened e f o false g = none-read (λ cs. rw (e, f, o, g))
+    opened e f o true g =
+        let d : List ℕ = take 6 (drop 2 l) in
+        let x : drop 8 l ≡ 44 ∷ drop 9 l = sym (take-append-drop 1 (drop 8 l)) ∙ rw (equal-true _ _ (and-right (equal (take 2 l) (ascii "O,")) _ o), drop-drop 1 8 l) in
+        let y : drop 2 l ≡ d ++ 44 ∷ drop 9 l = sym (take-append-drop 6 (drop 2 l)) ∙ ap (λ (z : List ℕ). d ++ z) (drop-drop 6 2 l ∙ x) in
+        texts-read _ (drop 9 l) (opening d g) (whole (ascii "O,") (and-left _ _ o) ∙ ap (λ (z : List ℕ). 79 ∷ 44 ∷ z) (y ∙ sym (append-assoc d (44 ∷ []) (drop 9 l))))
+
+    go : (a : Bool) → equal (take 2 l) (ascii "M,") ≡ a → (b : Bool) → equal (take 2 l) (ascii "T,") ≡ b → (c : Bool) → (equal (take 2 l) (ascii "O,") && equal (take 1 (drop 8 l)) (ascii ",")) ≡ c → ReadAs l
+    go true e b f c o = texts-read _ (drop 2 l) message (whole (ascii "M,") e)
+    go false e true f c o = turned e f (fits (ascii "nnnnnn") (drop 2 l)) refl
+    go false e false f true o = opened e f o (fits (ascii "nnnnnn") (take 6 (drop 2 l))) refl
+    go false e false f false o = none-read (λ cs. rw (e, f, o))
+
+-- ---- idle zeros
+
+-- of the lengths that u begins with none begins with two zeros
+pub record NoIdleIn (u : List ℕ) : Type 0 where
+  pub none : (ps v : List ℕ) → Earlier ps → u ≡ ps ++ (48 ∷ 48 ∷ v) → ⊥
+
+-- of those on the line that w begins with none does
+pub record NoIdle (w : List ℕ) : Type 0 where
+  pub none : (q u : List ℕ) → Starts q → w ≡ q ++ u → NoIdleIn u
