@@ -4,15 +4,16 @@ use mathlib.Core.Bool.{Bool, true, false, cond}
 use mathlib.Core.List.{List, _∷_}
 use Prim.Native.Nat.{ℕ, zero, suc, _+_, _-_, _/_}
 use lib.ListN.{length, take, drop}
-use Rattle.rules.specs.Text.{equal, isSome, ordered}
+use Rattle.rules.specs.Text.{equal, isSome, readEach, ordered}
+use Rattle.rules.specs.Dates.{date}
 use Rattle.rules.specs.Lines.{parted}
-use Rattle.rules.specs.BankingDays.{dates, earlierDate, holidays, holidaysOf, isListed, isBankingDay}
+use Rattle.rules.specs.BankingDays.{earlierDate, holidays, holidaysOf, isListed, isBankingDay}
 use Rattle.rules.specs.Calls.{holdsOf}
 use Rattle.laws.specs.Parts.{from}
 
 -- the dates of a text are there, each later than the last, and the first later than one
 unfoldable pub rising : ℕ → List ℕ → Bool
-rising last cs = holdsOf (λ ds. ordered earlierDate (last ∷ ds)) (dates (parted cs))
+rising last cs = holdsOf (λ ds. ordered earlierDate (last ∷ ds)) (readEach date (parted cs))
 
 -- six bytes are one of the first k dates of a text
 unfoldable pub among : List ℕ → ℕ → List ℕ → Bool

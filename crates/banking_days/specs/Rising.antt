@@ -9,18 +9,18 @@ use lib.Dec.{leb, eqb}
 use lib.ListN.{length, getD, take, drop, length-append, take-append-drop}
 use lib.Seq.{take-all, take-at, getD-at, drop-cons, getD-drop}
 use borrow.Author.Tests.{le-leb, lt-leb, leb-true, leb-false}
-use Rattle.rules.specs.Text.{then, given, isSome, ordered}
+use Rattle.rules.specs.Text.{then, given, isSome, readEach, ordered}
 use Rattle.rules.specs.Dates.{date}
 use Rattle.rules.specs.Lines.{parted}
-use Rattle.rules.specs.BankingDays.{dates, earlierDate, holidays}
+use Rattle.rules.specs.BankingDays.{earlierDate, holidays}
 use Rattle.rules.specs.Calls.{holdsOf}
 use Rattle.laws.specs.Parts.{cut, from, from-all, from-take, from-drop, from-length}
 use Rattle.laws.specs.Tests.{never, none-some, not-holds, cond-left}
 use Rattle.calendar.specs.Days.{datedOf, stands-some}
 use Rattle.rule_laws.specs.Options.{some-is}
-use Rattle.rule_laws.specs.Commas.{parted-last, parted-next}
+use Rattle.rule_laws.specs.Commas.{parted-last, parted-next, PartsRead, PartsRead.one, PartsRead.next, parts-read}
 use Rattle.rule_laws.specs.Dates.{date-exists, date-length}
-use Rattle.rule_laws.specs.Holidays.{date-part, DatesOf, DatesOf.one, DatesOf.next, dates-of, dates-length, longestList, list-length}
+use Rattle.rule_laws.specs.Holidays.{date-part, dates-length, longestList, list-length}
 use Rattle.banking_days.specs.Weekdays.{Existing, existing}
 use Rattle.banking_days.specs.Lists.{rising}
 
@@ -29,16 +29,16 @@ use Rattle.banking_days.specs.Lists.{rising}
 -- its dates
 record Risen (last : ℕ) (cs : List ℕ) : Type 0 where
   all : List ℕ
-  are : DatesOf cs all
+  are : PartsRead date cs all
   order : ordered earlierDate (last ∷ all) ≡ true
 
 risen : (last : ℕ) (cs : List ℕ) → rising last cs ≡ true → Risen last cs
 unfolding rising holdsOf
-risen last cs h = go (dates (parted cs)) refl h
+risen last cs h = go (readEach date (parted cs)) refl h
   where
-    go : (o : Option (List ℕ)) → dates (parted cs) ≡ o → holdsOf (λ ds. ordered earlierDate (last ∷ ds)) o ≡ true → Risen last cs
+    go : (o : Option (List ℕ)) → readEach date (parted cs) ≡ o → holdsOf (λ ds. ordered earlierDate (last ∷ ds)) o ≡ true → Risen last cs
     go none e k = never k
-    go (some ds) e k = record { all = ds; are = dates-of ds cs e; order = k }
+    go (some ds) e k = record { all = ds; are = parts-read date cs ds e; order = k }
 
 -- a first date that is later than the last
 later : (last d : ℕ) (ds : List ℕ) → ordered earlierDate (last ∷ d ∷ ds) ≡ true → last < d
@@ -64,15 +64,15 @@ record FirstDate (last : ℕ) (cs : List ℕ) : Type 0 where
 first-date : (last : ℕ) (cs : List ℕ) → Risen last cs → FirstDate last cs
 first-date last cs r = go (r .are) (r .order)
   where
-    go : {cs ds : List ℕ} → DatesOf cs ds → ordered earlierDate (last ∷ ds) ≡ true → FirstDate last cs
-    go (one cs {d} h) k = let l : length cs ≡ 6 = date-length cs d h in record {
+    go : {cs ds : List ℕ} → PartsRead date cs ds → ordered earlierDate (last ∷ ds) ≡ true → FirstDate last cs
+    go (one cs {v = d} h) k = let l : length cs ≡ 6 = date-length cs d h in record {
       day = d;
       long = omega arith;
       read = rw (take-all 6 cs (omega arith)) h;
       after = later last d [] k;
       behind = λ m. absurd (omega arith);
     }
-    go (next p rest {d} {ds} h q) k = let l : length p ≡ 6 = date-length p d h in record {
+    go (next p rest {v = d} {vs = ds} h q) k = let l : length p ≡ 6 = date-length p d h in record {
       day = d;
       long = rw length-append (omega arith);
       read = rw (take-at p (44 ∷ rest) 6 l) h;
@@ -82,12 +82,12 @@ first-date last cs r = go (r .are) (r .order)
 
 -- one date, and one with more behind it
 one-rises : (last d : ℕ) (cs : List ℕ) → date cs ≡ some d → last < d → rising last cs ≡ true
-unfolding rising dates holdsOf ordered
+unfolding rising readEach holdsOf ordered
 one-rises last d cs h l = rw (parted-last cs (date-part cs d h), h, is-later last d l)
 
 next-rises : (last d : ℕ) (p rest : List ℕ) → date p ≡ some d → last < d → rising last (p ++ 44 ∷ rest) ≡ rising d rest
-unfolding rising dates holdsOf ordered
-next-rises last d p rest h l = rw (parted-next p rest (date-part p d h), h) (go (dates (parted rest)))
+unfolding rising readEach holdsOf ordered
+next-rises last d p rest h l = rw (parted-next p rest (date-part p d h), h) (go (readEach date (parted rest)))
   where
     go : (o : Option (List ℕ)) → holdsOf (λ ds. ordered earlierDate (last ∷ ds)) (Option·map (λ more. d ∷ more) o) ≡ holdsOf (λ ds. ordered earlierDate (d ∷ ds)) o
     go none = refl
@@ -166,17 +166,17 @@ pub passes-long : (list : List ℕ) (k : ℕ) → k < length list → leb longes
 passes-long list k h l = not-holds _ (λ p. omega (arith, list-length list p, leb-true longestList k l))
 
 -- every date is later than 0
-rises-all : {cs ds : List ℕ} → DatesOf cs ds → ordered earlierDate (0 ∷ ds) ≡ ordered earlierDate ds
+rises-all : {cs ds : List ℕ} → PartsRead date cs ds → ordered earlierDate (0 ∷ ds) ≡ ordered earlierDate ds
 unfolding ordered
-rises-all (one cs {d} h) = rw (is-later 0 d (let e : Existing d = existing d (date-exists cs d h) in omega arith))
-rises-all (next p rest {d} {ds} h r) = rw (is-later 0 d (let e : Existing d = existing d (date-exists p d h) in omega arith))
+rises-all (one cs {v = d} h) = rw (is-later 0 d (let e : Existing d = existing d (date-exists cs d h) in omega arith))
+rises-all (next p rest {v = d} {vs = ds} h r) = rw (is-later 0 d (let e : Existing d = existing d (date-exists p d h) in omega arith))
 
 pub passes-rising : (list : List ℕ) (r : Bool) → (length list ≡ 0 → ⊥) → length list ≤ longestList → r ≡ rising 0 list → r ≡ isSome (holidays list)
 unfolding holidays rising holdsOf
 passes-rising [] r n l e = absurd (n refl)
-passes-rising (c ∷ cs) r n l e = e ∙ go (dates (parted (c ∷ cs))) (λ ds. dates-of ds (c ∷ cs))
+passes-rising (c ∷ cs) r n l e = e ∙ go (readEach date (parted (c ∷ cs))) (λ ds. parts-read date (c ∷ cs) ds)
   where
-    go : (o : Option (List ℕ)) → ((ds : List ℕ) → o ≡ some ds → DatesOf (c ∷ cs) ds)
+    go : (o : Option (List ℕ)) → ((ds : List ℕ) → o ≡ some ds → PartsRead date (c ∷ cs) ds)
         → holdsOf (λ ds. ordered earlierDate (0 ∷ ds)) o ≡ isSome (then o (λ ds. given (leb (length ds) 60 && ordered earlierDate ds) ds))
     go none f = refl
     go (some ds) f =

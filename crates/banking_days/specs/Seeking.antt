@@ -9,16 +9,17 @@ use lib.Dec.{leb, eqb}
 use lib.ListN.{length, take, drop, drop-of-length-le}
 use lib.Seq.{take-all, take-at, drop-at, drop-drop}
 use borrow.Author.Tests.{leb-true}
-use Rattle.rules.specs.Text.{equal, fixed, over, then, given, isSome, any, ordered}
-use Rattle.rules.specs.Dates.{exists}
+use Rattle.rules.specs.Text.{equal, fixed, over, then, given, isSome, readEach, any, ordered}
+use Rattle.rules.specs.Dates.{exists, date}
 use Rattle.rules.specs.Lines.{parted}
-use Rattle.rules.specs.BankingDays.{dates, earlierDate, holidays, holidaysOf, isWeekend, isListed, isBankingDay}
+use Rattle.rules.specs.BankingDays.{earlierDate, holidays, holidaysOf, isWeekend, isListed, isBankingDay}
 use Rattle.laws.specs.Parts.{cut, from, cut-all, from-all, from-take, from-drop}
 use Rattle.laws.specs.Tests.{never}
 use Rattle.laws.specs.Digits.{places-length}
 use Rattle.laws.specs.Writing.{Wrote, wrote-over}
 use Rattle.rule_laws.specs.Dates.{date-small, date-length}
-use Rattle.rule_laws.specs.Holidays.{DatesOf, DatesOf.one, DatesOf.next, dates-of, dates-length, longestList, list-length}
+use Rattle.rule_laws.specs.Commas.{PartsRead, PartsRead.one, PartsRead.next, parts-read}
+use Rattle.rule_laws.specs.Holidays.{dates-length, longestList, list-length}
 use Rattle.banking_days.specs.SixDigits.{day-equal}
 use Rattle.banking_days.specs.Lists.{among, standsFrom, Listed, Banking}
 
@@ -47,10 +48,10 @@ module _ (six list : List ℕ) (at : ℕ) (x : Bool) (inv : standsFrom six list 
 -- ---- a day of a list that passes
 
 -- the dates of a text against a day's digits
-among-dates : {cs ds : List ℕ} (day : ℕ) → day ≤ 999999 → DatesOf cs ds → among (fixed 6 day) (length ds) cs ≡ any (eqb day) ds
+among-dates : {cs ds : List ℕ} (day : ℕ) → day ≤ 999999 → PartsRead date cs ds → among (fixed 6 day) (length ds) cs ≡ any (eqb day) ds
 unfolding among any
-among-dates day l (one cs {d} h) = rw (take-all 6 cs (omega (arith, date-length cs d h)), day-equal cs d day h l)
-among-dates day l (next p rest {d} {ds} h r) =
+among-dates day l (one cs {v = d} h) = rw (take-all 6 cs (omega (arith, date-length cs d h)), day-equal cs d day h l)
+among-dates day l (next p rest {v = d} {vs = ds} h r) =
     let k : length p ≡ 6 = date-length p d h in
     let e : drop 7 (p ++ 44 ∷ rest) ≡ rest = sym (drop-drop 1 6 (p ++ 44 ∷ rest)) ∙ ap (drop 1) (drop-at p (44 ∷ rest) 6 k) in
     rw (take-at p (44 ∷ rest) 6 k, day-equal p d day h l, e, among-dates day l r)
@@ -61,9 +62,9 @@ listed-long list day k h l = record { same = λ p. absurd (omega (arith, list-le
 stands-listed : (list : List ℕ) (day : ℕ) → day ≤ 999999 → isSome (holidays list) ≡ true → standsFrom (fixed 6 day) list 0 ≡ isListed (holidaysOf list) day
 unfolding standsFrom among holidays holidaysOf isListed any
 stands-listed [] day l h = refl
-stands-listed (c ∷ cs) day l h = go (dates (parted (c ∷ cs))) (λ ds. dates-of ds (c ∷ cs)) h
+stands-listed (c ∷ cs) day l h = go (readEach date (parted (c ∷ cs))) (λ ds. parts-read date (c ∷ cs) ds) h
   where
-    go : (o : Option (List ℕ)) → ((ds : List ℕ) → o ≡ some ds → DatesOf (c ∷ cs) ds) → isSome (then o (λ ds. given (leb (length ds) 60 && ordered earlierDate ds) ds)) ≡ true
+    go : (o : Option (List ℕ)) → ((ds : List ℕ) → o ≡ some ds → PartsRead date (c ∷ cs) ds) → isSome (then o (λ ds. given (leb (length ds) 60 && ordered earlierDate ds) ds)) ≡ true
         → among (fixed 6 day) ((length (c ∷ cs) + 1 - 0) / 7) (from (c ∷ cs) 0) ≡ any (eqb day) (Option·getD (then o (λ ds. given (leb (length ds) 60 && ordered earlierDate ds) ds)) [])
     go none f k = never k
     go (some ds) f k =

@@ -5,11 +5,11 @@ use mathlib.Core.List.{List, [], _∷_, map}
 use Prim.Native.Nat.{ℕ}
 use Prim.Native.String.{String}
 use lib.ListN.{drop}
-use Rattle.rules.specs.Text.{ascii, isDigit, isLetter, isAlnum, fits, fitsSign, equal, any, ordered, digitsFrom, addedUp}
+use Rattle.rules.specs.Text.{ascii, isDigit, isLetter, isAlnum, fits, fitsSign, equal, readEach, any, ordered, digitsFrom, addedUp}
 use Rattle.rules.specs.Dates.{leapRow, monthLength, exists, date}
 use Rattle.rules.specs.Lines.{parted}
 use Rattle.rules.specs.Accounts.{isBic, ibanShape}
-use Rattle.rules.specs.BankingDays.{daysToYear, daysTo, weekday, isWeekend, dates, earlierDate, holidays, holidaysOf, isListed, isBankingDay}
+use Rattle.rules.specs.BankingDays.{daysToYear, daysTo, weekday, isWeekend, earlierDate, holidays, holidaysOf, isListed, isBankingDay}
 use Rattle.rules.specs.Ledger.{isParty, isNumber, isPosting, postedParts, posted}
 use Rattle.rules.specs.Listing.{output}
 use Rattle.rules.specs.OnBankingDays.{postingDates, datedBehind, fieldDates, lineDates}
@@ -63,7 +63,7 @@ cases =
 
 -- each day of the table is what the table says
 pub marked : map (λ (c : Case). case (c .list) (c .day) (daysTo (c .day)) (weekday (c .day)) (isBankingDay (holidaysOf (ascii (c .list))) (c .day))) cases ≡ cases
-unfolding isDigit digitsFrom addedUp any ordered leapRow monthLength exists date parted daysToYear daysTo weekday isWeekend dates earlierDate holidays holidaysOf isListed isBankingDay
+unfolding isDigit digitsFrom addedUp readEach any ordered leapRow monthLength exists date parted daysToYear daysTo weekday isWeekend earlierDate holidays holidaysOf isListed isBankingDay
 marked = refl
 
 -- what the listing's turn to 060303 writes is dated with that day, five times

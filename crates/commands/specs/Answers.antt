@@ -32,11 +32,11 @@ pub record Commanding (s : List ℕ) (x : Option Commanded) (r : Command) : Type
 
 -- the three command lines, from at to e
 unfoldable pub messageLine : List ℕ → ℕ → ℕ → Option Commanded
-messageLine s at e = textsBehind sending 0 (cut s (at + 2) e) (from s (e + 2))
+messageLine s at e = textsBehind sending 1 (cut s (at + 2) e) (from s (e + 2))
 
 unfoldable pub turnLine : List ℕ → ℕ → ℕ → Option Commanded
 turnLine s at e = then (sixDigits (cut s (at + 2) e)) (λ d. some record { command = turns d; others = from s (e + 2) })
 
 unfoldable pub openLine : List ℕ → ℕ → ℕ → Option Commanded
 openLine s at e =
-    cond (equal (take 1 (cut s (at + 8) e)) (ascii ",")) (then (sixDigits (take 6 (cut s (at + 2) e))) (λ d. textsBehind (opening d) 1 (cut s (at + 9) e) (from s (e + 2)))) none
+    cond (equal (take 1 (cut s (at + 8) e)) (ascii ",")) (then (sixDigits (take 6 (cut s (at + 2) e))) (λ d. textsBehind (opening d) 2 (cut s (at + 9) e) (from s (e + 2)))) none

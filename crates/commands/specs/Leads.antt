@@ -70,22 +70,22 @@ leads-plain l = ap (every inLine) (l .is) ∙ every-join inLine (l .start) (l .b
 
 -- ---- a line by its start
 
--- a line that begins so has lengths behind, 1 + more of them: with five digits each it has at most 20 bytes, and their texts have at most 16,384
+-- a line that begins so has lengths behind: with five digits each it has at most 20 bytes, and their texts have at most 16,384
 pub record Bears (q : List ℕ) : Type 0 where
   pub made : List (List ℕ) → Rattle.rules.specs.Replay.Command
-  pub more : ℕ
-  pub line : (u cs : List ℕ) → commandOf (q ++ u) cs ≡ textsBehind made more u cs
-  pub line-room : length q + (5 + 6 * more) ≤ 20
-  pub text-room : 8192 + 8192 * more ≤ 16384
+  pub many : ℕ
+  pub line : (u cs : List ℕ) → commandOf (q ++ u) cs ≡ textsBehind made many u cs
+  pub line-room : length q + 6 * many ≤ 21
+  pub text-room : 8192 * many ≤ 16384
 
 pub starts-bears : {q : List ℕ} → Starts q → Bears q
 unfolding commandOf equal sixDigits
-starts-bears message = record { made = sending; more = 0; line = λ u cs. refl; line-room = omega arith; text-room = omega arith }
+starts-bears message = record { made = sending; many = 1; line = λ u cs. refl; line-room = omega arith; text-room = omega arith }
 starts-bears (opening d h) =
     let t : There (digits d) = digits-there 6 0 d h in
     let k : length d ≡ 6 = sym (fits-length (ascii "nnnnnn") d h) in record {
       made = Rattle.rules.specs.Replay.opening (t .value);
-      more = 1;
+      many = 2;
       line = λ u cs.
           let a : (d ++ 44 ∷ []) ++ u ≡ d ++ 44 ∷ u = append-assoc d (44 ∷ []) u in
           let x : drop 7 ((d ++ 44 ∷ []) ++ u) ≡ u = drop-at (d ++ 44 ∷ []) u 7 (day-comma d h) in

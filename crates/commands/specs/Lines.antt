@@ -9,7 +9,7 @@ use lib.Dec.{leb, eqb}
 use lib.ListN.{length, getD, take}
 use borrow.Author.Tests.{le-leb, lt-leb, eq-eqb, ne-eqb}
 use Rattle.rules.specs.Text.{ascii, equal, then, addedUp}
-use Rattle.rules.specs.Replay.{lengthOf, lengthsOf, sixDigits, textsIn, withTexts, textsBehind, sending, opening, commandOf, command}
+use Rattle.rules.specs.Replay.{lengthOf, partedLengths, sixDigits, textsIn, withTexts, textsBehind, sending, opening, commandOf, command}
 use Rattle.laws.specs.Parts.{cut, from, cut-step, cut-length, cut-take, cut-drop, from-take, from-drop, from-length}
 use Rattle.laws.specs.Tests.{never}
 use Rattle.lines.specs.Answers.{LineAt, line-told, no-line-told}
@@ -23,7 +23,7 @@ use Rattle.commands.specs.declared.number.Lengths.the-variants.{Two, Bad
 use Rattle.commands.specs.declared.command.Command.{Command}
 use Rattle.commands.specs.declared.command.Command.the-variants.{Opens, Sends, Turns, End}
 use Rattle.commands.specs.Answers.{commandedOf, Placed, Commanding, messageLine, turnLine, openLine}
-use Rattle.commands.specs.Numbers.{lengthsIn, six-small, two-small}
+use Rattle.commands.specs.Numbers.{lengthsIn, lengths-last, six-small, two-small}
 
 -- ---- a letter and a comma
 
@@ -79,13 +79,13 @@ module _ (s : List ℕ) (at : ℕ) (f : List (List ℕ) → Rattle.rules.specs.
 
 module _ (s : List ℕ) (at e : ℕ) (q : Num) (u : numOf q ≡ lengthOf (cut s (at + 2) e)) where
   pub message-none : q ≡ Bad → Commanding s (messageLine s at e) End
-  unfolding messageLine textsBehind lengthsOf commandedOf Placed
-  message-none w = record { same = let z : lengthOf (cut s (at + 2) e) ≡ none = sym u ∙ ap numOf w in rw z refl; places = tt }
+  unfolding messageLine textsBehind commandedOf Placed
+  message-none w = record { same = let z : lengthOf (cut s (at + 2) e) ≡ none = sym u ∙ ap numOf w in rw (lengths-last (cut s (at + 2) e), z) refl; places = tt }
 
   module _ (n : ℕ) (w : q ≡ Value n) where
     message-is : messageLine s at e ≡ withTexts sending (n ∷ []) (from s (e + 2))
-    unfolding messageLine textsBehind lengthsOf
-    message-is = let z : lengthOf (cut s (at + 2) e) ≡ some n = sym u ∙ ap numOf w in rw z refl
+    unfolding messageLine textsBehind
+    message-is = let z : lengthOf (cut s (at + 2) e) ≡ some n = sym u ∙ ap numOf w in rw (lengths-last (cut s (at + 2) e), z) refl
 
     pub message-short : length s - (e + 2) < n → Commanding s (messageLine s at e) End
     unfolding commandedOf Placed addedUp
@@ -130,7 +130,7 @@ module _ (s : List ℕ) (at e : ℕ) where
     open-other n = record { same = rw (comma, ne-eqb _ _ n) refl; places = tt }
 
     module _ (m : getD s (at + 8) 0 ≡ 44) (q : Num) (u : numOf q ≡ sixDigits (cut s (at + 2) (at + 8))) where
-      line-is : openLine s at e ≡ then (sixDigits (cut s (at + 2) (at + 8))) (λ d. textsBehind (opening d) 1 (cut s (at + 9) e) (from s (e + 2)))
+      line-is : openLine s at e ≡ then (sixDigits (cut s (at + 2) (at + 8))) (λ d. textsBehind (opening d) 2 (cut s (at + 9) e) (from s (e + 2)))
       unfolding openLine equal
       line-is =
           let z : take 6 (cut s (at + 2) e) ≡ cut s (at + 2) (at + 8) = cut-take s (at + 2) e 6 (omega arith) ∙ ap (cut s (at + 2)) (omega arith) in
@@ -140,7 +140,7 @@ module _ (s : List ℕ) (at e : ℕ) where
       unfolding commandedOf Placed
       open-no-day w = record { same = let z : sixDigits (cut s (at + 2) (at + 8)) ≡ none = sym u ∙ ap numOf w in rw (line-is, z) refl; places = tt }
 
-      module _ (d : ℕ) (w : q ≡ Value d) (p : Lengths) (v : lengthsIn p ≡ lengthsOf 1 (cut s (at + 9) e)) where
+      module _ (d : ℕ) (w : q ≡ Value d) (p : Lengths) (v : lengthsIn p ≡ partedLengths 2 (cut s (at + 9) e)) where
         day-is : openLine s at e ≡ then (lengthsIn p) (λ ns. withTexts (opening d) ns (from s (e + 2)))
         unfolding textsBehind
         day-is = let z : sixDigits (cut s (at + 2) (at + 8)) ≡ some d = sym u ∙ ap numOf w in rw (line-is, z, v)

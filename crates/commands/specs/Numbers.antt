@@ -1,14 +1,14 @@
 -- Laws of days and lengths in command lines: a length is parted from the next by the first comma.
 use mathlib.Core.Path.{_≡_, refl, sym, ap, _∙_}
-use mathlib.Core.Bool.{Bool, true, false, _&&_, not, cond}
+use mathlib.Core.Bool.{Bool, true, false, _&&_, cond}
 use mathlib.Core.List.{List, [], _∷_, _++_}
 use mathlib.Core.Option.{Option, none, some, Option·map}
 use Prim.Native.Nat.{ℕ, zero, suc, _+_, _-_, _*_, _≤_, _<_}
 use native.Mathlib.Omega.{arith}
 use native.Mathlib.Nat.{lt-of-le-of-lt}
-use lib.Dec.{leb, eqb, lit<}
+use lib.Dec.{leb, eqb, eqb·suc-suc, lit<}
 use lib.ListN.{length, getD, replicate}
-use borrow.Author.Tests.{le-leb, lt-leb, leb-true, eqb-true, not-true, not-false}
+use borrow.Author.Tests.{le-leb, lt-leb, leb-true, eqb-true, ne-eqb, not-false}
 use borrow.Author.Needs.{fits-under}
 use mir.Val.{Fits}
 use mir.Syntax.{w32, w64}
@@ -17,8 +17,9 @@ use Rattle.text.specs.declared.numbers.Num.{Num}
 use Rattle.text.specs.declared.numbers.Num.the-variants.{Value, Bad}
 use Rattle.commands.specs.declared.number.Lengths.{Lengths}
 use Rattle.commands.specs.declared.number.Lengths.the-variants.{Two, Bad as NoLengths}
-use Rattle.rules.specs.Text.{ascii, isDigit, digitsFrom, digits, every, fits, fitsSign, then, given, addedUp}
-use Rattle.rules.specs.Replay.{lengthOf, beforeComma, behindComma, lengthsOf, sixDigits}
+use Rattle.rules.specs.Text.{ascii, isDigit, digitsFrom, digits, every, fits, fitsSign, then, given, readEach, addedUp}
+use Rattle.rules.specs.Lines.{parted}
+use Rattle.rules.specs.Replay.{lengthOf, partedLengths, sixDigits}
 use Rattle.laws.specs.Parts.{cut, cut-step, cut-done, cut-length, cut-join}
 use Rattle.laws.specs.Places.{Passed}
 use Rattle.laws.specs.Reading.{Placed, power, fits-length}
@@ -26,8 +27,8 @@ use Rattle.laws.specs.Numbers.{digits-small}
 use Rattle.laws.specs.Values.{digits-each}
 use Rattle.laws.specs.Patterns.{digit-sign, fits-last}
 use Rattle.laws.specs.Tests.{holds-told, none-some, never, cond-left, cond-right}
-use Rattle.rule_laws.specs.Commas.{inPart}
-use Rattle.rule_laws.specs.Options.{There, Came, came, Mapped, mapped}
+use Rattle.rule_laws.specs.Commas.{inPart, parted-last, parted-next, AtCommas, AtCommas.alone, AtCommas.comma, at-commas, PartsRead, PartsRead.one, PartsRead.next, parts-read}
+use Rattle.rule_laws.specs.Options.{There, Came, came, Gave, gave}
 
 -- the number v and the digits behind it, where it is at most 8192
 unfoldable pub limited : ℕ → List ℕ → Option ℕ
@@ -80,40 +81,73 @@ abbrev pub lengthsIn : Lengths → Option (List ℕ)
 lengthsIn (Two m n) = some (m ∷ n ∷ [])
 lengthsIn NoLengths = none
 
--- a part without commas, before a comma and as the last
-module _ (x : List ℕ) where
-  pub before-comma : (a : List ℕ) → every inPart a ≡ true → beforeComma (a ++ 44 ∷ x) ≡ a
-  unfolding every beforeComma inPart
-  before-comma [] h = refl
-  before-comma (c ∷ a) h = rw (not-true (eqb c 44) (cond-left _ _ h), before-comma a (cond-right (not (eqb c 44)) _ h))
+-- what has a comma is no length
+comma-digits : (v : ℕ) (ds x : List ℕ) → digitsFrom v (ds ++ 44 ∷ x) ≡ none
+unfolding digitsFrom isDigit
+comma-digits v [] x = refl
+comma-digits v (c ∷ ds) x = rw (comma-digits (v * 10 + (c - 48)) ds x) (go (isDigit c))
+  where
+    go : (t : Bool) → cond {A = Option ℕ} t none none ≡ none
+    go true = refl
+    go false = refl
 
-  pub behind-comma : (a : List ℕ) → every inPart a ≡ true → behindComma (a ++ 44 ∷ x) ≡ x
-  unfolding every behindComma inPart
-  behind-comma [] h = refl
-  behind-comma (c ∷ a) h = rw (not-true (eqb c 44) (cond-left _ _ h)) (behind-comma a (cond-right (not (eqb c 44)) _ h))
+comma-none : (ds x : List ℕ) → lengthOf (ds ++ 44 ∷ x) ≡ none
+unfolding lengthOf
+comma-none [] x = rw (comma-digits 0 [] x)
+comma-none (c ∷ ds) x = rw (comma-digits 0 (c ∷ ds) x)
 
-behind-none : (a : List ℕ) → every inPart a ≡ true → behindComma a ≡ []
-unfolding every behindComma inPart
-behind-none [] h = refl
-behind-none (c ∷ a) h = rw (not-true (eqb c 44) (cond-left _ _ h)) (behind-none a (cond-right (not (eqb c 44)) _ h))
+-- a text has one part at least
+lengths-none : (l : List ℕ) → partedLengths 0 l ≡ none
+unfolding partedLengths
+lengths-none l = go (readEach lengthOf (parted l)) (parts-read lengthOf l)
+  where
+    some-part : {l vs : List ℕ} → PartsRead lengthOf l vs → given (eqb (length vs) 0) vs ≡ none
+    some-part (one p h) = refl
+    some-part (next p rest {vs = vs} h r) = rw (ne-eqb (suc (length vs)) 0 (λ z. omega arith))
 
--- no bytes are no lengths
-pub lengths-empty : (k : ℕ) → lengthsOf k [] ≡ none
-unfolding lengthsOf lengthOf beforeComma
-lengths-empty zero = refl
-lengths-empty (suc k) = refl
+    go : (o : Option (List ℕ)) → ((vs : List ℕ) → o ≡ some vs → PartsRead lengthOf l vs) → then o (λ ns. given (eqb (length ns) 0) ns) ≡ none
+    go none f = refl
+    go (some vs) f = some-part (f vs refl)
+
+-- the first of some
+lengths-next : (n : ℕ) (a rest : List ℕ) → every inPart a ≡ true → partedLengths (suc n) (a ++ 44 ∷ rest) ≡ then (lengthOf a) (λ v. Option·map (λ more. v ∷ more) (partedLengths n rest))
+unfolding partedLengths readEach
+lengths-next n a rest h = rw (parted-next a rest h) (go (lengthOf a) (readEach lengthOf (parted rest)))
+  where
+    counted : (v : ℕ) (ns : List ℕ) (t : Bool) → given t (v ∷ ns) ≡ Option·map (λ more. v ∷ more) (given t ns)
+    counted v ns true = refl
+    counted v ns false = refl
+
+    go : (x : Option ℕ) (o : Option (List ℕ)) → then (then x (λ v. Option·map (λ more. v ∷ more) o)) (λ ns. given (eqb (length ns) (suc n)) ns) ≡ then x (λ v. Option·map (λ more. v ∷ more) (then o (λ ns. given (eqb (length ns) n) ns)))
+    go none o = refl
+    go (some v) none = refl
+    go (some v) (some ns) = rw (eqb·suc-suc (length ns) n) (counted v ns (eqb (length ns) n))
+
+-- one alone
+lengths-alone : (n : ℕ) (p : List ℕ) → every inPart p ≡ true → partedLengths n p ≡ then (lengthOf p) (λ v. given (eqb 1 n) (v ∷ []))
+unfolding partedLengths readEach
+lengths-alone n p h = rw (parted-last p h) (go (lengthOf p))
+  where
+    go : (x : Option ℕ) → then (then x (λ v. some (v ∷ []))) (λ ns. given (eqb (length ns) n) ns) ≡ then x (λ v. given (eqb 1 n) (v ∷ []))
+    go none = refl
+    go (some v) = refl
+
+nothing-made : (x : Option ℕ) → then {B = List ℕ} x (λ v. none) ≡ none
+nothing-made none = refl
+nothing-made (some v) = refl
+
+-- and the last
+pub lengths-last : (l : List ℕ) → partedLengths 1 l ≡ then (lengthOf l) (λ n. some (n ∷ []))
+lengths-last l = go (at-commas l)
+  where
+    go : {l : List ℕ} → AtCommas l → partedLengths 1 l ≡ then (lengthOf l) (λ n. some (n ∷ []))
+    go (alone p h) = lengths-alone 1 p h
+    go (comma p rest h _) = rw (lengths-next 0 p rest h, lengths-none rest, comma-none p rest) (nothing-made (lengthOf p))
 
 -- k of the bytes from a up to e stand before a comma
 module _ (s : List ℕ) (a e k : ℕ) (w : Passed inPart s a (e - a) k) (h : a ≤ e) (l : e ≤ length s) where
-  pub lengths-one : k ≡ e - a → none ≡ lengthsOf 1 (cut s a e)
-  unfolding lengthsOf
-  lengths-one u =
-      let m : a + k ≡ e = omega arith in
-      rw (behind-none (cut s a e) (rw m at (w .front)), lengths-empty 0) (go (lengthOf (beforeComma (cut s a e))))
-    where
-      go : (o : Option ℕ) → none ≡ then o (λ n. Option·map (λ more. n ∷ more) none)
-      go none = refl
-      go (some n) = refl
+  pub lengths-one : k ≡ e - a → none ≡ partedLengths 2 (cut s a e)
+  lengths-one u = let m : a + k ≡ e = omega arith in sym (lengths-alone 2 (cut s a e) (rw m at (w .front)) ∙ nothing-made (lengthOf (cut s a e)))
 
   module _ (u : (k ≡ e - a → ⊥)) where
     part-here : cut s a e ≡ cut s a (a + k) ++ 44 ∷ cut s (a + k + 1) e
@@ -123,25 +157,22 @@ module _ (s : List ℕ) (a e k : ℕ) (w : Passed inPart s a (e - a) k) (h : a �
         let c : getD s (a + k) 0 ≡ 44 = eqb-true _ _ (not-false _ (w .next m)) in
         sym (cut-join s a k e (omega arith)) ∙ ap (λ (x : List ℕ). cut s a (a + k) ++ x) (cut-step s (a + k) e (omega arith) l ∙ rw c)
 
-    lengths-are : (j : ℕ) → lengthsOf (suc j) (cut s a e) ≡ then (lengthOf (cut s a (a + k))) (λ n. Option·map (λ more. n ∷ more) (lengthsOf j (cut s (a + k + 1) e)))
-    unfolding lengthsOf
-    lengths-are j = rw (part-here, before-comma (cut s (a + k + 1) e) (cut s a (a + k)) (w .front), behind-comma (cut s (a + k + 1) e) (cut s a (a + k)) (w .front))
+    lengths-are : partedLengths 2 (cut s a e) ≡ then (lengthOf (cut s a (a + k))) (λ n. Option·map (λ more. n ∷ more) (then (lengthOf (cut s (a + k + 1) e)) (λ m. some (m ∷ []))))
+    lengths-are = rw (part-here, lengths-next 1 (cut s a (a + k)) (cut s (a + k + 1) e) (w .front), lengths-last (cut s (a + k + 1) e))
 
     module _ (q : Num) (v : numOf q ≡ lengthOf (cut s a (a + k))) where
-      pub lengths-bad : q ≡ Bad → none ≡ lengthsOf 1 (cut s a e)
-      lengths-bad b = let z : lengthOf (cut s a (a + k)) ≡ none = sym v ∙ ap numOf b in rw (lengths-are 0, z)
+      pub lengths-bad : q ≡ Bad → none ≡ partedLengths 2 (cut s a e)
+      lengths-bad b = let z : lengthOf (cut s a (a + k)) ≡ none = sym v ∙ ap numOf b in rw (lengths-are, z)
 
       module _ (n : ℕ) (b : q ≡ Value n) (p : Num) (y : numOf p ≡ lengthOf (cut s (a + k + 1) e)) where
         length-first : lengthOf (cut s a (a + k)) ≡ some n
         length-first = sym v ∙ ap numOf b
 
-        pub lengths-second-bad : p ≡ Bad → none ≡ lengthsOf 1 (cut s a e)
-        unfolding lengthsOf
-        lengths-second-bad d = let z : lengthOf (cut s (a + k + 1) e) ≡ none = sym y ∙ ap numOf d in rw (lengths-are 0, length-first, z)
+        pub lengths-second-bad : p ≡ Bad → none ≡ partedLengths 2 (cut s a e)
+        lengths-second-bad d = let z : lengthOf (cut s (a + k + 1) e) ≡ none = sym y ∙ ap numOf d in rw (lengths-are, length-first, z)
 
-        pub lengths-two : (m : ℕ) → p ≡ Value m → some (n ∷ m ∷ []) ≡ lengthsOf 1 (cut s a e)
-        unfolding lengthsOf
-        lengths-two m d = let z : lengthOf (cut s (a + k + 1) e) ≡ some m = sym y ∙ ap numOf d in rw (lengths-are 0, length-first, z)
+        pub lengths-two : (m : ℕ) → p ≡ Value m → some (n ∷ m ∷ []) ≡ partedLengths 2 (cut s a e)
+        lengths-two m d = let z : lengthOf (cut s (a + k + 1) e) ≡ some m = sym y ∙ ap numOf d in rw (lengths-are, length-first, z)
 
 -- ---- digits
 
@@ -197,15 +228,25 @@ length-limit [] n e = none-some e
 length-limit (c ∷ cs) n e = given-within (digits (c ∷ cs)) 8192 n e
 
 -- and each of some lengths
-pub lengths-limit : (k : ℕ) (l ns : List ℕ) → lengthsOf k l ≡ some ns → addedUp ns ≤ 8192 + 8192 * k
-unfolding lengthsOf addedUp
-lengths-limit zero l ns e =
-    let m : Mapped (λ n. n ∷ []) (lengthOf l) ns = mapped _ _ e in
-    rw (← m .gives) (omega (arith, length-limit l (m .value) (m .is)))
-lengths-limit (suc k) l ns e =
-    let c : Came (lengthOf (beforeComma l)) (λ n. Option·map (λ more. n ∷ more) (lengthsOf k (behindComma l))) ns = came _ _ e in
-    let m : Mapped (λ more. c .value ∷ more) (lengthsOf k (behindComma l)) ns = mapped _ _ (c .gives) in
-    rw (← m .gives) (omega (arith, length-limit (beforeComma l) (c .value) (c .is), lengths-limit k (behindComma l) (m .value) (m .is)))
+parts-limit : {l ns : List ℕ} → PartsRead lengthOf l ns → addedUp ns ≤ 8192 * length ns
+unfolding addedUp
+parts-limit (one p {v = n} h) = omega (arith, length-limit p n h)
+parts-limit (next p rest {v = n} h r) = omega (arith, length-limit p n h, parts-limit r)
+
+-- n of them
+pub record LengthsRead (n : ℕ) (l ns : List ℕ) : Type 0 where
+  pub many : length ns ≡ n
+  pub parts : PartsRead lengthOf l ns
+  pub limit : addedUp ns ≤ 8192 * n
+
+pub lengths-read : (n : ℕ) (l ns : List ℕ) → partedLengths n l ≡ some ns → LengthsRead n l ns
+unfolding partedLengths
+lengths-read n l ns e =
+    let c : Came (readEach lengthOf (parted l)) _ ns = came _ _ e in
+    let g : Gave (eqb (length (c .value)) n) (c .value) ns = gave _ _ (c .gives) in
+    let m : length ns ≡ n = ap length (sym (g .is)) ∙ eqb-true (length (c .value)) n (g .test) in
+    let p : PartsRead lengthOf l ns = parts-read lengthOf l ns (c .is ∙ ap some (g .is)) in
+    record { many = m; parts = p; limit = rw m at (parts-limit p) }
 
 -- as they were read, they fit their machine numbers
 module _ (s : List ℕ) (a b : ℕ) (q : Num) (n : ℕ) (w : q ≡ Value n) where
@@ -217,9 +258,9 @@ module _ (s : List ℕ) (a b : ℕ) (q : Num) (n : ℕ) (w : q ≡ Value n) wher
       go true z e = rw (← fits-length (ascii "nnnnnn") (cut s a b) z) at (digits-small (cut s a b) n e)
       go false z e = none-some e
 
-pub two-small : (l : List ℕ) (q : Lengths) (m n : ℕ) → q ≡ Two m n → lengthsIn q ≡ lengthsOf 1 l → Fits w64 (m + n)
+pub two-small : (l : List ℕ) (q : Lengths) (m n : ℕ) → q ≡ Two m n → lengthsIn q ≡ partedLengths 2 l → Fits w64 (m + n)
 unfolding addedUp
-two-small l q m n w u = fits-under w64 (m + n) 65536 (omega (arith, lengths-limit 1 l (m ∷ n ∷ []) (sym u ∙ ap lengthsIn w))) tt
+two-small l q m n w u = fits-under w64 (m + n) 65536 (omega (arith, lengths-read 2 l (m ∷ n ∷ []) (sym u ∙ ap lengthsIn w) .limit)) tt
 
 -- a room of the output, as the program is told it: one to seven digits, at most 1,048,576
 unfoldable pub roomOf : List ℕ → Option ℕ

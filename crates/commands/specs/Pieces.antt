@@ -1,22 +1,23 @@
 -- The input read in pieces: a command in the bytes read so far is the input's whatever follows, and behind the longest command's bytes without one none follows.
-use mathlib.Core.Path.{_≡_, refl, sym, ap, subst, _∙_}
+use mathlib.Core.Path.{_≡_, refl, sym, ap, _∙_}
 use mathlib.Core.Bool.{Bool, true, false, cond}
 use mathlib.Core.List.{List, [], _∷_, _++_, append-assoc, append-nil}
-use mathlib.Core.Option.{Option, none, some, Option·map}
-use Prim.Native.Nat.{ℕ, zero, suc, _+_, _-_, _*_, _≤_, _<_}
+use mathlib.Core.Option.{Option, none, some}
+use Prim.Native.Nat.{ℕ, suc, _+_, _-_, _*_, _≤_, _<_}
 use native.Mathlib.Omega.{arith}
-use lib.Dec.{leb, eqb}
+use lib.Dec.{leb}
 use lib.ListN.{length, take, drop, length-append, length-drop, take-append-drop}
 use lib.Seq.{take-at, take-append-le, drop-append-le}
-use borrow.Author.Tests.{le-leb, leb-true, leb-false, eqb-true}
+use borrow.Author.Tests.{le-leb, leb-true, leb-false}
 use Rattle.rules.specs.Text.{ascii, isDigit, digitsFrom, every, then, given, addedUp}
 use Rattle.rules.specs.Lines.{TakenLine, takeLine}
-use Rattle.rules.specs.Replay.{turns, Commanded, lengthOf, beforeComma, behindComma, lengthsOf, textsIn, withTexts, textsBehind, commandOf, command}
+use Rattle.rules.specs.Replay.{turns, Commanded, lengthOf, partedLengths, textsIn, withTexts, textsBehind, commandOf, command}
 use Rattle.laws.specs.Values.{digits-each}
 use Rattle.laws.specs.Tests.{never, and-left, none-some}
 use Rattle.rule_laws.specs.Lines.{FirstLine, first-line, first-length, line-taken}
-use Rattle.rule_laws.specs.Options.{Came, came, Mapped, mapped, Gave, gave}
-use Rattle.commands.specs.Numbers.{limited, limited-large, lengths-empty, lengths-limit}
+use Rattle.rule_laws.specs.Options.{Came, came, Gave, gave}
+use Rattle.rule_laws.specs.Commas.{PartsRead, PartsRead.one, PartsRead.next}
+use Rattle.commands.specs.Numbers.{limited, limited-large, LengthsRead, lengths-read}
 use Rattle.commands.specs.Leads.{Starts, Earlier, Earlier.nothing, Earlier.lengths, NoIdle, Bears, starts-bears, ReadAs, ReadAs.none-read, ReadAs.turn-read, ReadAs.texts-read, read-as}
 
 -- ---- a line
@@ -83,13 +84,13 @@ module _ (cs r : List ℕ) where
           record { found = λ c g. (let u : record { command = f (textsIn ns cs); others = drop (addedUp ns) cs } ≡ c = cc in rw (← u)); missed = λ _ g. none-some (sym g) }
       go false e = record { found = λ c g. none-some g; missed = λ k g. (let l : addedUp ns ≤ length cs = omega arith in never (sym e ∙ le-leb _ _ l)) }
 
-  follows-texts : (f : List (List ℕ) → Rattle.rules.specs.Replay.Command) (k : ℕ) (u : List ℕ) → 8192 + 8192 * k ≤ 16384 → Follows cs r (textsBehind f k u cs) (textsBehind f k u (cs ++ r))
+  follows-texts : (f : List (List ℕ) → Rattle.rules.specs.Replay.Command) (k : ℕ) (u : List ℕ) → 8192 * k ≤ 16384 → Follows cs r (textsBehind f k u cs) (textsBehind f k u (cs ++ r))
   unfolding textsBehind
-  follows-texts f k u h = go (lengthsOf k u) refl
+  follows-texts f k u h = go (partedLengths k u) refl
     where
-      go : (o : Option (List ℕ)) → lengthsOf k u ≡ o → Follows cs r (then o (λ ns. withTexts f ns cs)) (then o (λ ns. withTexts f ns (cs ++ r)))
+      go : (o : Option (List ℕ)) → partedLengths k u ≡ o → Follows cs r (then o (λ ns. withTexts f ns cs)) (then o (λ ns. withTexts f ns (cs ++ r)))
       go none e = follows-none
-      go (some ns) e = follows-with f ns (omega (arith, lengths-limit k u ns e))
+      go (some ns) e = follows-with f ns (omega (arith, lengths-read k u ns e .limit))
 
   follows-line : (l : List ℕ) → Follows cs r (commandOf l cs) (commandOf l (cs ++ r))
   follows-line l = go (read-as l)
@@ -97,7 +98,7 @@ module _ (cs r : List ℕ) where
       go : ReadAs l → Follows cs r (commandOf l cs) (commandOf l (cs ++ r))
       go (none-read e) = rw (e cs, e (cs ++ r)) follows-none
       go (turn-read d _ e) = rw (e cs, e (cs ++ r)) (follows-some (turns d))
-      go (texts-read q u s e) = let b : Bears q = starts-bears s in rw (e, b .line u cs, b .line u (cs ++ r)) (follows-texts (b .made) (b .more) u (b .text-room))
+      go (texts-read q u s e) = let b : Bears q = starts-bears s in rw (e, b .line u cs, b .line u (cs ++ r)) (follows-texts (b .made) (b .many) u (b .text-room))
 
 -- a command that stands in the bytes read is the input's
 pub command-more : (w r : List ℕ) (c : Commanded) → command w ≡ some c → command (w ++ r) ≡ some (followed c r)
@@ -110,7 +111,7 @@ command-more w r c e =
 texts-behind : (f : List (List ℕ) → Rattle.rules.specs.Replay.Command) (k : ℕ) (u cs : List ℕ) (c : Commanded) → textsBehind f k u cs ≡ some c → length (c .others) ≤ length cs
 unfolding textsBehind withTexts
 texts-behind f k u cs c e =
-    let t : Came (lengthsOf k u) (λ ns. withTexts f ns cs) c = came _ _ e in
+    let t : Came (partedLengths k u) (λ ns. withTexts f ns cs) c = came _ _ e in
     let n : ℕ = addedUp (t .value) in
     let g : Gave (leb n (length cs)) record { command = f (textsIn (t .value) cs); others = drop n cs } c = gave _ _ (t .gives) in
     rw (← g .is, length-drop) (omega arith)
@@ -121,7 +122,7 @@ line-behind l cs c h = go (read-as l)
     go : ReadAs l → length (c .others) ≤ length cs
     go (none-read e) = none-some (sym (e cs) ∙ h)
     go (turn-read d _ e) = let u : some record { command = turns d; others = cs } ≡ some c = sym (e cs) ∙ h in let v : cs ≡ c .others = cc in rw (← v) (omega arith)
-    go (texts-read q u s e) = let b : Bears q = starts-bears s in texts-behind (b .made) (b .more) u cs c (sym (b .line u cs) ∙ ap (λ (x : List ℕ). commandOf x cs) (sym e) ∙ h)
+    go (texts-read q u s e) = let b : Bears q = starts-bears s in texts-behind (b .made) (b .many) u cs c (sym (b .line u cs) ∙ ap (λ (x : List ℕ). commandOf x cs) (sym e) ∙ h)
 
 pub command-behind : (w : List ℕ) (c : Commanded) → command w ≡ some c → length (c .others) < length w
 unfolding command
@@ -174,24 +175,13 @@ unfolding lengthOf every
 length-digits [] n e = refl
 length-digits (c ∷ cs) n e = digits-each (c ∷ cs) 0 (came (digitsFrom 0 (c ∷ cs)) (λ m. given (leb m 8192) m) e .value) (came (digitsFrom 0 (c ∷ cs)) (λ m. given (leb m 8192) m) e .is)
 
--- lengths of five digits at most, or one that begins with two zeros
+-- k lengths of five digits at most, or one that begins with two zeros
 data Sized (k : ℕ) (u : List ℕ) : Type 0 where
-  short : length u ≤ 5 + 6 * k → Sized k u
-  idle : (ps v : List ℕ) → Earlier ps → u ≡ ps ++ (48 ∷ 48 ∷ v) → length ps ≤ 6 * k → Sized k u
-
--- what stands behind a comma tells where it stands
-comma-apart : (u : List ℕ) → 0 < length (behindComma u) → u ≡ beforeComma u ++ 44 ∷ behindComma u
-unfolding beforeComma behindComma
-comma-apart [] h = absurd (omega arith)
-comma-apart (c ∷ u) h = go (eqb c 44) refl (comma-apart u) h
-  where
-    go : (t : Bool) → eqb c 44 ≡ t → (0 < length (behindComma u) → u ≡ beforeComma u ++ 44 ∷ behindComma u) → 0 < length (cond t u (behindComma u))
-        → c ∷ u ≡ cond t [] (c ∷ beforeComma u) ++ 44 ∷ cond t u (behindComma u)
-    go true e f k = rw (eqb-true c 44 e)
-    go false e f k = ap (λ (x : List ℕ). c ∷ x) (f k)
+  short : length u < 6 * k → Sized k u
+  idle : (ps v : List ℕ) → Earlier ps → u ≡ ps ++ (48 ∷ 48 ∷ v) → length ps + 6 ≤ 6 * k → Sized k u
 
 module _ (k n : ℕ) (d x : List ℕ) (e : lengthOf d ≡ some n) where
-  sized-first : 6 ≤ length d → Sized k (d ++ x)
+  sized-first : 6 ≤ length d → Sized (suc k) (d ++ x)
   sized-first h =
       let z : d ≡ 48 ∷ 48 ∷ drop 2 d = sym (take-append-drop 2 d) ∙ rw (long-zeros d n e h) in
       idle [] (drop 2 d ++ x) nothing (ap (λ (y : List ℕ). y ++ x) z) (omega arith)
@@ -200,26 +190,20 @@ module _ (k n : ℕ) (d x : List ℕ) (e : lengthOf d ≡ some n) where
   sized-next h (short s) = short (rw length-append (omega arith))
   sized-next h (idle ps v l f s) = idle (d ++ 44 ∷ ps) v (lengths d (length-digits d n e) l) (rw (f, append-assoc)) (rw length-append (omega arith))
 
-filled : (k : ℕ) (x ns : List ℕ) → lengthsOf k x ≡ some ns → 0 < length x
-filled k [] ns h = none-some (sym (lengths-empty k) ∙ h)
-filled k (y ∷ x) ns h = omega arith
+parts-sized : {u ns : List ℕ} → PartsRead lengthOf u ns → Sized (length ns) u
+parts-sized (one d {v = n} e) = go (leb 6 (length d)) refl
+  where
+    go : (t : Bool) → leb 6 (length d) ≡ t → Sized 1 d
+    go true h = rw append-nil at (sized-first 0 n d [] e (leb-true _ _ h))
+    go false h = short (leb-false 6 (length d) h)
+parts-sized (next d x {v = n} {vs = ns} e r) = go (parts-sized r) (leb 6 (length d)) refl
+  where
+    go : Sized (length ns) x → (t : Bool) → leb 6 (length d) ≡ t → Sized (suc (length ns)) (d ++ 44 ∷ x)
+    go s true h = sized-first (length ns) n d (44 ∷ x) e (leb-true _ _ h)
+    go s false h = sized-next (length ns) n d x e (leb-false 6 (length d) h) s
 
-sized : (k : ℕ) (u ns : List ℕ) → lengthsOf k u ≡ some ns → Sized k u
-unfolding lengthsOf
-sized zero u ns e = let m : Mapped (λ n. n ∷ []) (lengthOf u) ns = mapped _ _ e in go (m .value) (m .is) (leb 6 (length u)) refl
-  where
-    go : (n : ℕ) → lengthOf u ≡ some n → (t : Bool) → leb 6 (length u) ≡ t → Sized zero u
-    go n f true h = rw append-nil at (sized-first zero n u [] f (leb-true _ _ h))
-    go n f false h = short (omega (arith, leb-false 6 (length u) h))
-sized (suc k) u ns e =
-    let c : Came (lengthOf (beforeComma u)) (λ n. Option·map (λ more. n ∷ more) (lengthsOf k (behindComma u))) ns = came _ _ e in
-    let m : Mapped (λ more. c .value ∷ more) (lengthsOf k (behindComma u)) ns = mapped _ _ (c .gives) in
-    let a : u ≡ beforeComma u ++ 44 ∷ behindComma u = comma-apart u (filled k (behindComma u) (m .value) (m .is)) in
-    subst (Sized (suc k)) (sym a) (go (beforeComma u) (c .value) (c .is) (sized k (behindComma u) (m .value) (m .is)) (leb 6 (length (beforeComma u))) refl)
-  where
-    go : (d : List ℕ) (n : ℕ) → lengthOf d ≡ some n → Sized k (behindComma u) → (t : Bool) → leb 6 (length d) ≡ t → Sized (suc k) (d ++ 44 ∷ behindComma u)
-    go d n f s true h = sized-first (suc k) n d (44 ∷ behindComma u) f (leb-true _ _ h)
-    go d n f s false h = sized-next k n d (behindComma u) f (leb-false 6 (length d) h) s
+sized : (k : ℕ) (u ns : List ℕ) → partedLengths k u ≡ some ns → Sized k u
+sized k u ns e = let r : LengthsRead k u ns = lengths-read k u ns e in rw (r .many) at (parts-sized (r .parts))
 
 -- the longest command: twenty bytes and CR LF, and two texts of 8,192 bytes
 abbrev pub longest : ℕ
@@ -237,7 +221,7 @@ module _ (w r : List ℕ) (h : longest ≤ length w) (d : NoIdle w) where
   unfolding textsBehind
   line-none l cs k e = go (read-as l)
     where
-      long : (q u : List ℕ) (b : Bears q) → Starts q → l ≡ q ++ u → Sized (b .more) u → ⊥
+      long : (q u : List ℕ) (b : Bears q) → Starts q → l ≡ q ++ u → Sized (b .many) u → ⊥
       long q u b s f (short m) = omega (arith, ap length f ∙ length-append q u, b .line-room)
       long q u b s f (idle ps v p g m) =
           let x : List ℕ = q ++ (ps ++ (48 ∷ 48 ∷ [])) in
@@ -246,16 +230,16 @@ module _ (w r : List ℕ) (h : longest ≤ length w) (d : NoIdle w) where
           let z : w ≡ q ++ (ps ++ (48 ∷ 48 ∷ drop (length x) w)) = front x (v ++ (13 ∷ 10 ∷ cs)) (omega (arith, b .line-room)) y ∙ simp append-assoc in
           d .none q (ps ++ (48 ∷ 48 ∷ drop (length x) w)) s z .none ps (drop (length x) w) p refl
 
-      texts : (q u : List ℕ) (b : Bears q) → Starts q → l ≡ q ++ u → (o : Option (List ℕ)) → lengthsOf (b .more) u ≡ o → then o (λ ns. withTexts (b .made) ns cs) ≡ none
+      texts : (q u : List ℕ) (b : Bears q) → Starts q → l ≡ q ++ u → (o : Option (List ℕ)) → partedLengths (b .many) u ≡ o → then o (λ ns. withTexts (b .made) ns cs) ≡ none
       texts q u b s f none g = refl
-      texts q u b s f (some ns) g = absurd (long q u b s f (sized (b .more) u ns g))
+      texts q u b s f (some ns) g = absurd (long q u b s f (sized (b .many) u ns g))
 
       go : ReadAs l → commandOf l cs ≡ none
       go (none-read f) = f cs
       go (turn-read _ n f) = absurd (omega arith)
       go (texts-read q u s f) =
           let b : Bears q = starts-bears s in
-          ap (λ (x : List ℕ). commandOf x cs) f ∙ b .line u cs ∙ texts q u b s f (lengthsOf (b .more) u) refl
+          ap (λ (x : List ℕ). commandOf x cs) f ∙ b .line u cs ∙ texts q u b s f (partedLengths (b .many) u) refl
 
   pub none-follows : command w ≡ none → command (w ++ r) ≡ none
   unfolding command

@@ -1,58 +1,41 @@
 -- Room made in a window of the input: what is not yet taken goes to the front, and of a length's leading zeros all but one may go.
 use mathlib.Core.Path.{_≡_, refl, sym, ap, _∙_}
-use mathlib.Core.Bool.{Bool, true, false, cond}
+use mathlib.Core.Bool.{Bool, true, false}
 use mathlib.Core.List.{List, [], _∷_, _++_, append-assoc}
 use mathlib.Core.Option.{Option, none, some}
-use Prim.Native.Nat.{ℕ, zero, suc, _+_, _-_, _*_, _≤_, _<_, min}
+use Prim.Native.Nat.{ℕ, zero, suc, _+_, _-_, _≤_, _<_, min}
 use native.Mathlib.Nat.{add-zero}
 use native.Mathlib.Omega.{arith}
 use lib.Dec.{eqb}
 use lib.ListN.{length, getD, take, drop, replicate, length-append, take-append-drop}
 use lib.Seq.{length-take-le, take-at}
 use borrow.Author.Tests.{eqb-true, eq-eqb}
-use Rattle.rules.specs.Text.{isDigit, digitsFrom, every, then}
-use Rattle.rules.specs.Lines.{TakenLine, lead, takeLine}
-use Rattle.rules.specs.Replay.{lengthOf, beforeComma, behindComma, lengthsOf, textsBehind, commandOf, command}
+use Rattle.rules.specs.Text.{isDigit, digitsFrom, every, then, readEach}
+use Rattle.rules.specs.Lines.{TakenLine, lead, takeLine, begun, parted}
+use Rattle.rules.specs.Replay.{lengthOf, partedLengths, textsBehind, commandOf, command}
 use Rattle.laws.specs.Parts.{cut, from, from-take, cut-step, cut-done, cut-snoc, cut-drop, cut-take, cut-join, cut-length, cut-size, cut-get}
 use Rattle.laws.specs.Places.{Passed}
 use Rattle.laws.specs.Standing.{moved}
 use Rattle.laws.specs.Laid.{laid, laid-fits, laid-length}
 use Rattle.laws.specs.Tests.{cond-left, cond-right, never}
-use Rattle.rule_laws.specs.Commas.{part-digits}
+use Rattle.rule_laws.specs.Commas.{part-digits, parted-next}
 use Rattle.rule_laws.specs.Lines.{inLine, line-goes}
-use Rattle.commands.specs.Numbers.{before-comma, behind-comma}
 use Rattle.commands.specs.Seeking.{IdleHere, IdleAt}
 use Rattle.commands.specs.Leads.{Earlier, Earlier.nothing, Earlier.lengths, Leads, leads-plain, Bears, starts-bears, NoIdle}
 
 -- ---- a zero that goes
 
--- digits before a comma are no length
-comma-digits : (v : ℕ) (ds x : List ℕ) → digitsFrom v (ds ++ 44 ∷ x) ≡ none
-unfolding digitsFrom isDigit
-comma-digits v [] x = refl
-comma-digits v (c ∷ ds) x = rw (comma-digits (v * 10 + (c - 48)) ds x) (go (isDigit c))
-  where
-    go : (t : Bool) → cond {A = Option ℕ} t none none ≡ none
-    go true = refl
-    go false = refl
-
-comma-none : (ds x : List ℕ) → lengthOf (ds ++ 44 ∷ x) ≡ none
-unfolding lengthOf
-comma-none [] x = rw (comma-digits 0 [] x)
-comma-none (c ∷ ds) x = rw (comma-digits 0 (c ∷ ds) x)
-
 -- of a length's two first zeros one may go
-lengths-zero : {ps : List ℕ} → Earlier ps → (k : ℕ) (u : List ℕ) → lengthsOf k (ps ++ (48 ∷ 48 ∷ u)) ≡ lengthsOf k (ps ++ (48 ∷ u))
-unfolding lengthsOf lengthOf digitsFrom isDigit beforeComma behindComma
-lengths-zero nothing zero u = refl
-lengths-zero nothing (suc k) u = refl
-lengths-zero (lengths ds {ps} h e) zero u =
-    rw (append-assoc ds (44 ∷ ps) (48 ∷ 48 ∷ u), append-assoc ds (44 ∷ ps) (48 ∷ u), comma-none ds (ps ++ (48 ∷ 48 ∷ u)), comma-none ds (ps ++ (48 ∷ u)))
-lengths-zero (lengths ds {ps} h e) (suc k) u =
+lengths-zero : {ps : List ℕ} → Earlier ps → (u : List ℕ) → readEach lengthOf (parted (ps ++ (48 ∷ 48 ∷ u))) ≡ readEach lengthOf (parted (ps ++ (48 ∷ u)))
+unfolding readEach parted lengthOf digitsFrom isDigit
+lengths-zero nothing u = go (parted u)
+  where
+    go : (ps : List (List ℕ)) → readEach lengthOf (begun 48 (begun 48 ps)) ≡ readEach lengthOf (begun 48 ps)
+    go [] = refl
+    go (p ∷ ps) = refl
+lengths-zero (lengths ds {ps} h e) u =
     let p = part-digits ds h in
-    let x : List ℕ = ps ++ (48 ∷ 48 ∷ u) in
-    let y : List ℕ = ps ++ (48 ∷ u) in
-    rw (append-assoc ds (44 ∷ ps) (48 ∷ 48 ∷ u), append-assoc ds (44 ∷ ps) (48 ∷ u), before-comma x ds p, before-comma y ds p, behind-comma x ds p, behind-comma y ds p, lengths-zero e k u)
+    rw (append-assoc ds (44 ∷ ps) (48 ∷ 48 ∷ u), append-assoc ds (44 ∷ ps) (48 ∷ u), parted-next ds (ps ++ (48 ∷ 48 ∷ u)) p, parted-next ds (ps ++ (48 ∷ u)) p, lengths-zero e u)
 
 -- bytes of a line before others
 line-lead : (q x : List ℕ) → every inLine q ≡ true → takeLine (q ++ x) ≡ lead q (takeLine x)
@@ -70,10 +53,10 @@ line-lead (c ∷ q) x h = line-goes c (q ++ x) (cond-left _ _ h) ∙ rw (line-le
 
 module _ {q : List ℕ} (l : Leads q) where
   line-zero : (u cs : List ℕ) → commandOf (q ++ (48 ∷ 48 ∷ u)) cs ≡ commandOf (q ++ (48 ∷ u)) cs
-  unfolding textsBehind
+  unfolding textsBehind partedLengths
   line-zero u cs =
       let b : Bears (l .start) = starts-bears (l .starts) in
-      rw (l .is, append-assoc (l .start) (l .between) (48 ∷ 48 ∷ u), append-assoc (l .start) (l .between) (48 ∷ u), b .line (l .between ++ (48 ∷ 48 ∷ u)) cs, b .line (l .between ++ (48 ∷ u)) cs, lengths-zero (l .earlier) (b .more) u)
+      rw (l .is, append-assoc (l .start) (l .between) (48 ∷ 48 ∷ u), append-assoc (l .start) (l .between) (48 ∷ u), b .line (l .between ++ (48 ∷ 48 ∷ u)) cs, b .line (l .between ++ (48 ∷ u)) cs, lengths-zero (l .earlier) u)
 
   command-zero : (v : List ℕ) → command (q ++ (48 ∷ 48 ∷ v)) ≡ command (q ++ (48 ∷ v))
   unfolding every inLine command lead

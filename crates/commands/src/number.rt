@@ -3,7 +3,7 @@ use text::Num;
 ghost use mathlib.Core.Path.{_≡_};
 ghost use Prim.Native.Nat.{_+_, _≤_};
 ghost use lib.ListN.{length};
-ghost use Rattle.rules.specs.Replay.{lengthOf, lengthsOf, sixDigits};
+ghost use Rattle.rules.specs.Replay.{lengthOf, partedLengths, sixDigits};
 ghost use Rattle.laws.specs.Parts.{cut};
 ghost use Rattle.laws.specs.Places.{Passed};
 ghost use Rattle.rule_laws.specs.Commas.{inPart};
@@ -66,7 +66,7 @@ fn part_at(s: &[u8], a: usize, n: usize) -> usize
 // Two lengths with a comma between them.
 pub fn two_lengths(s: &[u8], a: usize, e: usize) -> Lengths
     requires { ⌜ (a ≤ e) × (e ≤ length (now s)) ⌝ }
-    ensures { λ r. ⌜ lengthsIn r ≡ lengthsOf 1 (cut (now (s .entry)) a e) ⌝ }
+    ensures { λ r. ⌜ lengthsIn r ≡ partedLengths 2 (cut (now (s .entry)) a e) ⌝ }
 {
     let k = part_at(s, a, e - a);
     if k == e - a {

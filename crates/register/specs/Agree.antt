@@ -9,14 +9,14 @@ use native.Mathlib.Omega.{arith}
 use lib.Dec.{leb, eqb}
 use lib.ListN.{length, take, drop, length-map}
 use borrow.Author.Tests.{eqb-true, leb-true, eq-eqb, le-leb}
-use Rattle.rules.specs.Text.{ascii, isDigit, isLetter, isAlnum, fitsSign, every, fits, then, given}
+use Rattle.rules.specs.Text.{ascii, isDigit, isLetter, isAlnum, fitsSign, every, fits, then, given, readEach}
 use Rattle.rules.specs.Accounts.{ibanShape, passes}
 use Rattle.rules.specs.Lines.{Line, before, lines}
-use Rattle.rules.specs.Register.{Account, Register, accountLine, accountLines, sound, ofLines, register}
+use Rattle.rules.specs.Register.{Account, Register, accountLine, sound, ofLines, register}
 use Rattle.laws.specs.Parts.{cut, cut-take, cut-drop, from, from-done, from-all}
 use Rattle.laws.specs.Tests.{and-left, and-right, cond-left, cond-right, never}
-use Rattle.rule_laws.specs.Options.{Gave, gave}
-use Rattle.rule_laws.specs.Registers.{AccountsRead, AccountsRead.none, AccountsRead.more, RegisterRead, register-read, register-size}
+use Rattle.rule_laws.specs.Options.{Gave, gave, Reads, Reads.empty, Reads.more}
+use Rattle.rule_laws.specs.Registers.{RegisterRead, register-read, register-size}
 use Rattle.register.specs.Blocks.{inside, line-at, LinesStand, stands}
 use Rattle.register.specs.Places.{counted, upto, place, formAt, endsAt, boundAt, ibanIn, accountIn, lineIn, count, ibansIn, accountsIn, linesIn, firstIn, againIn, lengthIn, passesIn, registerIn}
 use Rattle.register.specs.AccountLine.{accountForm, accountOn, lineOn, account-line}
@@ -51,8 +51,8 @@ module _ (s : List ℕ) (i : ℕ) where
 
 -- a line taken off before others, and its account
 module _ (l : Line) (a : Account) (e : accountLine l ≡ some a) where
-  accounts-before : (o : Option (List Line)) → then (Option·map (before l) o) accountLines ≡ Option·map (λ (more : List Account). a ∷ more) (then o accountLines)
-  unfolding accountLines
+  accounts-before : (o : Option (List Line)) → then (Option·map (before l) o) (readEach accountLine) ≡ Option·map (λ (more : List Account). a ∷ more) (then o (readEach accountLine))
+  unfolding readEach
   accounts-before none = refl
   accounts-before (some ls) = rw e
 
@@ -84,8 +84,8 @@ module _ (s : List ℕ) (i : ℕ) (g : lineIn s i ≡ true) where
       rw e (line-at accountForm s (place i) account-inside (and-left _ _ f) (and-right (fits accountForm (cut s (place i) (place i + 36))) _ f))
 
 -- the lines from line i on, k of them, each with its tests passed
-lines-in : (s : List ℕ) (i k : ℕ) → length s ≡ place (i + k) → every (lineIn s) (counted i k) ≡ true → then (lines (from s (place i))) accountLines ≡ some (map (accountIn s) (counted i k))
-unfolding counted every accountLines lines
+lines-in : (s : List ℕ) (i k : ℕ) → length s ≡ place (i + k) → every (lineIn s) (counted i k) ≡ true → then (lines (from s (place i))) (readEach accountLine) ≡ some (map (accountIn s) (counted i k))
+unfolding counted every readEach lines
 lines-in s i zero h g = rw (from-done s (place i) (omega arith))
 lines-in s i (suc k) h g =
     let d : lineIn s i ≡ true = cond-left _ _ g in
@@ -117,9 +117,9 @@ record AccountsListed (s : List ℕ) (i : ℕ) (xs : List Account) : Type 0 wher
   good : every (lineIn s) (counted i (length xs)) ≡ true
   same : xs ≡ map (accountIn s) (counted i (length xs))
 
-listed : (s : List ℕ) (i : ℕ) {ls : List Line} {xs : List Account} → lines (from s (place i)) ≡ some ls → AccountsRead ls xs → AccountsListed s i xs
+listed : (s : List ℕ) (i : ℕ) {ls : List Line} {xs : List Account} → lines (from s (place i)) ≡ some ls → Reads accountLine ls xs → AccountsListed s i xs
 unfolding counted every
-listed s i h none = record { good = refl; same = refl }
+listed s i h empty = record { good = refl; same = refl }
 listed s i h (more e r) =
     let m = listed s (i + 1) (next-lines s i h e) r in record {
       good = rw (line-holds s i h e) (m .good);
@@ -163,7 +163,7 @@ sound-in s = rw (accounts-length, ibans-of)
 unfoldable soundOf : Line → List Account → Option Register
 soundOf l xs = let r : Register = record { temporary = l; accounts = xs } in given (sound r) r
 
-first-before : (l : Line) (o : Option (List Line)) → then (Option·map (before l) o) ofLines ≡ then (then o accountLines) (soundOf l)
+first-before : (l : Line) (o : Option (List Line)) → then (Option·map (before l) o) ofLines ≡ then (then o (readEach accountLine)) (soundOf l)
 unfolding ofLines soundOf
 first-before l none = refl
 first-before l (some ls) = refl
@@ -202,7 +202,7 @@ module _ (s : List ℕ) (h : passesIn s (count s) ≡ true) where
   unfolding firstIn
   sound-here = sound-in s ∙ rw (and-left (passes (cut s 0 22)) _ in-first, le-leb (count s) 40 in-count, in-single)
 
-  accounts-here : then (lines (from s 24)) accountLines ≡ some (accountsIn s 0 (count s))
+  accounts-here : then (lines (from s 24)) (readEach accountLine) ≡ some (accountsIn s 0 (count s))
   unfolding linesIn accountsIn
   accounts-here =
       let e : length s ≡ place (0 + count s) = rw zero-add in-size in

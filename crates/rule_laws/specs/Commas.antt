@@ -1,17 +1,19 @@
--- A line parted at its commas, taken apart at the first one; its parts with a comma each are the line with one more.
+-- A line parted at its commas, part by part; its parts with a comma each are the line with one more.
 use mathlib.Core.Path.{_≡_, refl}
 use mathlib.Core.Bool.{Bool, true, false, not, cond}
 use mathlib.Core.List.{List, [], _∷_, _++_}
+use mathlib.Core.Option.{Option, some}
 use Prim.Native.Nat.{ℕ, suc, _+_, _<_}
 use native.Mathlib.Omega.{arith}
 use lib.Dec.{eqb, lit<}
 use lib.ListN.{length, getD, drop}
 use lib.Seq.{drop-cons}
 use borrow.Author.Tests.{eqb-true, not-true}
-use Rattle.rules.specs.Text.{isDigit, isAlnum, every}
+use Rattle.rules.specs.Text.{isDigit, isAlnum, every, readEach}
 use Rattle.rules.specs.Lines.{Line, begun, parted}
 use Rattle.laws.specs.Tests.{cond-left, cond-right}
 use Rattle.laws.specs.Every.{every-wider}
+use Rattle.rule_laws.specs.Options.{Reads, Reads.empty, Reads.more, reads}
 use Rattle.rule_laws.specs.Signs.{alnum-other, digit-alnum}
 
 -- the bytes of some parts, each with a comma
@@ -57,19 +59,40 @@ unfolding every parted inPart
 parted-next [] rest h = refl
 parted-next (c ∷ a) rest h = rw (not-true (eqb c 44) (cond-left _ _ h), parted-next a rest (cond-right (not (eqb c 44)) _ h))
 
--- ---- a text at its first comma
+-- ---- a text at its commas
 
--- there is none, or there is
-pub data AtComma : List ℕ → Type 0 where
-  alone : (p : List ℕ) → every inPart p ≡ true → AtComma p
-  comma : (p rest : List ℕ) → every inPart p ≡ true → AtComma (p ++ 44 ∷ rest)
+-- there is none, or one before others
+pub data AtCommas : List ℕ → Type 0 where
+  alone : (p : List ℕ) → every inPart p ≡ true → AtCommas p
+  comma : (p rest : List ℕ) → every inPart p ≡ true → AtCommas rest → AtCommas (p ++ 44 ∷ rest)
 
-pub at-comma : (cs : List ℕ) → AtComma cs
+pub at-commas : (cs : List ℕ) → AtCommas cs
 unfolding every inPart
-at-comma [] = alone [] refl
-at-comma (c ∷ cs) = go cs (eqb c 44) refl (at-comma cs)
+at-commas [] = alone [] refl
+at-commas (c ∷ cs) = go cs (eqb c 44) refl (at-commas cs)
   where
-    go : (cs : List ℕ) (t : Bool) → eqb c 44 ≡ t → AtComma cs → AtComma (c ∷ cs)
-    go cs true e v = rw (eqb-true c 44 e) (comma [] cs refl)
+    go : (cs : List ℕ) (t : Bool) → eqb c 44 ≡ t → AtCommas cs → AtCommas (c ∷ cs)
+    go cs true e v = rw (eqb-true c 44 e) (comma [] cs refl v)
     go _ false e (alone p h) = alone (c ∷ p) (rw e h)
-    go _ false e (comma p rest h) = comma (c ∷ p) rest (rw e h)
+    go _ false e (comma p rest h v) = comma (c ∷ p) rest (rw e h) v
+
+-- ---- a text each of whose parts is read
+
+-- one, or one before others
+pub data PartsRead (f : List ℕ → Option ℕ) : List ℕ → List ℕ → Type 0 where
+  one : (p : List ℕ) {v : ℕ} → f p ≡ some v → PartsRead f p (v ∷ [])
+  next : (p rest : List ℕ) {v : ℕ} {vs : List ℕ} → f p ≡ some v → PartsRead f rest vs → PartsRead f (p ++ 44 ∷ rest) (v ∷ vs)
+
+module _ (f : List ℕ → Option ℕ) where
+  first-read : (p : List ℕ) {vs : List ℕ} → Reads f (p ∷ []) vs → PartsRead f p vs
+  first-read p (more h empty) = one p h
+
+  next-read : (p rest : List ℕ) {vs : List ℕ} → ((vs : List ℕ) → Reads f (parted rest) vs → PartsRead f rest vs) → Reads f (p ∷ parted rest) vs → PartsRead f (p ++ 44 ∷ rest) vs
+  next-read p rest g (more {ys = vs} h r) = next p rest h (g vs r)
+
+  by-commas : {cs : List ℕ} → AtCommas cs → (vs : List ℕ) → Reads f (parted cs) vs → PartsRead f cs vs
+  by-commas (alone p e) vs r = first-read p (rw (parted-last p e) at r)
+  by-commas (comma p rest e v) vs r = next-read p rest (λ ws q. by-commas v ws q) (rw (parted-next p rest e) at r)
+
+  pub parts-read : (cs vs : List ℕ) → readEach f (parted cs) ≡ some vs → PartsRead f cs vs
+  parts-read cs vs h = by-commas (at-commas cs) vs (reads f (parted cs) vs h)

@@ -1,8 +1,9 @@
 -- What an option that is there tells of how it was made.
 use mathlib.Core.Path.{_≡_, refl}
 use mathlib.Core.Bool.{Bool, true, false}
+use mathlib.Core.List.{List, [], _∷_}
 use mathlib.Core.Option.{Option, none, some, Option·map}
-use Rattle.rules.specs.Text.{then, given, isSome}
+use Rattle.rules.specs.Text.{then, given, isSome, readEach}
 use Rattle.laws.specs.Tests.{never, none-some}
 
 pub isSome-is : {A : Type 0} (x : Option A) (a : A) → x ≡ some a → isSome x ≡ true
@@ -48,3 +49,16 @@ pub record Gave {A : Type 0} (t : Bool) (a b : A) : Type 0 where
 pub gave : {A : Type 0} {b : A} (t : Bool) (a : A) → given t a ≡ some b → Gave t a b
 gave true a h = record { test = refl; is = cc }
 gave false a h = none-some h
+
+-- each of a list is read
+pub data Reads {A B : Type 0} (f : A → Option B) : List A → List B → Type 0 where
+  empty : Reads f [] []
+  more : {x : A} {y : B} {xs : List A} {ys : List B} → f x ≡ some y → Reads f xs ys → Reads f (x ∷ xs) (y ∷ ys)
+
+pub reads : {A B : Type 0} (f : A → Option B) (xs : List A) (ys : List B) → readEach f xs ≡ some ys → Reads f xs ys
+unfolding readEach
+reads f [] ys h = rw (← some-is h) empty
+reads f (x ∷ xs) ys h =
+    let a : Came (f x) _ ys = came _ _ h in
+    let m : Mapped _ (readEach f xs) ys = mapped _ _ (a .gives) in
+    rw (← m .gives) (more (a .is) (reads f xs (m .value) (m .is)))

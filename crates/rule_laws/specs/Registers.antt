@@ -7,33 +7,20 @@ use Prim.Native.Nat.{ℕ, _+_, _*_, _≤_}
 use native.Mathlib.Omega.{arith}
 use lib.ListN.{length, take, drop, length-append}
 use borrow.Author.Tests.{leb-true}
-use Rattle.rules.specs.Text.{ascii, digits, isSome}
+use Rattle.rules.specs.Text.{ascii, digits, isSome, readEach}
 use Rattle.rules.specs.Accounts.{passes, ibanShape}
 use Rattle.rules.specs.Lines.{Line, lines}
-use Rattle.rules.specs.Register.{Account, Register, accountLine, accountLines, sound, ofLines, register}
+use Rattle.rules.specs.Register.{Account, Register, accountLine, sound, ofLines, register}
 use Rattle.laws.specs.Reading.{fits-length}
 use Rattle.laws.specs.Tests.{and-left, and-right, none-some}
-use Rattle.rule_laws.specs.Options.{some-is, There, there, Came, came, Mapped, mapped, Gave, gave}
+use Rattle.rule_laws.specs.Options.{There, there, Came, came, Gave, gave, Reads, Reads.empty, Reads.more, reads}
 use Rattle.rule_laws.specs.Lines.{Lined, Lined.end, Lined.next, lines-lined}
-
--- the accounts of some lines
-pub data AccountsRead : List Line → List Account → Type 0 where
-  none : AccountsRead [] []
-  more : {l : Line} {a : Account} {ls : List Line} {xs : List Account} → accountLine l ≡ some a → AccountsRead ls xs → AccountsRead (l ∷ ls) (a ∷ xs)
-
-accounts-read : (ls : List Line) (xs : List Account) → accountLines ls ≡ some xs → AccountsRead ls xs
-unfolding accountLines
-accounts-read [] xs h = rw (← some-is h) none
-accounts-read (l ∷ ls) xs h =
-    let a : Came (accountLine l) _ xs = came _ _ h in
-    let m : Mapped _ (accountLines ls) xs = mapped _ _ (a .gives) in
-    rw (← m .gives) (more (a .is) (accounts-read ls (m .value) (m .is)))
 
 -- the register of a text
 pub record RegisterRead (s : List ℕ) (r : Register) : Type 0 where
   pub others : List Line
   pub all : lines s ≡ some (r .temporary ∷ others)
-  pub accounts : AccountsRead others (r .accounts)
+  pub accounts : Reads accountLine others (r .accounts)
   pub good : sound r ≡ true
 
 pub register-read : (s : List ℕ) (r : Register) → register s ≡ some r → RegisterRead s r
@@ -43,9 +30,9 @@ register-read s r h = let l : Came (lines s) ofLines r = came _ _ h in go (l .va
     go : (ls : List Line) → lines s ≡ some ls → ofLines ls ≡ some r → RegisterRead s r
     go [] e k = none-some k
     go (l ∷ ls) e k =
-        let a : Came (accountLines ls) _ r = came _ _ k in
+        let a : Came (readEach accountLine ls) _ r = came _ _ k in
         let g : Gave _ _ r = gave _ _ (a .gives) in
-        rw (← g .is) record { others = ls; all = e; accounts = accounts-read ls (a .value) (a .is); good = g .test }
+        rw (← g .is) record { others = ls; all = e; accounts = reads accountLine ls (a .value) (a .is); good = g .test }
 
 -- ---- its length
 
@@ -57,9 +44,9 @@ account-length l a h =
     let g : Gave _ _ a = gave _ _ (y .gives) in
     sym (fits-length (ascii "cccccccccccccccccccccc,nnnnnn,nnnnnn") l (and-left _ _ (and-left _ _ (g .test))))
 
-accounts-length : {s : List ℕ} {ls : List Line} {xs : List Account} → Lined s ls → AccountsRead ls xs → length s ≡ 38 * length xs
-accounts-length end none = refl
-accounts-length (next {cs = cs} {l = l} p t) (more {a = a} e r) = omega (arith, length-append l (13 ∷ 10 ∷ cs), account-length l a e, accounts-length t r)
+accounts-length : {s : List ℕ} {ls : List Line} {xs : List Account} → Lined s ls → Reads accountLine ls xs → length s ≡ 38 * length xs
+accounts-length end empty = refl
+accounts-length (next {cs = cs} {l = l} p t) (more {y = a} e r) = omega (arith, length-append l (13 ∷ 10 ∷ cs), account-length l a e, accounts-length t r)
 
 module _ (s : List ℕ) (r : Register) (h : register s ≡ some r) where
   its : RegisterRead s r
@@ -76,7 +63,7 @@ module _ (s : List ℕ) (r : Register) (h : register s ≡ some r) where
       first : 22 ≡ length (r .temporary)
       first = fits-length (ascii "BGnnaaaannnnnncccccccc") (r .temporary) (and-left _ _ (and-left _ _ (and-left _ _ (its .good))))
 
-      go : {t : List ℕ} {ls : List Line} → Lined t (r .temporary ∷ ls) → AccountsRead ls (r .accounts) → length t ≡ 24 + 38 * length (r .accounts)
+      go : {t : List ℕ} {ls : List Line} → Lined t (r .temporary ∷ ls) → Reads accountLine ls (r .accounts) → length t ≡ 24 + 38 * length (r .accounts)
       go (next {cs = cs} p t) a = omega (arith, length-append (r .temporary) (13 ∷ 10 ∷ cs), first, accounts-length t a)
 
 -- the longest text

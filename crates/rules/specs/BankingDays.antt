@@ -1,11 +1,11 @@
 -- Document 02, CR 2: banking days.
 use mathlib.Core.Bool.{Bool, _&&_, not}
 use mathlib.Core.List.{List, [], _∷_}
-use mathlib.Core.Option.{Option, some, Option·map, Option·getD}
+use mathlib.Core.Option.{Option, some, Option·getD}
 use Prim.Native.Nat.{ℕ, zero, suc, _+_, _-_, _/_, _%_}
 use lib.Dec.{leb, eqb}
 use lib.ListN.{length, take}
-use Rattle.rules.specs.Text.{then, given, any, ordered, addedUp}
+use Rattle.rules.specs.Text.{then, given, readEach, any, ordered, addedUp}
 use Rattle.rules.specs.Dates.{monthsOf, date}
 use Rattle.rules.specs.Lines.{parted}
 
@@ -32,11 +32,6 @@ isWeekend n = leb (weekday n) 1
 
 -- ---- the holiday list
 
--- the dates of some parts
-unfoldable pub dates : List (List ℕ) → Option (List ℕ)
-dates [] = some []
-dates (p ∷ ps) = then (date p) (λ d. Option·map (λ more. d ∷ more) (dates ps))
-
 -- "each later than the last"
 unfoldable pub earlierDate : ℕ → ℕ → Bool
 earlierDate d e = not (leb e d)
@@ -44,7 +39,7 @@ earlierDate d e = not (leb e d)
 -- "0 to 60 holidays, existing dates, each later than the last, parted by commas and nothing else": those of a text, which is empty where there are none; none falls under 18
 unfoldable pub holidays : List ℕ → Option (List ℕ)
 holidays [] = some []
-holidays (c ∷ cs) = then (dates (parted (c ∷ cs))) (λ ds. given (leb (length ds) 60 && ordered earlierDate ds) ds)
+holidays (c ∷ cs) = then (readEach date (parted (c ∷ cs))) (λ ds. given (leb (length ds) 60 && ordered earlierDate ds) ds)
 
 -- the holidays that an engine keeps as their text
 unfoldable pub holidaysOf : List ℕ → List ℕ

@@ -1,11 +1,11 @@
 -- Document 01, "Register and opening": the register's text.
 use mathlib.Core.Bool.{Bool, _&&_, not}
 use mathlib.Core.List.{List, [], _∷_, map}
-use mathlib.Core.Option.{Option, none, some, Option·map, Option·getD}
+use mathlib.Core.Option.{Option, none, Option·getD}
 use Prim.Native.Nat.{ℕ}
 use lib.Dec.{leb}
 use lib.ListN.{length, take, drop}
-use Rattle.rules.specs.Text.{ascii, equal, fits, digits, then, given, twice}
+use Rattle.rules.specs.Text.{ascii, equal, fits, digits, then, given, readEach, twice}
 use Rattle.rules.specs.Accounts.{passes}
 use Rattle.rules.specs.Lines.{Line, lines}
 
@@ -28,11 +28,6 @@ accountLine l =
     given (fits (ascii "cccccccccccccccccccccc,nnnnnn,nnnnnn") l && passes (take 22 l) && leb low high)
     record { iban = take 22 l; low = low; high = high }))
 
--- all account lines
-unfoldable pub accountLines : List Line → Option (List Account)
-accountLines [] = some []
-accountLines (l ∷ ls) = then (accountLine l) (λ a. Option·map (λ more. a ∷ more) (accountLines ls))
-
 -- the IBANs of all lines
 abbrev pub ibans : Register → List (List ℕ)
 ibans r = r .temporary ∷ map (λ (a : Account). a .iban) (r .accounts)
@@ -44,7 +39,7 @@ sound r = passes (r .temporary) && leb (length (r .accounts)) 40 && not (twice e
 -- "a first line with the temporary account's IBAN, then 0 to 40 lines"
 unfoldable pub ofLines : List Line → Option Register
 ofLines [] = none
-ofLines (l ∷ ls) = then (accountLines ls) (λ accounts. let r : Register = record { temporary = l; accounts = accounts } in given (sound r) r)
+ofLines (l ∷ ls) = then (readEach accountLine ls) (λ accounts. let r : Register = record { temporary = l; accounts = accounts } in given (sound r) r)
 
 -- the register of a text; none falls under 9
 unfoldable pub register : List ℕ → Option Register

@@ -1,13 +1,13 @@
 -- Document 01, "Written": the replay program, from all its input to all its output.
 use mathlib.Core.Bool.{_&&_, cond}
 use mathlib.Core.List.{List, [], _∷_, _++_}
-use mathlib.Core.Option.{Option, none, some, Option·map}
+use mathlib.Core.Option.{Option, none, some}
 use Prim.Native.Nat.{ℕ, zero, suc, _+_}
 use lib.Dec.{leb, eqb}
 use lib.IntN.{ℤ, pos, negsuc}
 use lib.ListN.{length, getD, take, drop}
-use Rattle.rules.specs.Text.{ascii, digits, decimal, fits, equal, then, given, addedUp}
-use Rattle.rules.specs.Lines.{takeLine}
+use Rattle.rules.specs.Text.{ascii, digits, decimal, fits, equal, then, given, readEach, addedUp}
+use Rattle.rules.specs.Lines.{Line, takeLine, parted}
 use Rattle.rules.specs.Engine.{Engine, areaSize}
 use Rattle.rules.specs.Calls.{Answer, openCall, messageCall, turnCall}
 
@@ -31,20 +31,9 @@ unfoldable pub lengthOf : List ℕ → Option ℕ
 lengthOf [] = none
 lengthOf (c ∷ cs) = then (digits (c ∷ cs)) (λ n. given (leb n 8192) n)
 
--- the part before the first comma
-unfoldable pub beforeComma : List ℕ → List ℕ
-beforeComma [] = []
-beforeComma (c ∷ cs) = let r = beforeComma cs in cond (eqb c 44) [] (c ∷ r)
-
--- and what stands behind that comma
-unfoldable pub behindComma : List ℕ → List ℕ
-behindComma [] = []
-behindComma (c ∷ cs) = let r = behindComma cs in cond (eqb c 44) cs r
-
--- a length, and k more, each behind a comma
-unfoldable pub lengthsOf : ℕ → List ℕ → Option (List ℕ)
-lengthsOf zero cs = Option·map (λ n. n ∷ []) (lengthOf cs)
-lengthsOf (suc k) cs = then (lengthOf (beforeComma cs)) (λ n. Option·map (λ more. n ∷ more) (lengthsOf k (behindComma cs)))
+-- n lengths, parted by commas
+unfoldable pub partedLengths : ℕ → Line → Option (List ℕ)
+partedLengths n l = then (readEach lengthOf (parted l)) (λ ns. given (eqb (length ns) n) ns)
 
 -- texts of some lengths, one behind the other
 unfoldable pub textsIn : List ℕ → List ℕ → List (List ℕ)
@@ -55,9 +44,9 @@ textsIn (n ∷ ns) cs = take n cs ∷ textsIn ns (drop n cs)
 unfoldable pub withTexts : (List (List ℕ) → Command) → List ℕ → List ℕ → Option Commanded
 withTexts f ns cs = let size = addedUp ns in given (leb size (length cs)) record { command = f (textsIn ns cs); others = drop size cs }
 
--- a line's lengths, 1 + k of them, and the texts behind it
-unfoldable pub textsBehind : (List (List ℕ) → Command) → ℕ → List ℕ → List ℕ → Option Commanded
-textsBehind f k l cs = then (lengthsOf k l) (λ ns. withTexts f ns cs)
+-- n lengths on a line, and the texts behind it
+unfoldable pub textsBehind : (List (List ℕ) → Command) → ℕ → Line → List ℕ → Option Commanded
+textsBehind f n l cs = then (partedLengths n l) (λ ns. withTexts f ns cs)
 
 -- "`M,length` and a message"
 unfoldable pub sending : List (List ℕ) → Command
@@ -70,9 +59,9 @@ opening day ts = opens day (getD ts 0 []) (getD ts 1 [])
 -- the command of a line, with what stands behind the line
 unfoldable pub commandOf : List ℕ → List ℕ → Option Commanded
 commandOf l cs =
-    cond (equal (take 2 l) (ascii "M,")) (textsBehind sending 0 (drop 2 l) cs)
+    cond (equal (take 2 l) (ascii "M,")) (textsBehind sending 1 (drop 2 l) cs)
     (cond (equal (take 2 l) (ascii "T,")) (then (sixDigits (drop 2 l)) (λ d. some record { command = turns d; others = cs }))
-    (cond (equal (take 2 l) (ascii "O,") && equal (take 1 (drop 8 l)) (ascii ",")) (then (sixDigits (take 6 (drop 2 l))) (λ d. textsBehind (opening d) 1 (drop 9 l) cs))
+    (cond (equal (take 2 l) (ascii "O,") && equal (take 1 (drop 8 l)) (ascii ",")) (then (sixDigits (take 6 (drop 2 l))) (λ d. textsBehind (opening d) 2 (drop 9 l) cs))
     none))
 
 -- "command lines end in CR LF"

@@ -1,7 +1,7 @@
 -- Bytes, texts and numbers, as all sections of document 01 use them. A text is the list of its bytes.
 use mathlib.Core.Bool.{Bool, true, false, _&&_, _||_, not, cond}
 use mathlib.Core.List.{List, [], _∷_, _++_}
-use mathlib.Core.Option.{Option, none, some}
+use mathlib.Core.Option.{Option, none, some, Option·map}
 use Prim.Native.Char.{code}
 use Prim.Native.String.{String}
 use Prim.Native.String as S
@@ -75,6 +75,11 @@ given false a = none
 abbrev pub isSome {ℓ} : {A : Type ℓ} → Option A → Bool
 isSome none = false
 isSome (some a) = true
+
+-- what each of a list is read as, where each is
+unfoldable pub readEach : {A B : Type 0} → (A → Option B) → List A → Option (List B)
+readEach f [] = some []
+readEach f (x ∷ xs) = then (f x) (λ y. Option·map (λ more. y ∷ more) (readEach f xs))
 
 -- one of a list passes a test
 unfoldable pub any : {A : Type 0} → (A → Bool) → List A → Bool
