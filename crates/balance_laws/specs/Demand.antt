@@ -126,6 +126,6 @@ demand3 text list day area calls h =
       balance = λ bank l.
           rw (sum-in bank (r .events), sum-out temporary bank (r .events))
           (whole _ _ (transferredOf bank (ledgerOf (r .events))) (detailedOf bank (ledgerOf (r .events))) (omega (arith, z .settles bank l .balance)));
-      positions = λ p. same-times p (z .end .engine .positions) (ledgerOf (r .events)) (z .end .agrees .same);
+      positions = same-times (z .end .engine .positions) (ledgerOf (r .events)) (z .end .agrees .same);
       untouchedHeld = λ f bank l. bare-held bank (z .end .engine .day) (ledgerOf (r .events)) (accepted (r .events)) (z .end .agrees .settled f) (z .end .agrees .history);
     }

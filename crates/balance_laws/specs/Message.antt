@@ -1,10 +1,10 @@
 -- What the lines of an accepted message tell: in comes what it transfers, out goes what it details, credited and returned both.
 use mathlib.Core.Path.{_≡_, refl, sym}
 use mathlib.Core.Bool.{Bool, true, false, cond}
-use mathlib.Core.List.{List, [], _∷_}
+use mathlib.Core.List.{List, [], _∷_, _++_, append-assoc}
 use Prim.Native.Nat.{ℕ, _+_, _^_, _<_}
 use native.Mathlib.Omega.{arith}
-use Rattle.rules.specs.Messages.{Message, mt103, mt101, Detail, account59, detailsOf, transferredBy, detailedBy, sumOfAmounts}
+use Rattle.rules.specs.Messages.{Message, mt103, mt101, Detail, account59, detailsOf, dateOf, transferredBy, detailedBy, sumOfAmounts}
 use Rattle.rules.specs.Register.{Register, registerOf}
 use Rattle.rules.specs.Verdict.{Verdict, credited, returned, isReturned, accountAt}
 use Rattle.rules.specs.Engine.{Engine, bic}
@@ -12,7 +12,7 @@ use Rattle.rules.specs.Written.{Book, posting, verdicts, returns}
 use Rattle.rules.specs.Calls.{bankOf, verdictOf, returnedOf, returnedDetails, messageBook, detailPosting, detailPostings, postings, hasVerdict, positionAfter, partsWritten, messageText}
 use Rattle.rules.specs.Ledger.{Kind, Request, isParty}
 use Rattle.laws.specs.All.{All, All.none, All.more}
-use Rattle.balance_laws.specs.Told.{Tells, tells-none, tells-join, tells-same, tells-mute, Mute, mute-none}
+use Rattle.balance_laws.specs.Told.{Tells, tells-none, tells-join, tells-same, tells-mute, Mute, mute-none, mute-join}
 use Rattle.balance_laws.specs.Mute.{DetailSent, mute-verdicts, mute-returns}
 use Rattle.balance_laws.specs.Accounts.{credited-shape}
 use Rattle.balance_laws.specs.Kinds.{comesIn, goesOut, Readable, mine, mine-none, mine-adds, bank-party, iban-party, in-from, out-from, in-paid, out-paid}
@@ -60,7 +60,7 @@ returned-sent r (more {x = d} {xs = ds} s t) = go (isReturned (verdictOf r d)) (
 -- ---- the posting lines of a message
 
 module _ (bank : ℕ) (f : Request) (s : bank < 2 ^ 64) (r : Register) (b : Book) (k : Readable b) where
-  postings-in : (m : Message) → transferredBy m < 10 ^ 20 → detailedBy m < 10 ^ 20 → Tells (comesIn bank) f (postings r b m) (mine bank (b .bank) (transferredBy m))
+  pub postings-in : (m : Message) → transferredBy m < 10 ^ 20 → detailedBy m < 10 ^ 20 → Tells (comesIn bank) f (postings r b m) (mine bank (b .bank) (transferredBy m))
   unfolding postings transferredBy detailedBy detailsOf
   postings-in (mt103 t) h l = in-from b bank (t .amount) k s h
   postings-in (mt101 o) h l =
@@ -81,23 +81,36 @@ pub record Postable (e : Engine) (m : Message) : Type 0 where
   pub transferred : transferredBy m < 10 ^ 20
   pub detailed : detailedBy m < 10 ^ 20
 
+-- the posting lines of a message, by register and day
+abbrev pub postingText : List ℕ → ℕ → Message → List ℕ
+postingText text day m = let r = registerOf text in postings r record { day = day; temporary = r .temporary; bank = bankOf m; date = dateOf m } m
+
+-- what follows them: the verdicts and the returns
+unfoldable pub behindPostings : Engine → Message → List ℕ
+behindPostings e m =
+    cond (hasVerdict m (positionAfter e m)) (verdicts (e .day) (e .count) (positionAfter e m) (returnedDetails e m)) []
+    ++ returns (messageBook e m) (e .count + partsWritten e m) (returnedDetails e m)
+
+pub message-parts : (e : Engine) (m : Message) → messageText e m ≡ postingText (e .register) (e .day) m ++ behindPostings e m
+unfolding messageText behindPostings
+message-parts e m = append-assoc (postingText (e .register) (e .day) m) _ (returns (messageBook e m) (e .count + partsWritten e m) (returnedDetails e m))
+
 module _ (e : Engine) (m : Message) (w : Postable e m) where
-  -- the verdicts that follow tell nothing
-  mute-judged : Mute (cond (hasVerdict m (positionAfter e m)) (verdicts (e .day) (e .count) (positionAfter e m) (returnedDetails e m)) [])
-  unfolding positionAfter
-  mute-judged = go (hasVerdict m (positionAfter e m))
+  back : All DetailSent (returnedDetails e m)
+  back = returned-sent (registerOf (e .register)) (w .details)
+
+  -- what follows tells nothing
+  pub mute-behind : Mute (behindPostings e m)
+  unfolding behindPostings positionAfter
+  mute-behind = mute-join (go (hasVerdict m (positionAfter e m))) (mute-returns (messageBook e m) (e .count + partsWritten e m) (w .book .known) (w .book .account) back)
     where
       go : (t : Bool) → Mute (cond t (verdicts (e .day) (e .count) (positionAfter e m) (returnedDetails e m)) [])
-      go true = mute-verdicts (e .day) (e .count) (positionAfter e m) (w .book .known) (returned-sent (registerOf (e .register)) (w .details))
+      go true = mute-verdicts (e .day) (e .count) (positionAfter e m) (w .book .known) back
       go false = mute-none
 
-  -- nor do the returns: a message tells what its posting lines do
-  tells-message : {kind : Kind} {f : Request} {v : ℕ} → Tells kind f (postings (registerOf (e .register)) (messageBook e m) m) v → Tells kind f (messageText e m) v
-  unfolding messageText
-  tells-message t =
-      let back : Mute (returns (messageBook e m) (e .count + partsWritten e m) (returnedDetails e m)) =
-      mute-returns (messageBook e m) (e .count + partsWritten e m) (w .book .known) (w .book .account) (returned-sent (registerOf (e .register)) (w .details)) in
-      tells-same (tells-join (tells-join t (tells-mute mute-judged)) (tells-mute back)) (omega arith)
+  -- a message tells what its posting lines do
+  tells-message : {kind : Kind} {f : Request} {v : ℕ} → Tells kind f (postingText (e .register) (e .day) m) v → Tells kind f (messageText e m) v
+  tells-message t = rw (message-parts e m) (tells-same (tells-join t (tells-mute mute-behind)) (omega arith))
 
   module _ (bank : ℕ) (f : Request) (s : bank < 2 ^ 64) where
     pub message-in : Tells (comesIn bank) f (messageText e m) (mine bank (bankOf m) (transferredBy m))

@@ -1,12 +1,13 @@
 -- Sums over positions, one for each measure: lists whose sums agree for every measure have the same entries, order aside.
 use mathlib.Core.Path.{_≡_, refl, sym, _∙_}
-use mathlib.Core.Bool.{Bool, true, false, _&&_, not, cond}
+use mathlib.Core.Bool.{Bool, true, false, not, cond}
 use mathlib.Core.List.{List, [], _∷_}
 use Prim.Native.Nat.{ℕ, _+_}
 use native.Mathlib.Omega.{arith}
 use lib.Dec.{eqb}
+use Rattle.rules.specs.Text.{times, Rearranged}
 use Rattle.rules.specs.Engine.{Position, alike, hasDetails, kept}
-use Rattle.rules.specs.Ledger.{transferredOf, detailedOf, times}
+use Rattle.rules.specs.Ledger.{transferredOf, detailedOf, sameEntry}
 
 -- a number taken from a position, and a test of one
 abbrev pub Measure : Type 0
@@ -51,9 +52,9 @@ like q p = alike p q
 unfoldable pub bare : Test
 bare p = not (hasDetails p)
 
--- of those with q's bank, date and totals
+-- of those that are the entry q
 unfoldable pub equalTo : Position → Test
-equalTo q p = alike p q && eqb (p .transferred) (q .transferred) && eqb (p .detailed) (q .detailed)
+equalTo q p = sameEntry p q
 
 -- nothing either way
 pub nought : (t : Bool) → cond {A = ℕ} t 0 0 ≡ 0
@@ -77,10 +78,10 @@ unfolding detailedOf tally only ofBank
 detailed-tally bank [] = refl
 detailed-tally bank (p ∷ ps) = step (eqb (p .key .bank) bank) (p .detailed) (detailed-tally bank ps)
 
-pub times-tally : (q : Position) (ps : List Position) → times q ps ≡ tally (only (equalTo q) one) ps
+pub times-tally : (q : Position) (ps : List Position) → times sameEntry q ps ≡ tally (only (equalTo q) one) ps
 unfolding times tally only equalTo
 times-tally q [] = refl
-times-tally q (p ∷ ps) = step (alike p q && eqb (p .transferred) (q .transferred) && eqb (p .detailed) (q .detailed)) 1 (times-tally q ps)
+times-tally q (p ∷ ps) = step (sameEntry p q) 1 (times-tally q ps)
 
 pub kept-tally : (g : Measure) (ps : List Position) → tally g (kept ps) ≡ tally (only bare g) ps
 unfolding kept tally only bare
@@ -125,5 +126,5 @@ pub same-kept : (ps qs : List Position) → SameEntries ps qs → SameEntries (k
 same-kept ps qs s = record { sums = λ g. kept-tally g ps ∙ s .sums (only bare g) ∙ sym (kept-tally g qs) }
 
 -- "order aside": each entry stands in both as often
-pub same-times : (q : Position) (ps qs : List Position) → SameEntries ps qs → times q ps ≡ times q qs
-same-times q ps qs s = times-tally q ps ∙ s .sums (only (equalTo q) one) ∙ sym (times-tally q qs)
+pub same-times : (ps qs : List Position) → SameEntries ps qs → Rearranged sameEntry ps qs
+same-times ps qs s q = times-tally q ps ∙ s .sums (only (equalTo q) one) ∙ sym (times-tally q qs)

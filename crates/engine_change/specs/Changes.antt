@@ -7,10 +7,11 @@ use native.Mathlib.Nat.{add-zero, mul-le-mul-left}
 use native.Mathlib.Omega.{arith}
 use lib.ListN.{length, length-append, length-drop, length-map}
 use lib.Seq.{length-take-le}
+use Rattle.rules.specs.Text.{passing}
 use Rattle.rules.specs.Area.{padded, joined}
 use Rattle.laws.specs.Laid.{laid, laid-front}
 use Rattle.laws.specs.Writing.{Wrote}
-use Rattle.laws.specs.Sections.{Each, inserted, replaced, passing, Agree, passing-map, padded-length, joined-length, each-inserted, each-replaced, each-passing, map-inserted, map-replaced, passing-length}
+use Rattle.laws.specs.Sections.{Each, inserted, replaced, Agree, passing-map, padded-length, joined-length, each-inserted, each-replaced, each-passing, map-inserted, map-replaced, passing-length}
 use Rattle.laws.specs.Standing.{Stands, moved, stands-laid, stands-replaced, stands-inserted}
 use Rattle.laws.specs.Moving.{Sifted, sifted-count, stands-sifted}
 

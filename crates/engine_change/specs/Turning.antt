@@ -6,14 +6,14 @@ use Prim.Native.Nat.{ℕ, _+_, _*_, _≤_, _<_}
 use native.Mathlib.Omega.{arith}
 use lib.ListN.{length, take, drop}
 use borrow.Author.Tests.{le-leb, lt-leb}
-use Rattle.rules.specs.Text.{isSome}
+use Rattle.rules.specs.Text.{isSome, passing}
 use Rattle.rules.specs.Engine.{Position, Engine, hasDetails, kept}
 use Rattle.rules.specs.Written.{correctedCount}
 use Rattle.rules.specs.Calls.{afterTurn}
 use Rattle.rules.specs.Area.{zeros, padded, joined, numberAt, positionRecord, positionIn, encode, decode, holds, areaSize, positionsPlace, positionsRoom, referencesRoom, detailedOffset, textsOf, recordSize, referencesPlace}
 use Rattle.laws.specs.Laid.{laid}
 use Rattle.laws.specs.Writing.{Wrote}
-use Rattle.laws.specs.Sections.{Each, passing, Agree, Agree.on-none, Agree.on-more, each-map}
+use Rattle.laws.specs.Sections.{Each, Agree, Agree.on-none, Agree.on-more, each-map}
 use Rattle.laws.specs.Moving.{Sifted}
 use Rattle.laws.specs.All.{All, All.none, All.more}
 use Rattle.engine_laws.specs.Limits.{Limits, limits}

@@ -8,7 +8,7 @@ use native.Mathlib.Omega.{arith}
 use lib.Dec.{eqb}
 use lib.IntN.{ℤ, pos, subℕ}
 use lib.ListN.{length, take, drop, length-append, length-drop}
-use lib.Seq.{take-at}
+use lib.Seq.{take-at, drop-at}
 use borrow.Author.Tests.{eqb-true}
 use Rattle.rules.specs.Text.{over}
 use Rattle.rules.specs.Messages.{Message, read}
@@ -44,6 +44,10 @@ done-holds {area = area} {next = next} w = rw (w .area) (holds-encode next (w .g
 
 pub done-length : {r : Result} {area out text : List ℕ} {d : ℤ} {next : Engine} → Done r area out text d next → areaSize ≤ length area → length (r .area) ≡ length area
 done-length {area = area} {next = next} w h = rw (w .area, length-append, encode-length next (w .good), length-drop) (omega arith)
+
+-- "those behind are not touched"
+pub done-behind : {r : Result} {area out text : List ℕ} {d : ℤ} {next : Engine} → Done r area out text d next → drop areaSize (r .area) ≡ drop areaSize area
+done-behind {area = area} {next = next} w = rw (w .area) (drop-at (encode next) (drop areaSize area) areaSize (encode-length next (w .good)))
 
 -- the bytes written are the text
 pub done-text : {r : Result} {area out text : List ℕ} {d : ℤ} {next : Engine} → Done r area out text d next → take (r .written) (r .output) ≡ text

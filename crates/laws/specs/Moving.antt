@@ -8,10 +8,11 @@ use native.Mathlib.Numerals.{add-one}
 use native.Mathlib.Omega.{arith}
 use lib.ListN.{length, getD, take, drop, set, length-set, length-append, length-drop}
 use lib.Seq.{drop-cons, take-suc, getD-drop, drop-drop, length-take-le}
+use Rattle.rules.specs.Text.{passing}
 use Rattle.rules.specs.Area.{zeros, padded, joined, recordsOf}
 use Rattle.laws.specs.Laid.{laid, laid-append, laid-set, laid-load-before, laid-load-behind, laid-drop, laid-length}
 use Rattle.laws.specs.Writing.{Wrote}
-use Rattle.laws.specs.Sections.{Each, passing, records-more, records-each, each-passing, passing-append, joined-append, joined-length}
+use Rattle.laws.specs.Sections.{Each, records-more, records-each, each-passing, passing-append, joined-append, joined-length}
 use Rattle.laws.specs.Standing.{moved, Stands, stands-records, stands-passing}
 
 -- of the bytes of a that are to go from one place to another those from low up to high are there; b is the area now

@@ -7,6 +7,7 @@ use native.Mathlib.Nat.{add-zero, add-comm, mul-zero, mul-suc}
 use native.Mathlib.Omega.{arith}
 use lib.ListN.{length, getD, take, drop, length-append, length-drop, length-replicate, replicate-append-replicate, take-append-drop}
 use lib.Seq.{drop-cons, take-at, drop-at, length-take-le, drop-drop}
+use Rattle.rules.specs.Text.{passing}
 use Rattle.rules.specs.Area.{zeros, padded, joined, recordsOf}
 use Rattle.laws.specs.Laid.{laid, laid-past, laid-front}
 use Rattle.laws.specs.All.{All, All.none, All.more, all-append, all-take, all-drop}
@@ -21,11 +22,6 @@ inserted i x xs = take i xs ++ x ∷ drop i xs
 
 unfoldable pub replaced : {A : Type 0} → ℕ → A → List A → List A
 replaced i x xs = take i xs ++ x ∷ drop (suc i) xs
-
--- the elements that pass a test
-unfoldable pub passing : {A : Type 0} → (A → Bool) → List A → List A
-passing p [] = []
-passing p (x ∷ xs) = let r = passing p xs in cond (p x) (x ∷ r) r
 
 -- ---- zeros and padding
 

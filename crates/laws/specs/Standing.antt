@@ -7,10 +7,11 @@ use native.Mathlib.Nat.{add-zero, mul-suc, mul-add, mul-le-mul-left}
 use native.Mathlib.Omega.{arith}
 use lib.ListN.{length, getD, take, drop, set, length-set, length-append, length-drop}
 use lib.Seq.{set-append-left, take-at, drop-at, drop-append-add}
+use Rattle.rules.specs.Text.{passing}
 use Rattle.rules.specs.Area.{zeros, padded, joined, recordsOf}
 use Rattle.laws.specs.Laid.{laid, laid-append, laid-past, laid-apart}
 use Rattle.laws.specs.Writing.{Wrote}
-use Rattle.laws.specs.Sections.{Each, inserted, replaced, passing, zeros-length, padded-length, padded-front, each-passing, passing-length, joined-length, joined-split, joined-front, section-record, section-replaced, section-inserted, records-back}
+use Rattle.laws.specs.Sections.{Each, inserted, replaced, zeros-length, padded-length, padded-front, each-passing, passing-length, joined-length, joined-split, joined-front, section-record, section-replaced, section-inserted, records-back}
 use Rattle.laws.specs.All.{all-drop}
 
 -- a part x stands at a place of an area, behind p and before q

@@ -6,10 +6,11 @@ use mathlib.Core.Option.{some}
 use Prim.Native.Nat.{ℕ, _+_, _^_, _<_}
 use lib.IntN.{ℤ, pos, _+ℤ_}
 use lib.ListN.{take}
+use Rattle.rules.specs.Text.{Rearranged}
 use Rattle.rules.specs.Register.{registerOf}
-use Rattle.rules.specs.Engine.{Position, Engine}
+use Rattle.rules.specs.Engine.{Engine}
 use Rattle.rules.specs.Area.{Result, cardOpen, cardMessage, cardTurn, holds}
-use Rattle.rules.specs.Ledger.{Request, message, turn, Event, ledgerOf, held, times, isTransfer, isCollection, isReturn, isRefund, isCredit, sumOf, sinceTurn, accepted, untouchedOf}
+use Rattle.rules.specs.Ledger.{Request, message, turn, Event, ledgerOf, held, sameEntry, isTransfer, isCollection, isReturn, isRefund, isCredit, sumOf, sinceTurn, accepted, untouchedOf}
 
 -- a call of the list: a message or a turn, and the output area lent to it
 pub record Call : Type 0 where
@@ -46,8 +47,8 @@ pub record Balanced (temporary : List ℕ) (r : Ran) : Type 0 where
   pub balance : (bank : ℕ) → bank < 2 ^ 64
       → pos (sumOf (isTransfer bank) (r .events) + sumOf (isCollection bank) (r .events))
       ≡ pos (sumOf (isCredit temporary bank) (r .events) + sumOf (isReturn bank) (r .events) + sumOf (isRefund bank) (r .events)) +ℤ held bank (ledgerOf (r .events))
-  -- "the open positions in the area are exactly that ledger's"
-  pub positions : (p : Position) → times p (engine .positions) ≡ times p (ledgerOf (r .events))
+  -- "the open positions in the area are exactly that ledger's", "order aside"
+  pub positions : Rearranged sameEntry (engine .positions) (ledgerOf (r .events))
   -- "From each accepted turn until the next accepted message, held is exactly .."
   pub untouchedHeld : sinceTurn false (r .events) ≡ true → (bank : ℕ) → bank < 2 ^ 64
       → held bank (ledgerOf (r .events)) ≡ pos (untouchedOf bank (accepted (r .events)))

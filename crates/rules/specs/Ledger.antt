@@ -64,10 +64,9 @@ detailedOf bank (p ∷ ps) = let r = detailedOf bank ps in cond (eqb (p .key .ba
 unfoldable pub held : ℕ → List Position → ℤ
 held bank ledger = subℕ (transferredOf bank ledger) (detailedOf bank ledger)
 
--- how often an entry stands in a list: lists in which each stands as often are the same, "order aside"
-unfoldable pub times : Position → List Position → ℕ
-times q [] = 0
-times q (p ∷ ps) = let r = times q ps in cond (alike p q && eqb (p .transferred) (q .transferred) && eqb (p .detailed) (q .detailed)) (1 + r) r
+-- the same entry: of one bank and date, with the same totals
+unfoldable pub sameEntry : Position → Position → Bool
+sameEntry p q = alike p q && eqb (p .transferred) (q .transferred) && eqb (p .detailed) (q .detailed)
 
 -- ---- the reader of posting lines
 
@@ -103,6 +102,10 @@ postedParts ps =
 -- a line read back, where it is a posting line
 unfoldable pub posted : Line → Option Posted
 posted l = let ps = parted l in given (isPosting ps) (postedParts ps)
+
+-- the lines that a call wrote
+abbrev pub linesOf : Event → List Line
+linesOf e = Option·getD (lines (e .bytes)) []
 
 -- ---- the five sums: "each for the bank in it"
 
@@ -149,7 +152,7 @@ sumOfLines kind f (l ∷ ls) = amountIf kind f (posted l) + sumOfLines kind f ls
 -- the lines of a kind that the calls wrote
 unfoldable pub sumOf : Kind → List Event → ℕ
 sumOf kind [] = 0
-sumOf kind (e ∷ es) = sumOfLines kind (e .request) (Option·getD (lines (e .bytes)) []) + sumOf kind es
+sumOf kind (e ∷ es) = sumOfLines kind (e .request) (linesOf e) + sumOf kind es
 
 -- ---- after a turn
 

@@ -15,6 +15,7 @@ pub mod Area
 pub mod Ledger
 pub mod Demand3
 pub mod OnBankingDays
+pub mod SameMornings
 pub mod Replay
 pub mod Cases
 pub mod Listing

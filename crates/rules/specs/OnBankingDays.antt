@@ -2,18 +2,18 @@
 use mathlib.Core.Path.{_≡_}
 use mathlib.Core.Bool.{Bool, false, true, not, cond}
 use mathlib.Core.List.{List, [], _∷_, _++_}
-use mathlib.Core.Option.{Option, none, some, Option·getD}
+use mathlib.Core.Option.{Option, none, some}
 use Prim.Native.Nat.{ℕ}
 use Prim.Native.String.{String}
 use lib.ListN.{length, take, drop}
 use Rattle.rules.specs.Text.{ascii, equal, any}
 use Rattle.rules.specs.Dates.{date}
-use Rattle.rules.specs.Lines.{Line, lines}
+use Rattle.rules.specs.Lines.{Line}
 use Rattle.rules.specs.BankingDays.{holidaysOf, isBankingDay}
 use Rattle.rules.specs.Engine.{Engine}
 use Rattle.rules.specs.Calls.{holdsOf}
 use Rattle.rules.specs.Area.{cardOpen, holds}
-use Rattle.rules.specs.Ledger.{Posted, posted, Event, isTurn}
+use Rattle.rules.specs.Ledger.{Posted, posted, Event, linesOf, isTurn}
 use Rattle.rules.specs.Demand3.{Call, Ran, ran}
 
 -- ---- what a turn's lines are dated with; a centralisation date is none of these
@@ -39,7 +39,7 @@ lineDates (l ∷ ls) = postingDates (posted l) ++ fieldDates l ++ lineDates ls
 -- "every posting line and correction that a turn writes"
 unfoldable pub turnDates : List Event → List (List ℕ)
 turnDates [] = []
-turnDates (e ∷ es) = cond (isTurn (e .request)) (lineDates (Option·getD (lines (e .bytes)) [])) [] ++ turnDates es
+turnDates (e ∷ es) = cond (isTurn (e .request)) (lineDates (linesOf e)) [] ++ turnDates es
 
 -- no date of a banking day
 unfoldable pub isClosed : List ℕ → List ℕ → Bool

@@ -1,4 +1,5 @@
 -- Bytes, texts and numbers, as all sections of document 01 use them. A text is the list of its bytes.
+use mathlib.Core.Path.{_≡_}
 use mathlib.Core.Bool.{Bool, true, false, _&&_, _||_, not, cond}
 use mathlib.Core.List.{List, [], _∷_, _++_}
 use mathlib.Core.Option.{Option, none, some, Option·map}
@@ -86,6 +87,11 @@ unfoldable pub any : {A : Type 0} → (A → Bool) → List A → Bool
 any p [] = false
 any p (x ∷ xs) = let r = any p xs in cond (p x) true r
 
+-- those of a list that pass a test
+unfoldable pub passing : {A : Type 0} → (A → Bool) → List A → List A
+passing p [] = []
+passing p (x ∷ xs) = let r = passing p xs in cond (p x) (x ∷ r) r
+
 -- two of a list are alike
 unfoldable pub twice : {A : Type 0} → (A → A → Bool) → List A → Bool
 twice alike [] = false
@@ -96,6 +102,15 @@ unfoldable pub ordered : {A : Type 0} → (A → A → Bool) → List A → Bool
 ordered before [] = true
 ordered before (x ∷ []) = true
 ordered before (x ∷ y ∷ zs) = let r = ordered before (y ∷ zs) in cond (before x y) r false
+
+-- how often an element stands in a list
+unfoldable pub times : {A : Type 0} → (A → A → Bool) → A → List A → ℕ
+times same x [] = 0
+times same x (y ∷ ys) = let r = times same x ys in cond (same y x) (1 + r) r
+
+-- "rearrangements of each other", "repeats counted": each element stands in both lists as often
+abbrev pub Rearranged : {A : Type 0} → (A → A → Bool) → List A → List A → Type 0
+Rearranged {A} same xs ys = (x : A) → times same x xs ≡ times same x ys
 
 -- byte order: the first byte that differs decides, and a text stands before one that goes on behind it
 unfoldable pub textBefore : List ℕ → List ℕ → Bool
