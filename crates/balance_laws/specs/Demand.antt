@@ -71,7 +71,7 @@ unfolding ran event ledgerFrom accepted sinceTurn sumOf
 ended temporary area ledger sent turned [] w = record { end = rw append-nil w; settles = λ bank l. settles-none bank ledger }
 ended temporary area ledger sent turned (c ∷ cs) w =
     let r : Result = result (c .request) area (c .output) in
-    let s : Stepped temporary ledger sent turned (event (c .request) r) (r .area) = stepped temporary area ledger sent turned w (c .request) (c .output) in
+    let s : Stepped temporary ledger sent turned (event (c .request) r) (r .area) = stepped temporary area ledger sent turned (w .engine) (w .holding) (w .agrees) (c .request) (c .output) in
     ended-more temporary ledger sent turned (event (c .request) r) (ran (r .area) cs) s (ended temporary (r .area) _ _ _ cs (s .next))
 
 -- ---- the claim

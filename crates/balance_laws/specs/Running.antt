@@ -1,30 +1,27 @@
 -- One call of the list: the card that runs stays as the ledger and the messages accepted so far say, and what the call wrote settles with what it changed of the ledger.
---
-use mathlib.Core.Path.{_≡_, refl, sym, _∙_, subst}
-use mathlib.Core.Bool.{Bool, true, false, and-false}
+use mathlib.Core.Path.{_≡_, refl, _∙_}
+use mathlib.Core.Bool.{Bool, true, and-false}
 use mathlib.Core.List.{List, [], _∷_, _++_, append-nil}
 use mathlib.Core.Option.{none, some}
 use Prim.Native.Nat.{ℕ, _^_, _≤_, _<_}
 use native.Mathlib.Omega.{arith}
-use lib.Dec.{eqb}
 use lib.ListN.{length, take}
-use borrow.Author.Tests.{ne-eqb, eqb-true, eqb-false}
+use borrow.Author.Tests.{ne-eqb}
 use Rattle.rules.specs.Messages.{Message, dateOf, transferredBy, detailedBy}
 use Rattle.rules.specs.Register.{registerOf}
 use Rattle.rules.specs.Text.{ordered}
 use Rattle.rules.specs.Engine.{Position, Engine, earlier, sameKey}
-use Rattle.rules.specs.Calls.{Stop, bankOf, addition, afterMessage, afterTurn}
+use Rattle.rules.specs.Calls.{bankOf, addition, afterMessage, afterTurn}
 use Rattle.rules.specs.Area.{Result, cardMessage, cardTurn, holds}
 use Rattle.rules.specs.Ledger.{Request, message, turn, Event, applied, enteredBy, ledgerFrom, isTurn, sinceTurn, listed, messageOf, accepted, sumOf}
 use Rattle.rules.specs.Demand3.{result}
 use Rattle.laws.specs.Tests.{never}
 use Rattle.laws.specs.All.{All, All.none, All.more}
 use Rattle.laws.specs.Order.{ordered-sorted}
-use Rattle.rule_laws.specs.Options.{some-is}
 use Rattle.engine_laws.specs.Limits.{Limits, limits}
 use Rattle.engine_laws.specs.EngineIn.{engine-in}
 use Rattle.engine_laws.specs.Positions.{Good, all-good, position-order}
-use Rattle.engine_laws.specs.Calls.{Stays, Ends, done-holds, done-text, Takes, message-there, message-ends, Turns, turn-there, turn-ends}
+use Rattle.engine_laws.specs.Calls.{Stays, by-number, done-holds, done-text, Takes, message-accepted, message-ends, Turns, turn-accepted, turn-ends}
 use Rattle.balance_laws.specs.Told.{Tells, tells-none, told}
 use Rattle.balance_laws.specs.Tally.{Measure, tally, SameEntries, only, like, bare, one, kept-bare, same-kept}
 use Rattle.balance_laws.specs.Booking.{many, many-past, keyed, sorted-many, entered-same}
@@ -81,15 +78,15 @@ told-settles : (bank : ℕ) (temporary : List ℕ) (e : Event) {v u : ℕ} {ledg
 unfolding sumOf
 told-settles bank temporary e s t b = record { balance = omega (arith, told s, told t, b .balance) }
 
-module _ (temporary area : List ℕ) (ledger : List Position) (sent : List Message) (turned : Bool) (w : Running temporary area ledger sent turned) where
-  agrees-at : (e : Engine) → holds area ≡ some e → Agrees temporary ledger sent turned e
-  agrees-at e h = subst (Agrees temporary ledger sent turned) (some-is (sym (w .holding) ∙ h)) (w .agrees)
+module _ (temporary area : List ℕ) (ledger : List Position) (sent : List Message) (turned : Bool) (e : Engine) (h : holds area ≡ some e) (g : Agrees temporary ledger sent turned e) where
+  l : Limits e
+  l = limits e (engine-in area e h .good)
 
   -- refused
   step-refused : (f : Request) (out : List ℕ) (r : Result) → (r .number ≡ 0 → ⊥) → Stays r area out → Stepped temporary ledger sent turned (event f r) (r .area)
   unfolding event ledgerFrom accepted sinceTurn
   step-refused f out r n s = record {
-    next = rw (ne-eqb (r .number) 0 n, append-nil, s .area) w;
+    next = rw (ne-eqb (r .number) 0 n, append-nil, s .area) record { engine = e; holding = h; agrees = g };
     settles = λ bank l.
         let i : Tells (comesIn bank) f (take (r .written) (r .output)) 0 = rw (s .written) tells-none in
         let o : Tells (goesOut temporary bank) f (take (r .written) (r .output)) 0 = rw (s .written) tells-none in
@@ -100,11 +97,8 @@ module _ (temporary area : List ℕ) (ledger : List Position) (sent : List Messa
   step-message : (s out : List ℕ) → cardMessage s area out .number ≡ 0 → Stepped temporary ledger sent turned (event (message s) (cardMessage s area out)) (cardMessage s area out .area)
   unfolding event ledgerFrom accepted sinceTurn applied enteredBy messageOf listed isTurn afterMessage
   step-message s out a =
-      let t : Takes s area out = message-there s area out (message-ends s area out .accepted a) in
-      let e : Engine = t .engine in
+      let t : Takes s area out e = message-accepted s area out e h a in
       let m : Message = t .message in
-      let g : Agrees temporary ledger sent turned e = agrees-at e (t .holding) in
-      let l : Limits e = limits e (engine-in area e (t .holding) .good) in
       let p : Postable e m = postable (length out) e s m l (t .reads) (t .clear) in
       record {
         next = rw (a, t .reads) record {
@@ -129,10 +123,7 @@ module _ (temporary area : List ℕ) (ledger : List Position) (sent : List Messa
   step-turn : (day : ℕ) (out : List ℕ) → cardTurn day area out .number ≡ 0 → Stepped temporary ledger sent turned (event (turn day) (cardTurn day area out)) (cardTurn day area out .area)
   unfolding event ledgerFrom accepted sinceTurn applied messageOf isTurn afterTurn
   step-turn day out a =
-      let t : Turns day area out = turn-there day area out (turn-ends day area out .accepted a) in
-      let e : Engine = t .engine in
-      let g : Agrees temporary ledger sent turned e = agrees-at e (t .holding) in
-      let l : Limits e = limits e (engine-in area e (t .holding) .good) in
+      let t : Turns day area out e = turn-accepted day area out e h a in
       record {
         next = rw (a, append-nil sent) record {
           engine = afterTurn e day;
@@ -153,14 +144,7 @@ module _ (temporary area : List ℕ) (ledger : List Position) (sent : List Messa
       }
 
   -- any call
-  step : (f : Request) (out : List ℕ) (ss : List Stop) (r : Result) → Ends ss r area out → (r .number ≡ 0 → Stepped temporary ledger sent turned (event f r) (r .area)) → Stepped temporary ledger sent turned (event f r) (r .area)
-  step f out ss r c a = go (eqb (r .number) 0) refl
-    where
-      go : (b : Bool) → eqb (r .number) 0 ≡ b → Stepped temporary ledger sent turned (event f r) (r .area)
-      go true e = a (eqb-true _ _ e)
-      go false e = step-refused f out r (eqb-false _ _ e) (c .refused (eqb-false _ _ e))
-
   pub stepped : (f : Request) (out : List ℕ) → Stepped temporary ledger sent turned (event f (result f area out)) (result f area out .area)
   unfolding result
-  stepped (message s) out = step (message s) out _ (cardMessage s area out) (message-ends s area out) (step-message s out)
-  stepped (turn day) out = step (turn day) out _ (cardTurn day area out) (turn-ends day area out) (step-turn day out)
+  stepped (message s) out = by-number (message-ends s area out) (step-message s out) (step-refused (message s) out _)
+  stepped (turn day) out = by-number (turn-ends day area out) (step-turn day out) (step-refused (turn day) out _)

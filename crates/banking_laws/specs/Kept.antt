@@ -1,17 +1,15 @@
 -- Banking days, over any list of message and turn calls behind an accepted opening: by induction on the list, since 17 lets no other day pass.
-use mathlib.Core.Path.{_≡_, refl, sym, ap, _∙_}
+use mathlib.Core.Path.{_≡_, refl}
 use mathlib.Core.Bool.{Bool, true, false, cond}
 use mathlib.Core.List.{List, [], _∷_, _++_, append-nil}
 use mathlib.Core.Option.{some}
 use Prim.Native.Nat.{ℕ}
-use lib.Dec.{eqb}
-use borrow.Author.Tests.{eqb-true, eqb-false}
 use Rattle.rules.specs.Text.{any, fixed}
 use Rattle.rules.specs.Dates.{exists, date}
 use Rattle.rules.specs.Lines.{lines}
 use Rattle.rules.specs.BankingDays.{holidaysOf, isBankingDay}
 use Rattle.rules.specs.Engine.{Engine}
-use Rattle.rules.specs.Calls.{Stop, holdsOf, opened, afterMessage, afterTurn, turnText}
+use Rattle.rules.specs.Calls.{holdsOf, opened, afterMessage, afterTurn, turnText}
 use Rattle.rules.specs.Area.{Result, cardOpen, cardMessage, cardTurn, holds}
 use Rattle.rules.specs.Ledger.{Request, message, turn, Event, isTurn}
 use Rattle.rules.specs.Demand3.{Call, result, Ran, ran}
@@ -19,12 +17,11 @@ use Rattle.rules.specs.OnBankingDays.{lineDates, turnDates, isClosed, BankingDa
 use Rattle.laws.specs.Digits.{places-length}
 use Rattle.laws.specs.Numbers.{digits-fixed}
 use Rattle.laws.specs.All.{All.none, All.more}
-use Rattle.rule_laws.specs.Options.{some-is}
 use Rattle.rule_laws.specs.Dates.{date-small}
 use Rattle.rule_laws.specs.Lines.{lined-lines}
 use Rattle.engine_laws.specs.Limits.{limits}
 use Rattle.engine_laws.specs.EngineIn.{engine-in}
-use Rattle.engine_laws.specs.Calls.{Stays, Ends, Opens, open-accepted, done-holds, done-text, Takes, message-there, message-ends, Turns, turn-there, turn-ends}
+use Rattle.engine_laws.specs.Calls.{Stays, by-number, Opens, open-accepted, done-holds, done-text, Takes, message-accepted, message-ends, Turns, turn-accepted, turn-ends}
 use Rattle.balance_laws.specs.Running.{event}
 use Rattle.balance_laws.specs.Corrections.{AllOf, Dated}
 use Rattle.banking_laws.specs.Turns.{turn-dated}
@@ -66,12 +63,6 @@ record Stepped (list : List ℕ) (e : Event) (area : List ℕ) : Type 0 where
   written : any (isClosed (holidaysOf list)) (turnDates (e ∷ [])) ≡ false
 
 module _ (list area : List ℕ) (w : Open list area) where
-  its-list : (e : Engine) → holds area ≡ some e → e .holidays ≡ list
-  its-list e h = ap (λ (x : Engine). x .holidays) (some-is (sym h ∙ w .holding)) ∙ w .listed
-
-  its-day : (e : Engine) → holds area ≡ some e → isBankingDay (holidaysOf list) (e .day) ≡ true
-  its-day e h = ap (λ (x : Engine). isBankingDay (holidaysOf list) (x .day)) (some-is (sym h ∙ w .holding)) ∙ w .today
-
   -- refused: nothing is written
   step-refused : (f : Request) (out : List ℕ) (r : Result) → Stays r area out → Stepped list (event f r) (r .area)
   unfolding event turnDates lines lineDates any
@@ -85,9 +76,9 @@ module _ (list area : List ℕ) (w : Open list area) where
   step-message : (s out : List ℕ) → cardMessage s area out .number ≡ 0 → Stepped list (event (message s) (cardMessage s area out)) (cardMessage s area out .area)
   unfolding event turnDates isTurn any afterMessage
   step-message s out a =
-      let t : Takes s area out = message-there s area out (message-ends s area out .accepted a) in
+      let t : Takes s area out (w .engine) = message-accepted s area out (w .engine) (w .holding) a in
       record {
-        next = record { engine = afterMessage (t .engine) (t .message); holding = done-holds (t .done); listed = its-list (t .engine) (t .holding); today = its-day (t .engine) (t .holding) };
+        next = record { engine = afterMessage (w .engine) (t .message); holding = done-holds (t .done); listed = w .listed; today = w .today };
         written = refl;
       }
 
@@ -95,26 +86,20 @@ module _ (list area : List ℕ) (w : Open list area) where
   step-turn : (day : ℕ) (out : List ℕ) → cardTurn day area out .number ≡ 0 → Stepped list (event (turn day) (cardTurn day area out)) (cardTurn day area out .area)
   unfolding event turnDates isTurn afterTurn any
   step-turn day out a =
-      let t : Turns day area out = turn-there day area out (turn-ends day area out .accepted a) in
-      let e : Engine = t .engine in
-      let b : isBankingDay (holidaysOf list) day ≡ true = rw (its-list e (t .holding)) at (t .clear .banking) in
-      let d : Dated day (turnText e day) = turn-dated e (limits e (engine-in area e (t .holding) .good)) day in
+      let e : Engine = w .engine in
+      let t : Turns day area out e = turn-accepted day area out e (w .holding) a in
+      let b : isBankingDay (holidaysOf list) day ≡ true = rw (w .listed) at (t .clear .banking) in
+      let d : Dated day (turnText e day) = turn-dated e (limits e (engine-in area e (w .holding) .good)) day in
       record {
-        next = record { engine = afterTurn e day; holding = done-holds (t .done); listed = its-list e (t .holding); today = b };
+        next = record { engine = afterTurn e day; holding = done-holds (t .done); listed = w .listed; today = b };
         written = rw (done-text (t .done), lined-lines (d .reading)) (none-join (isClosed (holidaysOf list)) (lineDates (d .all)) [] (none-closed (holidaysOf list) day (t .clear .date) b (d .dates)) refl);
       }
 
-  step : (f : Request) (out : List ℕ) (ss : List Stop) (r : Result) → Ends ss r area out → (r .number ≡ 0 → Stepped list (event f r) (r .area)) → Stepped list (event f r) (r .area)
-  step f out ss r c a = go (eqb (r .number) 0) refl
-    where
-      go : (b : Bool) → eqb (r .number) 0 ≡ b → Stepped list (event f r) (r .area)
-      go true e = a (eqb-true _ _ e)
-      go false e = step-refused f out r (c .refused (eqb-false _ _ e))
-
+  -- any call
   stepped : (f : Request) (out : List ℕ) → Stepped list (event f (result f area out)) (result f area out .area)
   unfolding result
-  stepped (message s) out = step (message s) out _ (cardMessage s area out) (message-ends s area out) (step-message s out)
-  stepped (turn day) out = step (turn day) out _ (cardTurn day area out) (turn-ends day area out) (step-turn day out)
+  stepped (message s) out = by-number (message-ends s area out) (step-message s out) (λ n. step-refused (message s) out _)
+  stepped (turn day) out = by-number (turn-ends day area out) (step-turn day out) (λ n. step-refused (turn day) out _)
 
 -- ---- any list of calls
 

@@ -15,8 +15,9 @@ use Rattle.rules.specs.Engine.{Engine}
 use Rattle.rules.specs.Calls.{Stop, Answer, refused, answered, firstOf, openStops, acceptedOpening, openCall, messageStops, messageCall, bothOf, acceptedMessage, turnStops, turnCall, acceptedTurn}
 use Rattle.rules.specs.Area.{holds, Result, stored, onAreas, cardOpen, cardMessage, cardTurn, areaSize}
 use Rattle.rule_laws.specs.Conditions.{answered-accepted, answered-refused}
+use Rattle.rule_laws.specs.Options.{There}
 use Rattle.engine_laws.specs.Keeps.{opened-within}
-use Rattle.engine_laws.specs.Calls.{Done, done-holds, done-text, done-length, Takes, message-there, Turns, turn-there}
+use Rattle.engine_laws.specs.Calls.{Done, done-holds, done-text, done-length, Takes, message-there, message-from, Turns, turn-there, turn-from}
 
 -- an answer, and a result over area and output
 pub record SameAnswer (a : Answer) (r : Result) (area out : List ℕ) : Type 0 where
@@ -84,10 +85,11 @@ module _ (area : List ℕ) (l : areaSize ≤ length area) where
     message-same : firstOf (messageStops (length out) (holds area) s) ≡ 0 → SameAnswer (bothOf (holds area) (read s)) (onAreas (bothOf (holds area) (read s)) area out) area out
     unfolding cardMessage messageCall bothOf acceptedMessage
     message-same k =
-        let w : Takes s area out = message-there s area out k in
-        let e : bothOf (holds area) (read s) ≡ acceptedMessage (w .engine) (w .message) = rw (w .holding, w .reads) in
-        let r : Result = onAreas (acceptedMessage (w .engine) (w .message)) area out in
-        rw e (same-done {r = r} (on-zero (acceptedMessage (w .engine) (w .message)) area out refl) l (w .clear .fits) (rw (answered-accepted _ (holds area) (bothOf (holds area) (read s)) k, e) at (w .done)))
+        let h : There (holds area) = message-there s area out k in
+        let w : Takes s area out (h .value) = message-from s area out k (h .value) (h .is) in
+        let e : bothOf (holds area) (read s) ≡ acceptedMessage (h .value) (w .message) = rw (h .is, w .reads) in
+        let r : Result = onAreas (acceptedMessage (h .value) (w .message)) area out in
+        rw e (same-done {r = r} (on-zero (acceptedMessage (h .value) (w .message)) area out refl) l (w .clear .fits) (rw (answered-accepted _ (holds area) (bothOf (holds area) (read s)) k, e) at (w .done)))
 
     pub same-message : SameAnswer (messageCall (length out) (holds area) s) (cardMessage s area out) area out
     unfolding messageCall cardMessage
@@ -98,9 +100,10 @@ module _ (area : List ℕ) (l : areaSize ≤ length area) where
     turn-same : firstOf (turnStops (length out) (holds area) day) ≡ 0 → SameAnswer (acceptedTurn (holds area) day) (onAreas (acceptedTurn (holds area) day) area out) area out
     unfolding cardTurn turnCall acceptedTurn
     turn-same k =
-        let w : Turns day area out = turn-there day area out k in
-        let r : Result = onAreas (acceptedTurn (some (w .engine)) day) area out in
-        rw (w .holding) (same-done {r = r} (on-zero (acceptedTurn (some (w .engine)) day) area out refl) l (w .clear .fits) (rw (answered-accepted _ (holds area) (acceptedTurn (holds area) day) k, w .holding) at (w .done)))
+        let h : There (holds area) = turn-there day area out k in
+        let w : Turns day area out (h .value) = turn-from day area out k (h .value) (h .is) in
+        let r : Result = onAreas (acceptedTurn (some (h .value)) day) area out in
+        rw (h .is) (same-done {r = r} (on-zero (acceptedTurn (some (h .value)) day) area out refl) l (w .clear .fits) (rw (answered-accepted _ (holds area) (acceptedTurn (holds area) day) k, h .is) at (w .done)))
 
     pub same-turn : SameAnswer (turnCall (length out) (holds area) day) (cardTurn day area out) area out
     unfolding turnCall cardTurn

@@ -9,7 +9,7 @@ use lib.Dec.{eqb}
 use lib.IntN.{ℤ, pos, subℕ}
 use lib.ListN.{length, take, drop, length-append, length-drop}
 use lib.Seq.{take-at, drop-at}
-use borrow.Author.Tests.{eqb-true}
+use borrow.Author.Tests.{eqb-true, eqb-false}
 use Rattle.rules.specs.Text.{over}
 use Rattle.rules.specs.Messages.{Message, read}
 use Rattle.rules.specs.Engine.{Engine, within}
@@ -78,6 +78,14 @@ pub record Ends (ss : List Stop) (r : Result) (area out : List ℕ) : Type 0 whe
   pub accepted : r .number ≡ 0 → firstOf ss ≡ 0
   pub refused : (r .number ≡ 0 → ⊥) → Stays r area out
 
+-- a call is accepted or refused
+pub by-number : {P : Type 0} {ss : List Stop} {r : Result} {area out : List ℕ} → Ends ss r area out → (r .number ≡ 0 → P) → ((r .number ≡ 0 → ⊥) → Stays r area out → P) → P
+by-number {P} {r = r} c f g = go (eqb (r .number) 0) refl
+  where
+    go : (t : Bool) → eqb (r .number) 0 ≡ t → P
+    go true e = f (eqb-true _ _ e)
+    go false e = g (eqb-false _ _ e) (c .refused (eqb-false _ _ e))
+
 on-ends : (ss : List Stop) (engine : Option Engine) (a : Answer) (area out : List ℕ) → Ends ss (onAreas (answered ss engine a) area out) area out
 on-ends ss engine a area out = record { accepted = λ h. answered-zero ss engine a (on-zero _ area out h); refused = on-stays _ area out }
 
@@ -103,62 +111,62 @@ module _ (text list : List ℕ) (day : ℕ) (area : List ℕ) where
 -- ---- message
 
 module _ (s area out : List ℕ) where
-  pub record Takes : Type 0 where
-    pub engine : Engine
+  -- accepted on an area that holds e
+  pub record Takes (e : Engine) : Type 0 where
     pub message : Message
-    pub holding : holds area ≡ some engine
     pub reads : read s ≡ some message
-    pub clear : Clear (length out) engine s message
-    pub done : Done (cardMessage s area out) area out (messageText engine message) (subℕ (positionAfter engine message .transferred) (positionAfter engine message .detailed)) (afterMessage engine message)
+    pub clear : Clear (length out) e s message
+    pub done : Done (cardMessage s area out) area out (messageText e message) (subℕ (positionAfter e message .transferred) (positionAfter e message .detailed)) (afterMessage e message)
 
-  -- where there are an engine and a message and no condition holds
-  pub message-done : (e : Engine) (m : Message) → holds area ≡ some e → read s ≡ some m → firstOf (messageStops (length out) (holds area) s) ≡ 0 → Takes
-  unfolding cardMessage messageCall bothOf acceptedMessage
-  message-done e m h r k =
-      let z : firstOf (messageStops (length out) (some e) s) ≡ 0 = rw h at k in record {
-        engine = e;
-        message = m;
-        holding = h;
-        reads = r;
-        clear = clear (length out) e s m r z;
-        done = rw (answered-accepted _ (holds area) (bothOf (holds area) (read s)) k, h, r) (on-done _ _ (afterMessage e m) area out (message-within (length out) e s m (engine-in area e h .good) r z));
-      }
+  module _ (k : firstOf (messageStops (length out) (holds area) s) ≡ 0) where
+    -- where no condition holds there is an engine
+    pub message-there : There (holds area)
+    message-there = there (holds area) (message-engine (length out) (holds area) s k)
 
-  -- where no condition holds there are both
-  pub message-there : firstOf (messageStops (length out) (holds area) s) ≡ 0 → Takes
-  message-there k =
-      let e : There (holds area) = there (holds area) (message-engine (length out) (holds area) s k) in
-      let m : There (read s) = there (read s) (message-read (length out) (holds area) s k) in
-      message-done (e .value) (m .value) (e .is) (m .is) k
+    message-done : (e : Engine) (m : Message) → holds area ≡ some e → read s ≡ some m → Takes e
+    unfolding cardMessage messageCall bothOf acceptedMessage
+    message-done e m h r =
+        let z : firstOf (messageStops (length out) (some e) s) ≡ 0 = rw h at k in
+        record {
+          message = m;
+          reads = r;
+          clear = clear (length out) e s m r z;
+          done = rw (answered-accepted _ (holds area) (bothOf (holds area) (read s)) k, h, r) (on-done _ _ (afterMessage e m) area out (message-within (length out) e s m (engine-in area e h .good) r z));
+        }
+
+    pub message-from : (e : Engine) → holds area ≡ some e → Takes e
+    message-from e h = let m : There (read s) = there (read s) (message-read (length out) (holds area) s k) in message-done e (m .value) h (m .is)
 
   pub message-ends : Ends (messageStops (length out) (holds area) s) (cardMessage s area out) area out
   unfolding cardMessage messageCall
   message-ends = on-ends _ (holds area) _ area out
 
+  pub message-accepted : (e : Engine) → holds area ≡ some e → cardMessage s area out .number ≡ 0 → Takes e
+  message-accepted e h z = message-from (message-ends .accepted z) e h
+
 -- ---- turn
 
 module _ (day : ℕ) (area out : List ℕ) where
-  pub record Turns : Type 0 where
-    pub engine : Engine
-    pub holding : holds area ≡ some engine
-    pub clear : TurnClear (length out) engine day
-    pub done : Done (cardTurn day area out) area out (turnText engine day) (subℕ (refunded (engine .positions)) (collected (engine .positions))) (afterTurn engine day)
+  pub record Turns (e : Engine) : Type 0 where
+    pub clear : TurnClear (length out) e day
+    pub done : Done (cardTurn day area out) area out (turnText e day) (subℕ (refunded (e .positions)) (collected (e .positions))) (afterTurn e day)
 
-  -- where there is an engine and no condition holds
-  pub turn-done : (e : Engine) → holds area ≡ some e → firstOf (turnStops (length out) (holds area) day) ≡ 0 → Turns
-  unfolding cardTurn turnCall acceptedTurn
-  turn-done e h k =
-      let z : firstOf (turnStops (length out) (some e) day) ≡ 0 = rw h at k in
-      record {
-        engine = e;
-        holding = h;
-        clear = turn-clear (length out) e day z;
-        done = rw (answered-accepted _ (holds area) (acceptedTurn (holds area) day) k, h) (on-done _ _ (afterTurn e day) area out (turn-within (length out) e day (engine-in area e h .good) z));
-      }
+  module _ (k : firstOf (turnStops (length out) (holds area) day) ≡ 0) where
+    pub turn-there : There (holds area)
+    turn-there = there (holds area) (turn-engine (length out) (holds area) day k)
 
-  pub turn-there : firstOf (turnStops (length out) (holds area) day) ≡ 0 → Turns
-  turn-there k = let e : There (holds area) = there (holds area) (turn-engine (length out) (holds area) day k) in turn-done (e .value) (e .is) k
+    pub turn-from : (e : Engine) → holds area ≡ some e → Turns e
+    unfolding cardTurn turnCall acceptedTurn
+    turn-from e h =
+        let z : firstOf (turnStops (length out) (some e) day) ≡ 0 = rw h at k in
+        record {
+          clear = turn-clear (length out) e day z;
+          done = rw (answered-accepted _ (holds area) (acceptedTurn (holds area) day) k, h) (on-done _ _ (afterTurn e day) area out (turn-within (length out) e day (engine-in area e h .good) z));
+        }
 
   pub turn-ends : Ends (turnStops (length out) (holds area) day) (cardTurn day area out) area out
   unfolding cardTurn turnCall
   turn-ends = on-ends _ (holds area) _ area out
+
+  pub turn-accepted : (e : Engine) → holds area ≡ some e → cardTurn day area out .number ≡ 0 → Turns e
+  turn-accepted e h z = turn-from (turn-ends .accepted z) e h

@@ -6,7 +6,7 @@ use Prim.Native.Nat.{ℕ}
 use Prim.Native.String.{String}
 use lib.Dec.{eqb}
 use lib.ListN.{take}
-use Rattle.rules.specs.Text.{ascii, isDigit, isLetter, isAlnum, isText, every, run, equal, fitsSign, fits, readEach, any, twice, ordered, textBefore, digitsFrom, places, width, numberFrom, addedUp, over, passing}
+use Rattle.rules.specs.Text.{ascii, bigEndian, isDigit, isLetter, isAlnum, isText, every, run, equal, fitsSign, fits, readEach, any, twice, ordered, textBefore, digitsFrom, places, width, numberFrom, addedUp, over, passing}
 use Rattle.rules.specs.Dates.{leapRow, monthLength, exists, date}
 use Rattle.rules.specs.Amounts.{decimals, levs, amount, written}
 use Rattle.rules.specs.Accounts.{isBic, ibanShape, withSign, numeral, remainder, control, passes}
@@ -107,7 +107,7 @@ seen r =
       corrections = take (t .written) (t .output);
     }
 
--- ---- what is expected, from outside
+-- ---- what is expected
 
 -- the posting lines: of both transfers, of a detail of 4,00, and of the one that is returned
 abbrev pub cover1 : String
@@ -130,26 +130,11 @@ judged199 reference t d size = ascii "199,BNBGBGSD,AAAABGSF" ∷ (ascii ":20:060
 abbrev pub returned103 : String → List Line
 returned103 reference = ascii "103,BNBGBGSD,AAAABGSF" ∷ (ascii ":20:060302GA" ++ ascii reference) ∷ []
 
--- what the turn writes, the same in both
-abbrev pub turnLines : List String
-turnLines =
-    "060303,AAAABGSF,BG80BNBG96611020345678,50,AAAABGSF,060302"
-    ∷ "204,BNBGBGSD,AAAABGSF"
-    ∷ ":20:060303GA000001"
-    ∷ ":19:0,50"
-    ∷ ":30:060303"
-    ∷ ":58D:/BG80BNBG96611020345678"
-    ∷ "SMETKA ZA RAZPREDELENIE NA PREVODI"
-    ∷ ":20:060303GA000001"
-    ∷ ":32B:BGN0,50"
-    ∷ ":53A:AAAABGSF"
-    ∷ ":72:/BAEREF/060303000001"
-    ∷ "/RELREF/ERRCENTRB060302"
-    ∷ "//RAZLIKA OT CENTRALIZACIA NA BS"
-    ∷ "//SUMA PREZ RINGS 10.50"
-    ∷ "//SUMA PREZ BISERA 11.00"
-    ∷ "-"
-    ∷ []
+-- what the turn writes, the same in both: 0,50 are collected, and the MT204 has the number 000001
+abbrev pub corrected204 : List ℕ
+corrected204 =
+    lined ("060303,AAAABGSF,BG80BNBG96611020345678,50,AAAABGSF,060302" ∷ [])
+    ++ mt204 60303 (ascii "BG80BNBG96611020345678") 1 record { key = record { bank = bigEndian (ascii "AAAABGSF"); date = 60302 }; transferred = 1050; detailed = 1100 } 50
 
 -- in the order in which they were sent: T1 finds no details and has no MT199
 abbrev pub seenAsSent : Seen
@@ -158,7 +143,7 @@ seenAsSent = record {
   postings = map ascii (cover1 ∷ credit ∷ back ∷ cover2 ∷ credit ∷ []);
   marks = judged199 "000001" "10,00" "7,00" "3,00" ++ returned103 "000002" ++ judged199 "000003" "10,50" "7,00" "3,50" ++ judged199 "000004" "10,50" "11,00" "0,50";
   outgoing = 4;
-  corrections = lined turnLines;
+  corrections = corrected204;
 }
 
 -- and in the reverse: each message has an MT199, other sums stand in all but the last, and the return has another reference
@@ -173,7 +158,7 @@ seenTurnedRound = record {
       ++ returned103 "000004"
       ++ judged199 "000005" "10,50" "11,00" "0,50";
   outgoing = 5;
-  corrections = lined turnLines;
+  corrections = corrected204;
 }
 
 pub both-orders : map seen (asSent ∷ turnedRound ∷ []) ≡ seenAsSent ∷ seenTurnedRound ∷ []
