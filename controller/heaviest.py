@@ -11,6 +11,7 @@ MT103 of a return repeats. Where all details are returned, the card writes 16 po
   opened        the same with 31 positions; the message opens the one that stands before all others
   credited      as `returned`, with all details credited to the register's last account
   unframed      as `returned`, with a wrong end (1)
+  over          as `returned`, then a second large message for the same position, which its sum takes over the limit (15)
   turn          a turn of the full book with 32 corrections, after the large message
 
 In these days references and IBANs differ in their last characters only, and the wrong end is another closing line. The same days with `first-` in
@@ -101,10 +102,10 @@ class Kind:
         last = message.rindex("T\r\n") + 1
         return message[:last] + "T" * min(4096 - len(message), 15) + message[last:]
 
-    def book(self, dates, last):
-        """63 messages that open a position for each date with the largest amounts; the last position is left room."""
+    def book(self, dates, last, messages=63):
+        """Messages that open a position for each date with the largest amounts; the last position is left room."""
         firsts = [self.small(n, date, "0,01" if date == last else "999999999999,98") for n, date in enumerate(dates)]
-        more = [self.small(n, last, "0,01") for n in range(len(dates), 63)]
+        more = [self.small(n, last, "0,01") for n in range(len(dates), messages)]
         return self.opening() + "".join(map(command, firsts + more))
 
     def days(self):
@@ -117,6 +118,7 @@ class Kind:
             "opened": self.book(early, early[-1]) + command(self.large(LARGE, DAYS[0], "999999")),
             "credited": full + command(self.large(LARGE, late[-1], "500000")),
             "unframed": full + command(self.wrong_end(returned)),
+            "over": self.book(late, late[-1], 62) + command(self.large(LARGE - 1, late[-1], "999999")) + command(returned),
             "turn": full + command(returned) + "T," + TOMORROW + "\r\n",
         }
 

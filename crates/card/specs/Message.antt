@@ -12,7 +12,6 @@ use lib.Signed.{mag}
 use lib.ListN.{length, drop, replicate}
 use Rattle.rules.specs.Text.{isSome, over}
 use Rattle.rules.specs.Messages.{Message, read}
-use Rattle.rules.specs.Register.{registerOf}
 use Rattle.rules.specs.Engine.{Engine, Position}
 use Rattle.rules.specs.Calls.{firstOf, holdsOf, bankOf, addition, formStops, inputStops, limitStops, roomStops, stateStops, messageStops, messageText, messagesWritten, positionAfter, afterMessage, messageCall, bothOf, acceptedMessage}
 use Rattle.rules.specs.Area.{cardMessage, encode, decode, holds, areaSize}
@@ -29,13 +28,12 @@ use Rattle.engine_change.specs.Booking.{CanBook, booking-clear, bookedWith, boo
 use Rattle.engine.specs.References.{ofBank}
 use Rattle.outgoing_number.specs.declared.Numbered.{Numbered}
 use Rattle.details.specs.Message.{messageIn}
-use Rattle.details.specs.Kept.{DetailRoom}
 use Rattle.conditions.specs.Books.{Books}
-use Rattle.conditions.specs.Answers.{CheckedAs, Passes, refused-told, refused-some, passed-told}
+use Rattle.conditions.specs.Answers.{temporaryIn, CheckedAs, Passes, refused-told, refused-some, passed-told}
 use Rattle.conditions.specs.declared.booking.Booking.{Booking}
 use Rattle.conditions.specs.declared.message.Checked.{Checked}
 use Rattle.conditions.specs.declared.message.Checked.the-variants.{Refused}
-use Rattle.verdict.specs.Details.{VerdictsIn, JudgedIn}
+use Rattle.verdict.specs.Details.{JudgedIn, JudgingRoom}
 use Rattle.state_conditions.specs.Stops.{additionBy}
 use Rattle.detail_lines.specs.Returned.{ReturnedCount}
 use Rattle.message_text.specs.Message.{AfterOf, amount-part, after-is, DueFor, DueIn, due-told, TextPut}
@@ -45,10 +43,6 @@ use Rattle.position.specs.declared.Position as P
 use Rattle.card.specs.Answers.{Answers, answers-refused, answers-accepted}
 use Rattle.card.specs.Minus.{difference-small}
 use Rattle.card.specs.Measured.{wrote-exact, Measured, measured, size-long, size-fits}
-
--- the temporary account of an engine
-abbrev pub temporaryOf : Engine → List ℕ
-temporaryOf e = registerOf (e .register) .temporary
 
 module _ (s area out : List ℕ) where
   refusal : (k : ℕ) → firstOf (messageStops (length out) (holds area) s) ≡ k → eqb k 0 ≡ false → Answers (cardMessage s area out) k 0 (pos 0) area out
@@ -60,18 +54,18 @@ module _ (s area out : List ℕ) where
   message-engine h = refusal 10 (rw h refl) refl
 
   module _ (e : Engine) (h : holds area ≡ some e) where
-    stops-are : firstOf (messageStops (length out) (holds area) s) ≡ firstOf (inputStops (temporaryOf e) s ++ stateStops (length out) e (read s))
+    stops-are : firstOf (messageStops (length out) (holds area) s) ≡ firstOf (inputStops (temporaryIn (e .register)) s ++ stateStops (length out) e (read s))
     unfolding firstOf messageStops
     stops-are = rw h refl
 
-    inputs-numbered : numbered (inputStops (temporaryOf e) s) ≡ true
+    inputs-numbered : numbered (inputStops (temporaryIn (e .register)) s) ≡ true
     unfolding numbered inputStops formStops
     inputs-numbered = refl
 
-    pub message-input : (k : ℕ) → firstOf (inputStops (temporaryOf e) s) ≡ k → eqb k 0 ≡ false → Answers (cardMessage s area out) k 0 (pos 0) area out
+    pub message-input : (k : ℕ) → firstOf (inputStops (temporaryIn (e .register)) s) ≡ k → eqb k 0 ≡ false → Answers (cardMessage s area out) k 0 (pos 0) area out
     message-input k i n = refusal k (stops-are ∙ first-earlier _ _ k i n) n
 
-    module _ (m : Message) (i : firstOf (inputStops (temporaryOf e) s) ≡ 0) (r : read s ≡ some m) where
+    module _ (m : Message) (i : firstOf (inputStops (temporaryIn (e .register)) s) ≡ 0) (r : read s ≡ some m) where
       state-are : firstOf (messageStops (length out) (holds area) s) ≡ firstOf (limitStops e (some m) ++ roomStops (length out) e (some m))
       unfolding stateStops
       state-are = stops-are ∙ first-later _ _ inputs-numbered i ∙ rw r refl
@@ -134,21 +128,17 @@ leaves-told a s b k x y p q = record {
   detailed-small = omega (arith, q .detailed, y .detailed-small, amount-part (not (b .transfer)) (b .amount), k .small);
 }
 
--- the register's own text
-pub judged-told : (a s t : List ℕ) → RegisterOf a t → {verdicts : List ℕ} {n : ℕ} → VerdictsIn t s verdicts n → VerdictsIn (decode a .register) s verdicts n
-judged-told a s t r v = rw (r .same) at v
-
-module _ (s area : List ℕ) (h : isSome (holds area) ≡ true) (b : Booking) {amounts places : List ℕ} (k : Passes (temporaryOf (decode area)) s b amounts places) (p : P.Position) (q : Leaves area s p) (z : 0 ≡ firstOf (limitStops (decode area) (some (messageIn s)))) where
-  pub ready : {verdicts : List ℕ} → VerdictsIn (decode area .register) s verdicts (b .count) → {n : ℕ} → ReturnedCount verdicts (b .count) n → {due : Due} → DueFor b p n due → Ready s area b p due amounts places verdicts
-  ready {verdicts} v c w =
-      let j : JudgedIn (decode area .register) s amounts places verdicts (b .count) = record { lines-kept = k .lines-kept; amounts-kept = k .amounts-kept; verdicts-kept = v } in record {
-        engine = h;
-        books = k .books;
-        none-holds = z;
-        judged = j;
-        leaves = q;
-        dues = due-told area s b (k .books) p (q .same) amounts places verdicts j c w;
-      }
+module _ (s area : List ℕ) (h : isSome (holds area) ≡ true) (b : Booking) {amounts places verdicts : List ℕ} (k : Passes s (decode area .register) b amounts places verdicts) (p : P.Position) (q : Leaves area s p)
+    (z : 0 ≡ firstOf (limitStops (decode area) (some (messageIn s)))) where
+  pub ready : {n : ℕ} → ReturnedCount verdicts (b .count) n → {due : Due} → DueFor b p n due → Ready s area b p due amounts places verdicts
+  ready c w = record {
+    engine = h;
+    books = k .books;
+    none-holds = z;
+    judged = k .judged;
+    leaves = q;
+    dues = due-told area s b (k .books) p (q .same) amounts places verdicts (k .judged) c w;
+  }
 
 module _ (s area : List ℕ) (h : isSome (holds area) ≡ true) where
   engine : holds area ≡ some (decode area)
@@ -186,7 +176,7 @@ sent-done {s} {area} {b} {p} m l w e c = record {
 
 -- ---- the ways out of a message that passed 1 to 8
 
-module _ (s area : List ℕ) (h : isSome (holds area) ≡ true) (b : Booking) {amounts places : List ℕ} (k : Passes (temporaryOf (decode area)) s b amounts places) (out : List ℕ) where
+module _ (s area : List ℕ) (h : isSome (holds area) ≡ true) (b : Booking) {amounts places verdicts : List ℕ} (k : Passes s (decode area .register) b amounts places verdicts) (out : List ℕ) where
   pub sent-state : (n : ℕ) → n ≡ firstOf (limitStops (decode area) (some (messageIn s))) → 0 < n → Answers (cardMessage s area out) n 0 (pos 0) area out
   sent-state n e p = message-state s area out (decode area) (holds-decode area h) (messageIn s) (k .none-holds) (k .read) n (sym e) (ne-eqb n 0 (λ z. omega arith))
 
@@ -208,20 +198,20 @@ text-fits out w m f = size-fits w (length out) m f
 
 -- ---- the ways out of a message to an area that holds an engine
 
--- by the engine's temporary account
-pub check-told : (s area t : List ℕ) (r : Checked) {amounts places : List ℕ} → t ≡ temporaryOf (decode area) → CheckedAs t s r amounts places → CheckedAs (temporaryOf (decode area)) s r amounts places
-check-told s area t r e c = rw e at c
+-- by the engine's register
+pub check-told : (s area g : List ℕ) (r : Checked) {amounts places verdicts : List ℕ} → RegisterOf area g → CheckedAs s g r amounts places verdicts → CheckedAs s (decode area .register) r amounts places verdicts
+check-told s area g r f c = rw (f .same) at c
 
-pub checked-refused : (s area : List ℕ) → isSome (holds area) ≡ true → (r : Checked) {amounts places : List ℕ} → CheckedAs (temporaryOf (decode area)) s r amounts places → (out : List ℕ) (k : ℕ) → r ≡ Refused k → Answers (cardMessage s area out) k 0 (pos 0) area out
-checked-refused s area h r {amounts} {places} c out k e =
-    message-input s area out (decode area) (holds-decode area h) k (sym (refused-told _ s r amounts places c k e)) (ne-eqb k 0 (λ z. omega (arith, refused-some _ s r amounts places c k e)))
+pub checked-refused : (s area : List ℕ) → isSome (holds area) ≡ true → (r : Checked) {amounts places verdicts : List ℕ} → CheckedAs s (decode area .register) r amounts places verdicts → (out : List ℕ) (k : ℕ) → r ≡ Refused k → Answers (cardMessage s area out) k 0 (pos 0) area out
+checked-refused s area h r {amounts} {places} {verdicts} c out k e =
+    message-input s area out (decode area) (holds-decode area h) k (sym (refused-told s _ r amounts places verdicts c k e)) (ne-eqb k 0 (λ z. omega (arith, refused-some s _ r amounts places verdicts c k e)))
 
--- room for 16 details
-pub room-made : DetailRoom (replicate 16 0) (replicate 128 0)
-room-made = record { amounts-size = refl; places-size = refl }
+-- its register, and room for 16 details
+pub room-made : (area g : List ℕ) → RegisterOf area g → JudgingRoom g (replicate 16 0) (replicate 128 0) (replicate 16 0)
+room-made area g r = record { passes = r .passes; details = record { amounts-size = refl; places-size = refl }; size = refl }
 
 -- 10
 pub message-no-engine : (s area out : List ℕ) (t : Bool) → t ≡ isSome (holds area) → t ≡ false → Answers (cardMessage s area out) 10 0 (pos 0) area out
 message-no-engine s area out t u d = message-engine s area out (sym u ∙ d)
 
-pub ruleset sending = (holds-told, measured, judged-told, leaves-told, ready, booking-of, booked-done, sent-done, sent-state, sent-made, state-none, text-fits, room-made, check-told, checked-refused, passed-told, message-no-engine)
+pub ruleset sending = (holds-told, measured, leaves-told, ready, booking-of, booked-done, sent-done, sent-state, sent-made, state-none, text-fits, room-made, check-told, checked-refused, passed-told, message-no-engine)

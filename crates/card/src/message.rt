@@ -13,37 +13,11 @@ ghost use Rattle.rules.specs.Text.{isSome};
 ghost use Rattle.rules.specs.Calls.{firstOf, limitStops, messageText, messagesWritten};
 ghost use Rattle.rules.specs.Area.{holds, decode, cardMessage};
 ghost use Rattle.details.specs.Message.{messageIn};
-ghost use Rattle.details.specs.Kept.{DetailRoom, LinesIn};
-ghost use Rattle.conditions.specs.Answers.{CheckedAs, Passes};
+ghost use Rattle.conditions.specs.Answers.{Passes};
 ghost use Rattle.conditions.specs.Books.{Books};
-ghost use Rattle.verdict.specs.Details.{VerdictsIn};
 ghost use Rattle.card.specs.Answers.{Answers};
 ghost use Rattle.card.specs.Measured.{Measured};
-ghost use Rattle.card.specs.Message.{Sent, AreaBooked, Leaves, Ready, temporaryOf};
-
-// 1 to 8, with the temporary account of the engine that the area holds.
-fn check_in(
-    message: &[u8],
-    area: &[u8],
-    amounts: &mut [u64; 16],
-    places: &mut [u16; 128],
-) -> Checked
-    requires { ⌜ isSome (holds (now area)) ≡ true ⌝ }
-    requires { ⌜ DetailRoom (now amounts) (now places) ⌝ }
-    ensures { λ r. ⌜ CheckedAs (temporaryOf (decode (now (area .entry)))) (now (message .entry)) r (now (amounts .exit)) (now (places .exit)) ⌝ }
-{
-    conditions::check_message(message, engine::temporary(area), amounts, places)
-}
-
-// The verdicts of the message's n details, by the register of the engine that the area holds.
-fn judge_in(message: &[u8], area: &[u8], places: &[u16; 128], n: u32, verdicts: &mut [u8; 16])
-    requires { ⌜ isSome (holds (now area)) ≡ true ⌝ }
-    requires { ⌜ LinesIn (now message) (now places) n ⌝ }
-    requires { ⌜ length (now verdicts) ≡ 16 ⌝ }
-    ensures { λ _. ⌜ VerdictsIn (decode (now (area .entry)) .register) (now (message .entry)) (now (verdicts .exit)) n ⌝ }
-{
-    verdict::judge_details(engine::register_text(area), message, places, n, verdicts);
-}
+ghost use Rattle.card.specs.Message.{Sent, AreaBooked, Leaves, Ready};
 
 // How many bytes the message makes the card write.
 fn message_size(
@@ -134,6 +108,7 @@ fn send_message(
     message: &[u8],
     amounts: &[u64; 16],
     places: &[u16; 128],
+    verdicts: &[u8; 16],
     b: Booking,
     p: Position,
     area: &mut [u8],
@@ -142,18 +117,16 @@ fn send_message(
     difference: &mut i64,
 ) -> u32
     requires { ⌜ isSome (holds (now area)) ≡ true ⌝ }
-    requires { ⌜ Passes (temporaryOf (decode (now area))) (now message) b (now amounts) (now places) ⌝ }
+    requires { ⌜ Passes (now message) (decode (now area) .register) b (now amounts) (now places) (now verdicts) ⌝ }
     requires { ⌜ 0 ≡ firstOf (limitStops (decode (now area)) (some (messageIn (now message)))) ⌝ }
     requires { ⌜ Leaves (now area) (now message) p ⌝ }
     ensures { λ r. ⌜ Answers (cardMessage (now (message .entry)) (now (area .entry)) (now (output .entry))) r (now (written .exit)) (now (difference .exit)) (now (area .exit)) (now (output .exit)) ⌝ }
 {
     *written = 0;
     *difference = 0;
-    let n = b.count as u32;
-    let mut verdicts = [0u8; 16];
-    judge_in(message, area, places, n, &mut verdicts);
-    let due = message_text::due_for(b, p, detail_lines::count_returned(&verdicts, n));
-    let size = message_size(message, amounts, places, &verdicts, area, b, p, due);
+    let returned = detail_lines::count_returned(verdicts, b.count as u32);
+    let due = message_text::due_for(b, p, returned);
+    let size = message_size(message, amounts, places, verdicts, area, b, p, due);
     if output.len() < size {
         return 16;
     }
@@ -161,7 +134,7 @@ fn send_message(
         message,
         amounts,
         places,
-        &verdicts,
+        verdicts,
         b,
         p,
         due,
@@ -178,6 +151,7 @@ fn book_message(
     message: &[u8],
     amounts: &[u64; 16],
     places: &[u16; 128],
+    verdicts: &[u8; 16],
     b: Booking,
     area: &mut [u8],
     output: &mut [u8],
@@ -185,7 +159,7 @@ fn book_message(
     difference: &mut i64,
 ) -> u32
     requires { ⌜ isSome (holds (now area)) ≡ true ⌝ }
-    requires { ⌜ Passes (temporaryOf (decode (now area))) (now message) b (now amounts) (now places) ⌝ }
+    requires { ⌜ Passes (now message) (decode (now area) .register) b (now amounts) (now places) (now verdicts) ⌝ }
     ensures { λ r. ⌜ Answers (cardMessage (now (message .entry)) (now (area .entry)) (now (output .entry))) r (now (written .exit)) (now (difference .exit)) (now (area .exit)) (now (output .exit)) ⌝ }
 {
     *written = 0;
@@ -200,6 +174,7 @@ fn book_message(
         message,
         amounts,
         places,
+        verdicts,
         b,
         p,
         area,
@@ -222,7 +197,14 @@ fn message_engine(
 {
     let mut amounts = [0u64; 16];
     let mut places = [0u16; 128];
-    match check_in(message, area, &mut amounts, &mut places) {
+    let mut verdicts = [0u8; 16];
+    match conditions::check_message(
+        message,
+        engine::register_text(area),
+        &mut amounts,
+        &mut places,
+        &mut verdicts,
+    ) {
         Checked::Refused(k) => {
             *written = 0;
             *difference = 0;
@@ -232,6 +214,7 @@ fn message_engine(
             message,
             &amounts,
             &places,
+            &verdicts,
             b,
             area,
             output,

@@ -3,11 +3,13 @@ use mathlib.Core.Path.{_≡_, sym, ap, _∙_, subst}
 use mathlib.Core.List.{List}
 use mathlib.Core.Option.{Option, some}
 use Prim.Native.Nat.{ℕ, _≤_, _<_}
-use lib.ListN.{length, getD}
+use lib.ListN.{length}
 use Rattle.rules.specs.Messages.{Message, read, detailsOf}
+use Rattle.rules.specs.Register.{registerOf}
 use Rattle.rules.specs.Calls.{formStops, firstOf, inputStops}
 use Rattle.details.specs.Message.{orNone, messageIn, detailAt}
-use Rattle.details.specs.Kept.{LinesAs, AmountsIn, LinesIn}
+use Rattle.details.specs.Kept.{LinesAs, amountAt}
+use Rattle.verdict.specs.Details.{verdictAt, JudgedIn}
 use Rattle.conditions.specs.Books.{Books}
 use Rattle.conditions.specs.declared.booking.Booking.{Booking}
 use Rattle.conditions.specs.declared.message.Checked.{Checked}
@@ -18,60 +20,67 @@ abbrev pub numberOf : Checked → ℕ
 numberOf (Refused k) = k
 numberOf (Passed b) = 0
 
--- b books what was read, and its details are kept
-pub record Reads (s : List ℕ) (o : Option Message) (b : Booking) (amounts places : List ℕ) : Type 0 where
+-- b books what was read, and its details are kept, judged by a register's text
+pub record Reads (s text : List ℕ) (o : Option Message) (b : Booking) (amounts places verdicts : List ℕ) : Type 0 where
   pub message : Message
   pub same : o ≡ some message
   pub books : Books s message b
   pub count : b .count ≡ length (detailsOf message)
   pub few : b .count ≤ 16
-  pub amounts-are : (i : ℕ) → i < b .count → getD amounts i 0 ≡ detailAt (detailsOf message) i .amount
+  pub amounts-are : (i : ℕ) → i < b .count → amountAt amounts (detailAt (detailsOf message) i) i
   pub lines-are : (i : ℕ) → i < b .count → LinesAs s (detailAt (detailsOf message) i) places i
+  pub verdicts-are : (i : ℕ) → i < b .count → verdictAt text verdicts (detailAt (detailsOf message) i) i
 
-abbrev pub Parts : List ℕ → Option Message → List ℕ → List ℕ → Checked → Type 0
-Parts s o amounts places (Refused k) = 0 < k
-Parts s o amounts places (Passed b) = Reads s o b amounts places
+abbrev pub Parts : List ℕ → List ℕ → Option Message → List ℕ → List ℕ → List ℕ → Checked → Type 0
+Parts s text o amounts places verdicts (Refused k) = 0 < k
+Parts s text o amounts places verdicts (Passed b) = Reads s text o b amounts places verdicts
 
 -- r answers 3 to 8 of what was read, and has its parts
-pub record CheckedBy (temporary s : List ℕ) (o : Option Message) (r : Checked) (amounts places : List ℕ) : Type 0 where
+pub record CheckedBy (temporary s text : List ℕ) (o : Option Message) (r : Checked) (amounts places verdicts : List ℕ) : Type 0 where
   pub number : numberOf r ≡ firstOf (formStops temporary o)
-  pub parts : Parts s o amounts places r
+  pub parts : Parts s text o amounts places verdicts r
+
+-- the temporary account of a register's text
+abbrev pub temporaryIn : List ℕ → List ℕ
+temporaryIn text = registerOf text .temporary
 
 -- r answers 1 to 8 of the message's bytes, and has its parts
-pub record CheckedAs (temporary s : List ℕ) (r : Checked) (amounts places : List ℕ) : Type 0 where
-  pub number : numberOf r ≡ firstOf (inputStops temporary s)
-  pub parts : Parts s (read s) amounts places r
+pub record CheckedAs (s text : List ℕ) (r : Checked) (amounts places verdicts : List ℕ) : Type 0 where
+  pub number : numberOf r ≡ firstOf (inputStops (temporaryIn text) s)
+  pub parts : Parts s text (read s) amounts places verdicts r
 
 -- ---- by the case that a match found
 
--- the message of the bytes passed 1 to 8; b books it, and its details are kept
-pub record Passes (temporary s : List ℕ) (b : Booking) (amounts places : List ℕ) : Type 0 where
-  pub none-holds : firstOf (inputStops temporary s) ≡ 0
+-- the message of the bytes passed 1 to 8; b books it, and its details are kept and judged
+pub record Passes (s text : List ℕ) (b : Booking) (amounts places verdicts : List ℕ) : Type 0 where
+  pub none-holds : firstOf (inputStops (temporaryIn text) s) ≡ 0
   pub read : read s ≡ some (messageIn s)
   pub books : Books s (messageIn s) b
-  pub amounts-kept : AmountsIn s amounts (b .count)
-  pub lines-kept : LinesIn s places (b .count)
+  pub judged : JudgedIn text s amounts places verdicts (b .count)
 
 message-is : (s : List ℕ) (m : Message) → read s ≡ some m → messageIn s ≡ m
 unfolding messageIn orNone
 message-is s m e = rw e
 
-reads-told : (temporary s : List ℕ) (b : Booking) (amounts places : List ℕ) → firstOf (inputStops temporary s) ≡ 0 → Reads s (read s) b amounts places → Passes temporary s b amounts places
-reads-told temporary s b amounts places z p =
+reads-told : (s text : List ℕ) (b : Booking) (amounts places verdicts : List ℕ) → firstOf (inputStops (temporaryIn text) s) ≡ 0 → Reads s text (read s) b amounts places verdicts → Passes s text b amounts places verdicts
+reads-told s text b amounts places verdicts z p =
     let e : messageIn s ≡ p .message = message-is s (p .message) (p .same) in record {
       none-holds = z;
       read = rw e (p .same);
       books = rw e (p .books);
-      amounts-kept = record { each = rw e (p .amounts-are) };
-      lines-kept = record { count = rw e (p .count); few = p .few; each = rw e (p .lines-are) };
+      judged = record {
+        lines-kept = record { count = rw e (p .count); few = p .few; each = rw e (p .lines-are) };
+        amounts-kept = record { each = rw e (p .amounts-are) };
+        verdicts-kept = record { each = rw e (p .verdicts-are) };
+      };
     }
 
-module _ (temporary s : List ℕ) (r : Checked) (amounts places : List ℕ) (h : CheckedAs temporary s r amounts places) where
-  pub refused-told : (k : ℕ) → r ≡ Refused k → k ≡ firstOf (inputStops temporary s)
+module _ (s text : List ℕ) (r : Checked) (amounts places verdicts : List ℕ) (h : CheckedAs s text r amounts places verdicts) where
+  pub refused-told : (k : ℕ) → r ≡ Refused k → k ≡ firstOf (inputStops (temporaryIn text) s)
   refused-told k e = sym (ap numberOf e) ∙ h .number
 
   pub refused-some : (k : ℕ) → r ≡ Refused k → 0 < k
-  refused-some k e = subst (Parts s (read s) amounts places) e (h .parts)
+  refused-some k e = subst (Parts s text (read s) amounts places verdicts) e (h .parts)
 
-  pub passed-told : (b : Booking) → r ≡ Passed b → Passes temporary s b amounts places
-  passed-told b e = reads-told temporary s b amounts places (sym (h .number) ∙ ap numberOf e) (subst (Parts s (read s) amounts places) e (h .parts))
+  pub passed-told : (b : Booking) → r ≡ Passed b → Passes s text b amounts places verdicts
+  passed-told b e = reads-told s text b amounts places verdicts (sym (h .number) ∙ ap numberOf e) (subst (Parts s text (read s) amounts places verdicts) e (h .parts))

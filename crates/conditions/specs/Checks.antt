@@ -3,18 +3,17 @@ use mathlib.Core.Path.{_≡_, refl, sym, ap, _∙_, subst}
 use mathlib.Core.Bool.{Bool, true, false, _&&_, and-true, and-false}
 use mathlib.Core.List.{List}
 use mathlib.Core.Option.{Option, none, some}
-use Prim.Native.Nat.{ℕ, _≤_, _<_}
+use Prim.Native.Nat.{ℕ, _-_, _≤_, _<_}
 use native.Mathlib.Omega.{arith}
 use lib.Dec.{leb}
-use lib.ListN.{length, getD, take, length-take}
-use lib.Seq.{take-all}
+use lib.ListN.{length, getD, take, drop, length-take}
 use borrow.Author.Tests.{leb-true}
 use Rattle.rules.specs.Text.{ascii, equal, then, twice}
 use Rattle.rules.specs.Lines.{Line, lines, inLines, hasFirstLine, framed, type, sender, receiver, body}
 use Rattle.rules.specs.Forms.{takeRows, orderRows, message20}
 use Rattle.rules.specs.Engine.{slashed}
 use Rattle.rules.specs.Messages as M
-use Rattle.rules.specs.Messages.{Message, mt103, mt101, field20, detailsOf, referenceOf, dateOf, firstDate, sumOfAmounts, readTransfer, readOrder, read, past}
+use Rattle.rules.specs.Messages.{Message, mt103, mt101, field20, detailsOf, referenceOf, dateOf, firstDate, readTransfer, readOrder, read, past}
 use Rattle.rules.specs.Calls.{formStops, firstOf, addressed, inputStops}
 use Rattle.laws.specs.Parts.{cut, cut-all, from, from-take}
 use Rattle.laws.specs.Tests.{and-left, and-right, answer-is, answer-not}
@@ -29,13 +28,15 @@ use Rattle.forms.specs.declared.rows.Span.{Span}
 use Rattle.forms.specs.declared.rows.Rows.{Rows}
 use Rattle.forms.specs.declared.transfer.Transfer as T
 use Rattle.rule_laws.specs.Lines.{body-from}
+use Rattle.register.specs.Passed.{text-first, temporary-at}
+use Rattle.verdict.specs.Details.{JudgingRoom}
 use Rattle.field_conditions.specs.Stops.{transferStop, transfer-stops}
 use Rattle.conditions.specs.Walk.{FieldsIn, fieldsFrom, alike, named-twice}
 use Rattle.conditions.specs.Lowest.{lowestAny}
 use Rattle.conditions.specs.Tally.{TallyTold, DetailsTallied, TallyAt, told-fields}
 use Rattle.conditions.specs.Order.{orderStop, order-stops, order-many, order-few}
 use Rattle.conditions.specs.Books.{date-six, transfer-books, order-books, bookingOf}
-use Rattle.conditions.specs.Answers.{Parts, CheckedBy, CheckedAs}
+use Rattle.conditions.specs.Answers.{Parts, temporaryIn, CheckedBy, CheckedAs}
 use Rattle.conditions.specs.declared.booking.Booking.{Booking}
 use Rattle.conditions.specs.declared.tally.Tally.{Tally}
 use Rattle.conditions.specs.declared.message.Checked.{Checked}
@@ -46,8 +47,8 @@ unread : (temporary : List ℕ) → firstOf (formStops temporary none) ≡ 3
 unfolding formStops firstOf
 unread temporary = refl
 
-formless : (temporary s : List ℕ) (o : Option Message) {amounts places : List ℕ} → o ≡ none → CheckedBy temporary s o (Refused 3) amounts places
-formless temporary s o e = record { number = rw e (sym (unread temporary)); parts = omega arith }
+formless : (temporary s text : List ℕ) (o : Option Message) {amounts places verdicts : List ℕ} → o ≡ none → CheckedBy temporary s text o (Refused 3) amounts places verdicts
+formless temporary s text o e = record { number = rw e (sym (unread temporary)); parts = omega arith }
 
 -- field 20, behind its line's first four bytes
 field-20 : (s : List ℕ) (l : List Span) (n : ℕ) (q : Span) → message20 < n → SpanIn s (getD l message20 noSpan) → Behind (getD l message20 noSpan) 4 q → spanOf s q ≡ field20 (linesAt s l n)
@@ -57,11 +58,11 @@ field-20 s l n q h w b = rw (span-line s l n message20 h) (behind-bytes s _ 4 w 
 
 -- r answers of an MT103, whatever is kept: it has no details
 pub record TransferChecked (temporary s : List ℕ) (r : Checked) : Type 0 where
-  pub with : (amounts places : List ℕ) → CheckedBy temporary s (readTransfer s) r amounts places
+  pub with : (text amounts places verdicts : List ℕ) → CheckedBy temporary s text (readTransfer s) r amounts places verdicts
 
 module _ (s temporary : List ℕ) (t : T.Transfer) (w : TransferIn s t) where
   pub transfer-formless : t .ok ≡ false → TransferChecked temporary s (Refused 3)
-  transfer-formless h = record { with = λ amounts places. formless temporary s (readTransfer s) (answer-not _ _ _ (w .same) h) }
+  transfer-formless h = record { with = λ text amounts places verdicts. formless temporary s text (readTransfer s) (answer-not _ _ _ (w .same) h) }
 
   module _ (h : t .ok ≡ true) where
     transfer-read : readTransfer s ≡ some (mt103 (transferIn s t))
@@ -79,14 +80,14 @@ module _ (s temporary : List ℕ) (t : T.Transfer) (w : TransferIn s t) where
       transfer-number = rw transfer-read (u ∙ transfer-stops s temporary t)
 
       pub transfer-stopped : (k ≡ 0 → ⊥) → TransferChecked temporary s (Refused k)
-      transfer-stopped z = record { with = λ amounts places. record { number = transfer-number; parts = omega arith } }
+      transfer-stopped z = record { with = λ text amounts places verdicts. record { number = transfer-number; parts = omega arith } }
 
       pub transfer-good : k ≡ 0 → (q : Span) → Behind (getD (t .spans) message20 noSpan) 4 q → (b : Booking)
           → b ≡ bookingOf s true q (t .date) (t .amount) 0 → TransferChecked temporary s (Passed b)
       unfolding referenceOf detailsOf
       transfer-good z q d b e =
           let f : SpanIn s (getD (t .spans) message20 noSpan) = within-at s (t .spans) message20 (w .within) in record {
-            with = λ amounts places. record {
+            with = λ text amounts places verdicts. record {
               number = sym z ∙ transfer-number;
               parts = record {
                 message = mt103 (transferIn s t);
@@ -96,6 +97,7 @@ module _ (s temporary : List ℕ) (t : T.Transfer) (w : TransferIn s t) where
                 few = rw e (omega arith);
                 amounts-are = λ i l. absurd (let n : i < 0 = rw e at l in omega arith);
                 lines-are = λ i l. absurd (let n : i < 0 = rw e at l in omega arith);
+                verdicts-are = λ i l. absurd (let n : i < 0 = rw e at l in omega arith);
               };
             };
           }
@@ -103,8 +105,8 @@ module _ (s temporary : List ℕ) (t : T.Transfer) (w : TransferIn s t) where
 -- ---- an MT101
 
 -- r answers of an MT101, whatever the temporary account is
-pub record OrderChecked (s : List ℕ) (r : Checked) (amounts places : List ℕ) : Type 0 where
-  pub with : (temporary : List ℕ) → CheckedBy temporary s (readOrder s) r amounts places
+pub record OrderChecked (s text : List ℕ) (r : Checked) (amounts places verdicts : List ℕ) : Type 0 where
+  pub with : (temporary : List ℕ) → CheckedBy temporary s text (readOrder s) r amounts places verdicts
 
 order-rows : part 0 1 ≡ orderRows
 unfolding part table
@@ -115,34 +117,34 @@ all-stops : (temporary bank : List ℕ) (rows : List Line) (ds : List M.Detail) 
     → orderStop n b low t ≡ firstOf (formStops temporary (some (mt101 record { sender = bank; rows = rows; details = ds })))
 all-stops temporary bank rows ds n low b t e f g h = rw (e, f, g) (order-many (length ds) (slashed (field20 rows)) (lowestAny bank (firstDate ds) ds) t (twice alike ds) h ∙ order-stops temporary bank rows ds)
 
-module _ (s : List ℕ) (rows : Rows) (w : RowsAt s 23 0 1 rows) where
-  pub order-rowless : {amounts places : List ℕ} → rows .ok ≡ false → OrderChecked s (Refused 3) amounts places
+module _ (s text : List ℕ) (rows : Rows) (w : RowsAt s 23 0 1 rows) where
+  pub order-rowless : {amounts places verdicts : List ℕ} → rows .ok ≡ false → OrderChecked s text (Refused 3) amounts places verdicts
   unfolding readOrder
-  order-rowless h = let e : none ≡ takeRows orderRows (body s) = rw (h, order-rows, body-from) at (w .same) in record { with = λ u. formless u s (readOrder s) (rw (← e)) }
+  order-rowless h = let e : none ≡ takeRows orderRows (body s) = rw (h, order-rows, body-from) at (w .same) in record { with = λ u. formless u s text (readOrder s) (rw (← e)) }
 
   -- the message of some details
   abbrev order : List M.Detail → M.Order
   order ds = record { sender = sender s; rows = linesAt s (rows .spans) 1; details = ds }
 
-  module _ (h : rows .ok ≡ true) (t : Tally) {amounts places fields : List ℕ} (v : TallyAt s (rows .next) t amounts places fields) where
+  module _ (h : rows .ok ≡ true) (t : Tally) {amounts places verdicts fields : List ℕ} (v : TallyAt s text (rows .next) t amounts places verdicts fields) where
     order-read : readOrder s ≡ then (M.details 4096 (from s (rows .next))) (λ ds. some (mt101 (order ds)))
     unfolding readOrder
     order-read =
         let e : some record { rows = linesAt s (rows .spans) 1; others = from s (rows .next) } ≡ takeRows orderRows (body s) = rw (h, order-rows, body-from) at (w .same) in
         rw (← e)
 
-    pub order-formless : t .ok ≡ false → OrderChecked s (Refused 3) amounts places
-    order-formless k = record { with = λ u. formless u s (readOrder s) (order-read ∙ (rw (v .none-there k))) }
+    pub order-formless : t .ok ≡ false → OrderChecked s text (Refused 3) amounts places verdicts
+    order-formless k = record { with = λ u. formless u s text (readOrder s) (order-read ∙ (rw (v .none-there k))) }
 
     module _ (k : t .ok ≡ true) where
-      abbrev all : DetailsTallied s (rows .next) t amounts places fields
+      abbrev all : DetailsTallied s text (rows .next) t amounts places verdicts fields
       all = v .all-there k
 
-      abbrev its : TallyTold s (all .all) t amounts places fields
+      abbrev its : TallyTold s text (all .all) t amounts places verdicts fields
       its = all .told
 
       pub order-fields : FieldsIn s fields (t .count)
-      order-fields = told-fields s (rows .next) t amounts places fields v k
+      order-fields = told-fields s text (rows .next) t amounts places verdicts fields v k
 
       is-order : readOrder s ≡ some (mt101 (order (all .all)))
       is-order = order-read ∙ (rw (all .read))
@@ -159,32 +161,32 @@ module _ (s : List ℕ) (rows : Rows) (w : RowsAt s 23 0 1 rows) where
         order-number temporary =
             u
             ∙ all-stops temporary (sender s) (linesAt s (rows .spans) 1) (all .all) (t .count) (t .low) (slashed (past ":20:" (spanOf s (getD (rows .spans) message20 noSpan)))) (twice equal (fieldsFrom s fields 0 (t .count))) (its .count) (its .low) (rw (span-line s (rows .spans) 1 message20 (omega arith)))
-            (λ l. ap (λ (n : ℕ). twice equal (fieldsFrom s fields 0 n)) (its .count) ∙ named-twice s (all .all) fields (its .named) l)
+            (λ l. ap (λ (n : ℕ). twice equal (fieldsFrom s fields 0 n)) (its .count) ∙ named-twice s (all .all) fields (its .first .named) l)
             ∙ ap (λ (o : Option Message). firstOf (formStops temporary o)) (sym is-order)
 
-        pub order-stopped : (c ≡ 0 → ⊥) → OrderChecked s (Refused c) amounts places
+        pub order-stopped : (c ≡ 0 → ⊥) → OrderChecked s text (Refused c) amounts places verdicts
         order-stopped z = record { with = λ temporary. record { number = order-number temporary; parts = omega arith } }
 
         pub order-count : c ≡ 0 → t .count ≤ 16
         order-count z = order-few (t .count) (slashed (past ":20:" (spanOf s (getD (rows .spans) message20 noSpan)))) (t .low) (twice equal (fieldsFrom s fields 0 (t .count))) (sym u ∙ z)
 
         pub order-good : c ≡ 0 → (q : Span) → Behind (getD (rows .spans) message20 noSpan) 4 q → (b : Booking)
-            → b ≡ bookingOf s false q (t .date) (t .sum) (t .count) → OrderChecked s (Passed b) amounts places
+            → b ≡ bookingOf s false q (t .date) (t .sum) (t .count) → OrderChecked s text (Passed b) amounts places verdicts
         unfolding referenceOf detailsOf
         order-good z q d b e =
             let few : t .count ≤ 16 = order-count z in
-            let f : SpanIn s (getD (rows .spans) message20 noSpan) = within-at s (rows .spans) message20 (w .within) in
-            let sum : t .sum ≡ sumOfAmounts (all .all) = its .sum ∙ ap sumOfAmounts (take-all 16 (all .all) (rw (← its .count) few)) in record {
+            let f : SpanIn s (getD (rows .spans) message20 noSpan) = within-at s (rows .spans) message20 (w .within) in record {
               with = λ temporary. record {
                 number = sym z ∙ order-number temporary;
                 parts = record {
                   message = mt101 (order (all .all));
                   same = is-order;
-                  books = rw e (order-books s (order (all .all)) order-its q (behind-in s _ 4 f q d) (field-20 s (rows .spans) 1 q (omega arith) f d) (its .date) sum (omega (arith, its .bound)));
+                  books = rw e (order-books s (order (all .all)) order-its q (behind-in s _ 4 f q d) (field-20 s (rows .spans) 1 q (omega arith) f d) (its .date) (its .sum) (omega (arith, its .bound)));
                   count = rw e (its .count);
                   few = rw e few;
-                  amounts-are = λ i l. (let n : i < t .count = rw e at l in its .kept .amounts-are i (rw (← its .count) n) (omega arith));
-                  lines-are = λ i l. (let n : i < t .count = rw e at l in its .kept .lines-are i (rw (← its .count) n) (omega arith));
+                  amounts-are = λ i l. (let n : i < t .count = rw e at l in its .first .kept .amounts-are .each i (rw (← its .count) n) (omega arith));
+                  lines-are = λ i l. (let n : i < t .count = rw e at l in its .first .kept .lines-are .each i (rw (← its .count) n) (omega arith));
+                  verdicts-are = λ i l. (let n : i < t .count = rw e at l in its .first .judged .each .each i (rw (← its .count) n) (omega arith));
                 };
               };
             }
@@ -236,34 +238,46 @@ module _ (s : List ℕ) (b : Bool) (u : b ≡ equal (cut s 13 21) (cut (ascii "B
 
 -- ---- the whole message
 
-module _ (temporary s : List ℕ) (b : Bool) (u : b ≡ framed s) where
-  pub message-unframed : b ≡ false → {amounts places : List ℕ} → CheckedAs temporary s (Refused 1) amounts places
+-- the temporary account stands in front of a register that passes
+module _ (text : List ℕ) {amounts places verdicts : List ℕ} (r : JudgingRoom text amounts places verdicts) where
+  pub temporary-room : 22 ≤ length text
+  temporary-room = omega (arith, text-first text (r .passes))
+
+  front-is : (t : List ℕ) → t ≡ take (22 - 0) (drop 0 text) → t ≡ temporaryIn text
+  unfolding cut
+  front-is t e = e ∙ sym (temporary-at text (r .passes))
+
+  pub transfer-front : (t s : List ℕ) (c : Checked) → t ≡ take (22 - 0) (drop 0 text) → TransferChecked t s c → TransferChecked (temporaryIn text) s c
+  transfer-front t s c e j = rw (front-is t e) at j
+
+module _ (s text : List ℕ) (b : Bool) (u : b ≡ framed s) where
+  pub message-unframed : b ≡ false → {amounts places verdicts : List ℕ} → CheckedAs s text (Refused 1) amounts places verdicts
   unfolding inputStops firstOf
   message-unframed h = record { number = rw (← u, h); parts = omega arith }
 
   module _ (h : b ≡ true) (c : Bool) (v : c ≡ addressed s) where
-    pub message-unaddressed : c ≡ false → {amounts places : List ℕ} → CheckedAs temporary s (Refused 2) amounts places
+    pub message-unaddressed : c ≡ false → {amounts places verdicts : List ℕ} → CheckedAs s text (Refused 2) amounts places verdicts
     unfolding inputStops firstOf
     message-unaddressed k = record { number = rw (← u, h, ← v, k); parts = omega arith }
 
     module _ (k : c ≡ true) where
-      form-stops : firstOf (formStops temporary (read s)) ≡ firstOf (inputStops temporary s)
+      form-stops : firstOf (formStops (temporaryIn text) (read s)) ≡ firstOf (inputStops (temporaryIn text) s)
       unfolding inputStops formStops firstOf
       form-stops = rw (← u, h, ← v, k)
 
-      module _ (q : Bool) (w : q ≡ equal (type s) (ascii "103")) (r : Checked) {amounts places : List ℕ} where
-        as-read : (o : Option Message) → o ≡ read s → CheckedBy temporary s o r amounts places → CheckedAs temporary s r amounts places
+      module _ (q : Bool) (w : q ≡ equal (type s) (ascii "103")) (r : Checked) {amounts places verdicts : List ℕ} where
+        as-read : (o : Option Message) → o ≡ read s → CheckedBy (temporaryIn text) s text o r amounts places verdicts → CheckedAs s text r amounts places verdicts
         as-read o e j = record {
-          number = j .number ∙ ap (λ (x : Option Message). firstOf (formStops temporary x)) e ∙ form-stops;
-          parts = subst (λ (x : Option Message). Parts s x amounts places r) e (j .parts);
+          number = j .number ∙ ap (λ (x : Option Message). firstOf (formStops (temporaryIn text) x)) e ∙ form-stops;
+          parts = subst (λ (x : Option Message). Parts s text x amounts places verdicts r) e (j .parts);
         }
 
-        pub message-transfer : q ≡ true → TransferChecked temporary s r → CheckedAs temporary s r amounts places
+        pub message-transfer : q ≡ true → TransferChecked (temporaryIn text) s r → CheckedAs s text r amounts places verdicts
         unfolding read
-        message-transfer z j = as-read (readTransfer s) (rw (← w, z)) (j .with amounts places)
+        message-transfer z j = as-read (readTransfer s) (rw (← w, z)) (j .with text amounts places verdicts)
 
-        pub message-order : q ≡ false → OrderChecked s r amounts places → CheckedAs temporary s r amounts places
+        pub message-order : q ≡ false → OrderChecked s text r amounts places verdicts → CheckedAs s text r amounts places verdicts
         unfolding read
-        message-order z j = as-read (readOrder s) (rw (← w, z)) (j .with temporary)
+        message-order z j = as-read (readOrder s) (rw (← w, z)) (j .with (temporaryIn text))
 
-pub ruleset checking = (within-at, within-order, transfer-formless, transfer-stopped, transfer-date, transfer-good, order-rowless, order-formless, order-fields, order-stopped, order-date, order-count, order-good, framed-high, framed-low, type-is, addressed-not, addressed-101, addressed-103, message-unframed, message-unaddressed, message-transfer, message-order)
+pub ruleset checking = (within-at, within-order, transfer-formless, transfer-stopped, transfer-date, transfer-good, order-rowless, order-formless, order-fields, order-stopped, order-date, order-count, order-good, framed-high, framed-low, type-is, addressed-not, addressed-101, addressed-103, message-unframed, message-unaddressed, temporary-room, transfer-front, message-transfer, message-order)

@@ -17,7 +17,7 @@ use Rattle.forms.specs.declared.rows.Span.{Span}
 use Rattle.forms.specs.declared.detail.Detail.{Detail}
 use Rattle.details.specs.Lines.{lineAt, withLine, line-length, line-set, line-other}
 use Rattle.details.specs.Message.{detailAt}
-use Rattle.details.specs.Kept.{more-length, more-before, more-last, before-or-last}
+use Rattle.details.specs.Kept.{OfFirst, first-none, first-full, first-more}
 
 -- the first n places, 16 at most, lie within the text
 pub record FieldsIn (s fields : List ℕ) (n : ℕ) : Type 0 where
@@ -33,45 +33,42 @@ fieldsFrom s fields i (suc k) = spanOf s (lineAt fields i) ∷ fieldsFrom s fiel
 
 -- ---- they are the fields 21 of the first 16 details
 
+-- the place kept for detail d is that of its field 21
+pub record FieldAt (s fields : List ℕ) (d : M.Detail) (i : ℕ) : Type 0 where
+  pub inside : SpanIn s (lineAt fields i)
+  pub bytes : spanOf s (lineAt fields i) ≡ field21 d
+
 pub record Named (s : List ℕ) (ds : List M.Detail) (fields : List ℕ) : Type 0 where
   pub size : length fields ≡ 32
-  pub inside : (i : ℕ) → i < length ds → i < 16 → SpanIn s (lineAt fields i)
-  pub bytes : (i : ℕ) → i < length ds → i < 16 → spanOf s (lineAt fields i) ≡ field21 (detailAt ds i)
+  pub each : OfFirst (FieldAt s fields) ds
 
 pub named-none : (s : List ℕ) {fields : List ℕ} → length fields ≡ 32 → Named s [] fields
-named-none s e = record { size = e; inside = λ i h k. absurd (omega arith); bytes = λ i h k. absurd (omega arith) }
+named-none s e = record { size = e; each = first-none }
 
 module _ (s : List ℕ) (ds : List M.Detail) {fields : List ℕ} (k : Named s ds fields) where
   pub named-full : 16 ≤ length ds → (d : M.Detail) → Named s (ds ++ (d ∷ [])) fields
-  named-full h d = record {
-    size = k .size;
-    inside = λ i l m. k .inside i (omega arith) m;
-    bytes = λ i l m. rw (more-before ds d i (omega arith)) (k .bytes i (omega arith) m);
-  }
+  named-full h d = record { size = k .size; each = first-full ds (k .each) d h }
 
-  module _ {at : ℕ} (h : length ds < 16) (d : Detail) (w : DetailAt s at d) {q : Span} (b : Behind (getD (d .spans) detail21 noSpan) 4 q) {fields' : List ℕ} (c : fields' ≡ withLine fields (length ds) q) where
-    own : lineAt fields' (length ds) ≡ q
-    own = rw c (line-set fields (length ds) q (omega (arith, k .size)))
+  module _ {at : ℕ} (h : length ds < 16) (d : Detail) (w : DetailAt s at d) {q : Span} (b : Behind (getD (d .spans) detail21 noSpan) 4 q) where
+    own : lineAt (withLine fields (length ds) q) (length ds) ≡ q
+    own = line-set fields (length ds) q (omega (arith, k .size))
 
-    other : (i : ℕ) → i < length ds → lineAt fields' i ≡ lineAt fields i
-    other i l = rw c (line-other fields (length ds) q i (λ e. omega arith))
+    other : (e : M.Detail) (i : ℕ) → i < length ds → FieldAt s fields e i → FieldAt s (withLine fields (length ds) q) e i
+    other e i l f =
+        let stays : lineAt (withLine fields (length ds) q) i ≡ lineAt fields i = line-other fields (length ds) q i (λ z. omega arith) in
+        record { inside = rw stays (f .inside); bytes = ap (spanOf s) stays ∙ f .bytes }
 
     first-in : SpanIn s (getD (d .spans) detail21 noSpan)
     first-in = within-at s (d .spans) detail21 (w .within)
 
-    own-field : spanOf s q ≡ field21 (detailIn s d)
-    own-field = rw (span-line s (d .spans) 17 detail21 (omega arith)) (behind-bytes s _ 4 first-in q b)
-
-    pub named-more : Named s (ds ++ (detailIn s d ∷ [])) fields'
-    named-more = record {
-      size = rw c (line-length fields (length ds) q ∙ k .size);
-      inside = λ i l m. before-or-last i (length ds) (rw (more-length ds (detailIn s d)) at l)
-          (λ e. rw (other i e) (k .inside i e m))
-          (λ e. rw (e, own) (behind-in s _ 4 first-in q b));
-      bytes = λ i l m. before-or-last i (length ds) (rw (more-length ds (detailIn s d)) at l)
-          (λ e. ap (spanOf s) (other i e) ∙ k .bytes i e m ∙ ap field21 (sym (more-before ds (detailIn s d) i e)))
-          (λ e. ap (λ (j : ℕ). spanOf s (lineAt fields' j)) e ∙ ap (spanOf s) own ∙ own-field ∙ ap field21 (sym (more-last ds (detailIn s d) i e)));
+    own-field : FieldAt s (withLine fields (length ds) q) (detailIn s d) (length ds)
+    own-field = record {
+      inside = rw own (behind-in s _ 4 first-in q b);
+      bytes = ap (spanOf s) own ∙ rw (span-line s (d .spans) 17 detail21 (omega arith)) (behind-bytes s _ 4 first-in q b);
     }
+
+    pub named-more : Named s (ds ++ (detailIn s d ∷ [])) (withLine fields (length ds) q)
+    named-more = record { size = line-length fields (length ds) q ∙ k .size; each = first-more ds (k .each) (detailIn s d) other own-field }
 
 -- the places hold the fields 21
 fields-named : (s fields : List ℕ) (es : List M.Detail) (i : ℕ) → ((j : ℕ) → j < length es → spanOf s (lineAt fields (i + j)) ≡ field21 (detailAt es j)) → fieldsFrom s fields i (length es) ≡ map field21 es
@@ -98,7 +95,7 @@ twice-map (d ∷ ds) = rw (any-map d ds, twice-map ds) refl
 -- so that two of them are the same where two details have one field 21
 pub named-twice : (s : List ℕ) (ds : List M.Detail) (fields : List ℕ) → Named s ds fields → length ds ≤ 16 → twice equal (fieldsFrom s fields 0 (length ds)) ≡ twice alike ds
 named-twice s ds fields k h =
-    rw (fields-named s fields ds 0 (λ j l. rw (zero-add j) (k .bytes j l (omega arith)))) (sym (twice-map ds))
+    rw (fields-named s fields ds 0 (λ j l. rw (zero-add j) (k .each .each j l (omega arith) .bytes))) (sym (twice-map ds))
 
 -- ---- two of them the same: j of n are passed
 

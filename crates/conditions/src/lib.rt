@@ -1,4 +1,4 @@
-// The conditions 1 to 8, "stopped by the input", of any bytes, and what booking a message that passes them needs.
+// The conditions 1 to 8, "stopped by the input", of any bytes; of a message that passes them what booking it needs, and its details judged.
 mod booking;
 mod message;
 mod order;

@@ -16,7 +16,7 @@ ghost use lib.ListN.{length};
 ghost use Rattle.rules.specs.Text.{equal};
 ghost use Rattle.rules.specs.Lines.{type};
 ghost use Rattle.rules.specs.Calls.{addressed};
-ghost use Rattle.details.specs.Kept.{DetailRoom};
+ghost use Rattle.verdict.specs.Details.{JudgingRoom};
 ghost use Rattle.conditions.specs.Answers.{CheckedAs};
 ghost use Rattle.conditions.specs.Checks.{TransferChecked, OrderChecked};
 
@@ -46,18 +46,24 @@ fn check_transfer(s: &[u8], temporary: &[u8]) -> Checked
     Checked::Refused(3)
 }
 
-// 3 to 8 of an MT101.
-fn check_order(s: &[u8], amounts: &mut [u64; 16], places: &mut [u16; 128]) -> Checked
+// 3 to 8 of an MT101, its details judged by the register's text.
+fn check_order(
+    s: &[u8],
+    text: &[u8],
+    amounts: &mut [u64; 16],
+    places: &mut [u16; 128],
+    verdicts: &mut [u8; 16],
+) -> Checked
     requires { ⌜ 23 ≤ length (now s) ⌝ }
     requires { ⌜ length (now s) ≤ 4096 ⌝ }
-    requires { ⌜ DetailRoom (now amounts) (now places) ⌝ }
-    ensures { λ r. ⌜ OrderChecked (now (s .entry)) r (now (amounts .exit)) (now (places .exit)) ⌝ }
+    requires { ⌜ JudgingRoom (now text) (now amounts) (now places) (now verdicts) ⌝ }
+    ensures { λ r. ⌜ OrderChecked (now (s .entry)) (now (text .entry)) r (now (amounts .exit)) (now (places .exit)) (now (verdicts .exit)) ⌝ }
 {
     let rows = read_rows(s, 23, 0, 1);
     if rows.ok {
         let line = rows.spans[MESSAGE_20];
         let mut fields = [0u16; 32];
-        let t = tally_details(s, rows.next, amounts, places, &mut fields);
+        let t = tally_details(s, rows.next, text, amounts, places, verdicts, &mut fields);
         if t.ok {
             let k = order_stop(s, line, &fields, t);
             if k == 0 {
@@ -94,22 +100,24 @@ fn is_addressed(s: &[u8]) -> bool
     false
 }
 
-// 1 to 8 of any bytes.
+// 1 to 8 of any bytes, by the text of a register, whose first line is the temporary account; the details judged by it.
 pub fn check_message(
     s: &[u8],
-    temporary: &[u8],
+    text: &[u8],
     amounts: &mut [u64; 16],
     places: &mut [u16; 128],
+    verdicts: &mut [u8; 16],
 ) -> Checked
-    requires { ⌜ DetailRoom (now amounts) (now places) ⌝ }
-    ensures { λ r. ⌜ CheckedAs (now (temporary .entry)) (now (s .entry)) r (now (amounts .exit)) (now (places .exit)) ⌝ }
+    requires { ⌜ JudgingRoom (now text) (now amounts) (now places) (now verdicts) ⌝ }
+    ensures { λ r. ⌜ CheckedAs (now (s .entry)) (now (text .entry)) r (now (amounts .exit)) (now (places .exit)) (now (verdicts .exit)) ⌝ }
 {
+    let temporary = &text[0..22];
     if is_framed(s) {
         if is_addressed(s) {
             if is_type(s, b"103") {
                 return check_transfer(s, temporary);
             }
-            return check_order(s, amounts, places);
+            return check_order(s, text, amounts, places, verdicts);
         }
         return Checked::Refused(2);
     }

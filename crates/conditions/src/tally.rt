@@ -1,20 +1,24 @@
-// The details of an MT101, read, kept and judged one by one up to the closing line.
+// The details of an MT101, each read once: judged, kept and summed one by one up to the closing line.
 use details::keep;
 use details::set_line;
 use field_conditions::NO_STOP;
 use field_conditions::detail_stop;
 use forms::DETAIL_21;
+use forms::DETAIL_59;
 use forms::Detail;
 use forms::behind;
 use forms::read_detail;
 use lines::closes_at;
+use verdict::judge_line;
 ghost use mathlib.Core.Path.{_≡_};
+ghost use mathlib.Core.Bool.{true};
 ghost use Prim.Native.Nat.{_*_, _^_, _<_, _≤_, min};
-ghost use lib.ListN.{length, getD};
-ghost use Rattle.rules.specs.Forms.{detail21};
-ghost use Rattle.forms.specs.Spans.{noSpan, SpansWithin};
-ghost use Rattle.details.specs.Kept.{DetailRoom};
-ghost use Rattle.conditions.specs.Tally.{Raised, dayOf, After, KeepsFirst, TallyAt};
+ghost use lib.ListN.{length};
+ghost use Rattle.rules.specs.Text.{isSome};
+ghost use Rattle.rules.specs.Register.{register};
+ghost use Rattle.forms.specs.Spans.{SpansWithin};
+ghost use Rattle.verdict.specs.Details.{JudgingRoom};
+ghost use Rattle.conditions.specs.Tally.{dayOf, After, KeepsFirst, TallyAt};
 
 // What is told of all details together.
 pub struct Tally {
@@ -22,24 +26,12 @@ pub struct Tally {
     pub ok: bool,
     // How many there are.
     pub count: u32,
-    // The sum of the amounts of the first 16.
+    // The sum of their amounts.
     pub sum: u64,
     // The centralisation date of the first.
     pub date: u64,
     // The lowest of 5 to 8 that one of them breaks, or `NO_STOP`.
     pub low: u32,
-}
-
-// The sum with the amount of one more detail, n being before it: there are not to be more than 16.
-fn raised(n: u32, sum: u64, amount: u64) -> u64
-    requires { ⌜ sum ≤ n * 10 ^ 16 ⌝ }
-    requires { ⌜ amount < 10 ^ 16 ⌝ }
-    ensures { λ r. ⌜ Raised n sum amount r ⌝ }
-{
-    if n < 16 {
-        return sum + amount;
-    }
-    sum
 }
 
 // The date of the first detail, n being before this one.
@@ -62,16 +54,16 @@ fn least(a: u32, b: u32) -> u32
     b
 }
 
-// The tally with one more detail.
+// The tally with one more detail. The bytes of a message hold fewer than 1,024, so that the sum of all fits 64 bits.
 fn after(s: &[u8], t: Tally, d: Detail) -> Tally
     requires { ⌜ SpansWithin (now s) (d .spans) ⌝ }
-    requires { ⌜ t .count < 4096 ⌝ }
+    requires { ⌜ t .count < 1024 ⌝ }
     requires { ⌜ t .sum ≤ t .count * 10 ^ 16 ⌝ }
     requires { ⌜ d .amount < 10 ^ 16 ⌝ }
     ensures { λ r. ⌜ After (now (s .entry)) t d r ⌝ }
 {
     let date = day_of(t.count, t.date, d.date);
-    let sum = raised(t.count, t.sum, d.amount);
+    let sum = t.sum + d.amount;
     let low = least(t.low, detail_stop(s, d, date));
     let count = t.count + 1;
     Tally {
@@ -83,38 +75,44 @@ fn after(s: &[u8], t: Tally, d: Detail) -> Tally
     }
 }
 
-// The detail kept, and the place of its field 21, where it is one of the first 16; n are before it.
+// The detail judged by the register's text and kept, and the place of its field 21, where it is one of the first 16; n are before it.
 fn keep_first(
+    s: &[u8],
+    text: &[u8],
     amounts: &mut [u64; 16],
     places: &mut [u16; 128],
+    verdicts: &mut [u8; 16],
     fields: &mut [u16; 32],
     n: u32,
     d: Detail,
 )
-    requires { ⌜ getD (d .spans) detail21 noSpan .start ≤ getD (d .spans) detail21 noSpan .end ⌝ }
-    ensures { λ _. ⌜ KeepsFirst n d (now (amounts .entry)) (now (places .entry)) (now (fields .entry)) (now (amounts .exit)) (now (places .exit)) (now (fields .exit)) ⌝ }
+    requires { ⌜ isSome (register (now text)) ≡ true ⌝ }
+    requires { ⌜ SpansWithin (now s) (d .spans) ⌝ }
+    ensures { λ _. ⌜ KeepsFirst (now (s .entry)) (now (text .entry)) n d (now (amounts .entry)) (now (places .entry)) (now (verdicts .entry)) (now (fields .entry)) (now (amounts .exit)) (now (places .exit)) (now (verdicts .exit)) (now (fields .exit)) ⌝ }
 {
-    let field = behind(d.spans[DETAIL_21], 4);
     if 16 <= n {
         return;
     }
     keep(amounts, places, n, d);
-    set_line(fields, n, field);
+    verdicts[n as usize] = judge_line(text, s, d.spans[DETAIL_59]);
+    set_line(fields, n, behind(d.spans[DETAIL_21], 4));
 }
 
-// The tally of all details from `at` up to the closing line, the first 16 kept.
+// The tally of all details from `at` up to the closing line, the first 16 judged by the register's text and kept.
 pub fn tally_details(
     s: &[u8],
     at: usize,
+    text: &[u8],
     amounts: &mut [u64; 16],
     places: &mut [u16; 128],
+    verdicts: &mut [u8; 16],
     fields: &mut [u16; 32],
 ) -> Tally
     requires { ⌜ at ≤ length (now s) ⌝ }
     requires { ⌜ length (now s) ≤ 4096 ⌝ }
-    requires { ⌜ DetailRoom (now amounts) (now places) ⌝ }
+    requires { ⌜ JudgingRoom (now text) (now amounts) (now places) (now verdicts) ⌝ }
     requires { ⌜ length (now fields) ≡ 32 ⌝ }
-    ensures { λ r. ⌜ TallyAt (now (s .entry)) at r (now (amounts .exit)) (now (places .exit)) (now (fields .exit)) ⌝ }
+    ensures { λ r. ⌜ TallyAt (now (s .entry)) (now (text .entry)) at r (now (amounts .exit)) (now (places .exit)) (now (verdicts .exit)) (now (fields .exit)) ⌝ }
 {
     let none = Tally {
         ok: false,
@@ -128,7 +126,7 @@ pub fn tally_details(
     while t.count < 4096 {
         let d = read_detail(s, pos);
         if d.ok {
-            keep_first(amounts, places, fields, t.count, d);
+            keep_first(s, text, amounts, places, verdicts, fields, t.count, d);
             t = after(s, t, d);
             pos = d.next;
             if closes_at(s, pos) {

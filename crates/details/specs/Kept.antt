@@ -47,11 +47,21 @@ pub record DetailRoom (amounts places : List ℕ) : Type 0 where
   pub amounts-size : length amounts ≡ 16
   pub places-size : length places ≡ 128
 
--- the first 16 of some details are kept
+-- ---- the first 16 of some details
+
+-- P holds of each, at its place
+pub record OfFirst (P : M.Detail → ℕ → Type 0) (ds : List M.Detail) : Type 0 where
+  pub each : (i : ℕ) → i < length ds → i < 16 → P (detailAt ds i) i
+
+-- the amount kept at place i is the detail's
+abbrev pub amountAt : List ℕ → M.Detail → ℕ → Type 0
+amountAt amounts d i = getD amounts i 0 ≡ d .amount
+
+-- they are kept
 pub record Kept (s : List ℕ) (ds : List M.Detail) (amounts places : List ℕ) : Type 0 where
   pub room : DetailRoom amounts places
-  pub amounts-are : (i : ℕ) → i < length ds → i < 16 → getD amounts i 0 ≡ detailAt ds i .amount
-  pub lines-are : (i : ℕ) → i < length ds → i < 16 → LinesAs s (detailAt ds i) places i
+  pub amounts-are : OfFirst (amountAt amounts) ds
+  pub lines-are : OfFirst (λ (d : M.Detail) (i : ℕ). LinesAs s d places i) ds
 
 -- ---- one more
 
@@ -102,17 +112,28 @@ module _ {A : Type 0} (i n : ℕ) (h : i < n + 1) where
       go true e = let l : n ≤ i = leb-true n i e in g (omega arith)
       go false e = f (leb-false n i e)
 
+pub first-none : {P : M.Detail → ℕ → Type 0} → OfFirst P []
+first-none = record { each = λ i h k. absurd (omega arith) }
+
+module _ {P : M.Detail → ℕ → Type 0} (ds : List M.Detail) (o : OfFirst P ds) (d : M.Detail) where
+  -- one more behind the sixteenth
+  pub first-full : 16 ≤ length ds → OfFirst P (ds ++ (d ∷ []))
+  first-full h = record { each = λ i l m. rw (more-before ds d i (omega arith)) (o .each i (omega arith) m) }
+
+  -- one more: what is kept now holds of those before as it did, and of this one
+  pub first-more : {Q : M.Detail → ℕ → Type 0} → ((e : M.Detail) (i : ℕ) → i < length ds → P e i → Q e i) → Q d (length ds) → OfFirst Q (ds ++ (d ∷ []))
+  first-more f g = record {
+    each = λ i l m. before-or-last i (length ds) (rw (more-length ds d) at l)
+        (λ b. rw (more-before ds d i b) (f (detailAt ds i) i b (o .each i b m)))
+        (λ e. rw (more-last ds d i e) (rw e g));
+  }
+
 pub kept-none : (s : List ℕ) {amounts places : List ℕ} → DetailRoom amounts places → Kept s [] amounts places
-kept-none s r = record { room = r; amounts-are = λ i h k. absurd (omega arith); lines-are = λ i h k. absurd (omega arith) }
+kept-none s r = record { room = r; amounts-are = first-none; lines-are = first-none }
 
 module _ (s : List ℕ) (ds : List M.Detail) {amounts places : List ℕ} (k : Kept s ds amounts places) where
-  -- behind the sixteenth nothing is kept
   pub kept-full : 16 ≤ length ds → (d : M.Detail) → Kept s (ds ++ (d ∷ [])) amounts places
-  kept-full h d = record {
-    room = k .room;
-    amounts-are = λ i l m. rw (more-before ds d i (omega arith)) (k .amounts-are i (omega arith) m);
-    lines-are = λ i l m. rw (more-before ds d i (omega arith)) (k .lines-are i (omega arith) m);
-  }
+  kept-full h d = record { room = k .room; amounts-are = first-full ds (k .amounts-are) d h; lines-are = first-full ds (k .lines-are) d h }
 
   module _ {at : ℕ} (h : length ds < 16) (d : Detail) (w : DetailAt s at d) (g : d .ok ≡ true) {amounts' places' : List ℕ} (c : Keeps (length ds) d amounts places amounts' places') where
     line-of : (j : ℕ) → j < 17 → LineOf s (detailIn s d) j (getD (d .spans) j noSpan)
@@ -146,8 +167,8 @@ module _ (s : List ℕ) (ds : List M.Detail) {amounts places : List ℕ} (k : Ke
         answered : {o : Option TakenDetail} → detailedOf s d ≡ o → o ≡ some record { detail = detailIn s d; others = from s (d .next) }
         answered e = sym (rw g at e)
 
-    other-lines : (i : ℕ) → i < length ds → LinesAs s (detailAt ds i) places i → LinesAs s (detailAt ds i) places' i
-    other-lines i l a = record {
+    other-lines : (e : M.Detail) (i : ℕ) → i < length ds → LinesAs s e places i → LinesAs s e places' i
+    other-lines e i l a = record {
       read = a .read;
       payer = rw (other-line (4 * i) (omega arith)) (a .payer);
       branch = rw (other-line (4 * i + 1) (omega arith)) (a .branch);
@@ -167,12 +188,8 @@ module _ (s : List ℕ) (ds : List M.Detail) {amounts places : List ℕ} (k : Ke
         amounts-size = rw (c .amounts-are) (length-set amounts (length ds) (d .amount) ∙ k .room .amounts-size);
         places-size = rw (c .places-are) (lines-length places (4 * length ds) (keptOf d) ∙ k .room .places-size);
       };
-      amounts-are = λ i l m. before-or-last i (length ds) (rw (more-length ds (detailIn s d)) at l)
-          (λ b. rw (more-before ds (detailIn s d) i b) (other-amount i b ∙ k .amounts-are i b m))
-          (λ e. rw (more-last ds (detailIn s d) i e) (rw e own-amount));
-      lines-are = λ i l m. before-or-last i (length ds) (rw (more-length ds (detailIn s d)) at l)
-          (λ b. rw (more-before ds (detailIn s d) i b) (other-lines i b (k .lines-are i b m)))
-          (λ e. rw (more-last ds (detailIn s d) i e) (rw e own-lines));
+      amounts-are = first-more ds (k .amounts-are) (detailIn s d) (λ e i l a. other-amount i l ∙ a) own-amount;
+      lines-are = first-more ds (k .lines-are) (detailIn s d) other-lines own-lines;
     }
 
 -- ---- the details of a message, all kept

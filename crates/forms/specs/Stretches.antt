@@ -5,10 +5,10 @@ use mathlib.Core.List.{List, [], _∷_, _++_, map}
 use Prim.Native.Nat.{ℕ, zero, suc, _+_, _-_, _≤_, _<_}
 use native.Mathlib.Nat.{zero-add, suc-add}
 use native.Mathlib.Omega.{arith}
-use lib.ListN.{length, getD, take, drop}
+use lib.ListN.{length, getD, take, drop, length-append}
 use Rattle.rules.specs.Lines.{Line}
 use Rattle.rules.specs.Messages.{rowText, rowsText}
-use Rattle.laws.specs.Parts.{cut, from, cut-done, cut-join, from-take, cut-length}
+use Rattle.laws.specs.Parts.{cut, from, cut-done, cut-join, from-take, cut-length, cut-size}
 use Rattle.rule_laws.specs.Lines.{first-line}
 use Rattle.lines.specs.Answers.{LineEnd}
 use Rattle.forms.specs.Spans.{spanOf, noSpan}
@@ -56,6 +56,17 @@ pub data Standing (s : List ℕ) : ℕ → List Span → ℕ → Type 0 where
 pub stands-more : {s : List ℕ} {a b c : ℕ} {p : Span} {ps : List Span} → Standing s a ps b → RowStretch s b p c → Standing s a (ps ++ (p ∷ [])) c
 stands-more end r = row r end
 stands-more (row q t) r = row q (stands-more t r)
+
+stands-order : {s : List ℕ} {a b : ℕ} {ps : List Span} → Standing s a ps b → a ≤ b
+stands-order end = omega arith
+stands-order (row r t) = omega (arith, r .order, stands-order t)
+
+-- the first line with its CR LF is a part of the stretch
+pub stands-long : {s : List ℕ} {a c : ℕ} {ps : List Span} → Standing s a ps c → 0 < length (spanOf s (getD ps 0 noSpan)) → a + length (spanOf s (getD ps 0 noSpan)) + 2 ≤ c
+stands-long {s} end h = absurd (omega (arith, cut-size s 0 0))
+stands-long {s} {a} (row {b = b} {p = p} r t) h =
+    let e : length (cut s a b) ≡ length (spanOf s p ++ 13 ∷ 10 ∷ []) = ap length (r .text ∙ text-some (spanOf s p) (λ z. omega (arith, ap length z))) in
+    omega (arith, e, cut-size s a b, length-append (spanOf s p) (13 ∷ 10 ∷ []), stands-order t)
 
 -- the stretch from part i up to part i + n
 pub record StretchOf (s : List ℕ) (ps : List Span) (i n : ℕ) : Type 0 where

@@ -1,1 +1,2 @@
+pub mod Limit
 pub mod Stops

@@ -1,6 +1,6 @@
 -- The conditions 11 to 15, as the code tests them: one law for each way out.
 use mathlib.Core.Path.{_≡_, refl, ap, _∙_}
-use mathlib.Core.Bool.{Bool, true, false, _&&_, _||_, not, cond, and-false}
+use mathlib.Core.Bool.{Bool, true, false, _&&_, not, cond, and-false}
 use mathlib.Core.List.{List}
 use mathlib.Core.Option.{some}
 use Prim.Native.Nat.{ℕ, _+_, _*_, _^_, _≤_, _<_}
@@ -9,7 +9,7 @@ use borrow.Author.Tests.{le-leb, lt-leb}
 use lib.Dec.{leb, eqb}
 use Rattle.rules.specs.Text.{any}
 use Rattle.rules.specs.Engine.{Key, Position, limit, sameReference}
-use Rattle.rules.specs.Calls.{limitStops, firstOf, holdsOf, misdated, ownReference, noRoom, overLimit, positionAfter}
+use Rattle.rules.specs.Calls.{limitStops, firstOf, holdsOf, misdated, ownReference, noRoom}
 use Rattle.rules.specs.Area.{decode}
 use Rattle.laws.specs.Parts.{cut}
 use Rattle.laws.specs.Tests.{holds-told}
@@ -23,6 +23,7 @@ use Rattle.engine.specs.declared.header.Header.{Header}
 use Rattle.details.specs.Message.{messageIn}
 use Rattle.conditions.specs.Books.{Books, amountIf, misdatedBy}
 use Rattle.conditions.specs.declared.booking.Booking.{Booking}
+use Rattle.state_conditions.specs.Limit.{overBy, over-is}
 
 -- ---- single tests
 
@@ -32,10 +33,6 @@ additionBy b = record { key = b .key; transferred = amountIf (b .transfer) (b .a
 
 pub added-made : (b : Booking) {t d : ℕ} → t ≡ amountIf (b .transfer) (b .amount) → d ≡ amountIf (not (b .transfer)) (b .amount) → _≡_ {A = P.Position} (record { key = b .key; transferred = t; detailed = d }) (additionBy b)
 added-made b e f = rw (e, f)
-
--- 15, of both totals
-unfoldable pub overBy : Totals → Booking → Bool
-overBy t b = not (leb (t .transferred + amountIf (b .transfer) (b .amount)) limit) || not (leb (t .detailed + amountIf (not (b .transfer)) (b .amount)) limit)
 
 -- 14 and 15
 unfoldable pub restNumber : ℕ → Totals → Booking → ℕ
@@ -139,8 +136,7 @@ module _ (s area : List ℕ) (b : Booking) (k : Books s (messageIn s) b) (x : He
         state-full l = rw (day-is, ← u, d, ← v, w, ← n .references, le-leb _ _ l) refl
 
         pub state-rest : x .references < 64 → (y : Totals) → TotalsOf (decode area .positions) (keyValue (b .key)) y → {r : ℕ} → r ≡ restNumber (x .positions) y b → r ≡ firstOf (limitStops (decode area) (some (messageIn s)))
-        unfolding firstOf limitStops holdsOf restNumber noRoom overLimit overBy positionAfter
-        state-rest l y g e =
-            e ∙ rw (day-is, ← u, d, ← v, w, ← n .references, lt-leb _ _ l, ← k .key, ← g .opens, ← g .transferred, ← g .detailed, ← n .positions, k .transferred, k .detailed) refl
+        unfolding firstOf limitStops holdsOf restNumber noRoom
+        state-rest l y g e = e ∙ rw (day-is, ← u, d, ← v, w, ← n .references, lt-leb _ _ l, ← over-is s area b k y g, ← k .key, ← g .opens, ← n .positions) refl
 
 pub ruleset stops = (holds-told, misdated-transfer, misdated-before, misdated-after, total-within, total-above, amount-own, amount-none, sum-none, sum-own, added-small, summed-small, over-first, over-second, rest-open-over, rest-open, rest-full, rest-over, rest-none, used-is, state-day, state-used, state-full, state-rest)

@@ -16,7 +16,8 @@ ghost use Rattle.details.specs.Message.{messageIn};
 ghost use Rattle.conditions.specs.Books.{Books, amountIf, misdatedBy};
 ghost use Rattle.position.specs.Values.{keyValue};
 ghost use Rattle.engine.specs.Totals.{TotalsOf};
-ghost use Rattle.state_conditions.specs.Stops.{additionBy, overBy, restNumber};
+ghost use Rattle.state_conditions.specs.Limit.{overBy};
+ghost use Rattle.state_conditions.specs.Stops.{additionBy, restNumber};
 
 // 11: an MT103 not dated on the day, an MT101 dated after it?
 fn is_misdated(b: Booking, day: u32) -> bool

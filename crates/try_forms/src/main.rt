@@ -89,12 +89,20 @@ fn say_checked(s: &[u8], r: Checked, amounts: &[u64; 16]) {
     }
 }
 
-// A message to the card whose temporary account is BG80BNBG96611020345678.
-fn try_message(s: &[u8]) {
+// A message to the card with the register of a text.
+fn say_message(s: &[u8], text: &[u8]) {
     let mut amounts = [0u64; 16];
     let mut places = [0u16; 128];
-    let r = conditions::check_message(s, b"BG80BNBG96611020345678", &mut amounts, &mut places);
-    say_checked(s, r, &amounts);
+    let mut verdicts = [0u8; 16];
+    if register::register_passes(text) {
+        let r = conditions::check_message(s, text, &mut amounts, &mut places, &mut verdicts);
+        say_checked(s, r, &amounts);
+    }
+}
+
+// A message to the card whose temporary account is BG80BNBG96611020345678.
+fn try_message(s: &[u8]) {
+    say_message(s, b"BG80BNBG96611020345678\r\n");
     io::write_all(1, b"\n");
 }
 

@@ -1,7 +1,7 @@
 -- The verdicts of a message's details, and a detail with its verdict, as the code holds them.
 use mathlib.Core.Path.{_≡_, ap, _∙_}
 use mathlib.Core.Bool.{true}
-use mathlib.Core.List.{List}
+use mathlib.Core.List.{List, [], _∷_, _++_}
 use Prim.Native.Nat.{ℕ, _+_, _*_, _≤_, _<_}
 use native.Mathlib.Omega.{arith}
 use lib.ListN.{length, getD, set, length-set}
@@ -18,7 +18,7 @@ use Rattle.forms.specs.Fields.{Behind, behind-in, behind-bytes}
 use Rattle.forms.specs.declared.rows.Span.{Span}
 use Rattle.details.specs.Lines.{lineAt}
 use Rattle.details.specs.Message.{detailsIn, detailAt}
-use Rattle.details.specs.Kept.{LineOf, RowsOf, LinesIn, AmountsIn, before-or-last}
+use Rattle.details.specs.Kept.{LineOf, RowsOf, LinesIn, AmountsIn, DetailRoom, OfFirst, first-none, first-full, first-more}
 use Rattle.verdict.specs.Answers.{verdictOf, verdictBy, CodeOf, judgedIn, Listed, listed, listed-line, code-line, code-cause, by-cause, by-line}
 use Rattle.verdict.specs.declared.Verdict.{Verdict}
 use Rattle.verdict.specs.declared.Verdict.the-variants.{Credited}
@@ -38,46 +38,51 @@ pub record JudgedIn (text s amounts places verdicts : List ℕ) (n : ℕ) : Type
   pub amounts-kept : AmountsIn s amounts n
   pub verdicts-kept : VerdictsIn text s verdicts n
 
--- ---- judged one by one: those of the first i are kept
+-- ---- judged one by one
 
-pub record Judging (text s verdicts : List ℕ) (i : ℕ) : Type 0 where
+-- a register's text that passes 9, and room for 16 details and their verdicts
+pub record JudgingRoom (text amounts places verdicts : List ℕ) : Type 0 where
+  pub passes : isSome (register text) ≡ true
+  pub details : DetailRoom amounts places
   pub size : length verdicts ≡ 16
-  pub done : VerdictsIn text s verdicts i
 
-pub judging-start : (text s : List ℕ) {verdicts : List ℕ} → length verdicts ≡ 16 → Judging text s verdicts 0
-judging-start text s e = record { size = e; done = record { each = λ i h. absurd (omega arith) } }
+-- r is the number of the verdict on some bytes
+pub record VerdictOn (text cs : List ℕ) (r : ℕ) : Type 0 where
+  pub same : verdictOf (verdictBy r) ≡ verdict (registerOf text) cs
+
+-- the verdicts of the first 16 of some details are kept
+pub record Verdicts (text : List ℕ) (ds : List M.Detail) (verdicts : List ℕ) : Type 0 where
+  pub size : length verdicts ≡ 16
+  pub each : OfFirst (verdictAt text verdicts) ds
+
+pub verdicts-none : (text : List ℕ) {verdicts : List ℕ} → length verdicts ≡ 16 → Verdicts text [] verdicts
+verdicts-none text e = record { size = e; each = first-none }
+
+module _ (text : List ℕ) (ds : List M.Detail) {verdicts : List ℕ} (v : Verdicts text ds verdicts) (d : M.Detail) where
+  pub verdicts-full : 16 ≤ length ds → Verdicts text (ds ++ (d ∷ [])) verdicts
+  verdicts-full h = record { size = v .size; each = first-full ds (v .each) d h }
+
+  module _ (h : length ds < 16) {c : ℕ} (w : VerdictOn text (account59 d) c) where
+    other : (e : M.Detail) (i : ℕ) → i < length ds → verdictAt text verdicts e i → verdictAt text (set verdicts (length ds) c) e i
+    other e i l a = ap (λ (x : ℕ). verdictOf (verdictBy x)) (getD-set-other verdicts (length ds) i c 0 (λ z. omega arith)) ∙ a
+
+    own : verdictAt text (set verdicts (length ds) c) d (length ds)
+    own = ap (λ (x : ℕ). verdictOf (verdictBy x)) (getD-set-same verdicts (length ds) c 0 (omega (arith, v .size))) ∙ w .same
+
+    pub verdicts-more : Verdicts text (ds ++ (d ∷ [])) (set verdicts (length ds) c)
+    verdicts-more = record { size = length-set verdicts (length ds) c ∙ v .size; each = first-more ds (v .each) d other own }
 
 -- a line number of a register that passed is small
 pub line-small : (text : List ℕ) (v : Verdict) (i : ℕ) → isSome (register text) ≡ true → Listed text v → v ≡ Credited i → i < 40
 line-small text v i h l e = let n : i < length (registerOf text .accounts) = l .line i e in omega (arith, accounts-count text h, text-count text h)
 
-module _ (s places : List ℕ) (n i : ℕ) (k : LinesIn s places n) (h : i < n) (p : Span) (e : p ≡ lineAt places (4 * i + 2)) where
-  line-is : LineOf s (detailAt (detailsIn s) i) detail59 p
-  line-is = rw e (k .each i h .account)
+-- the bytes behind 59's slash
+module _ (s : List ℕ) (p q : Span) (w : SpanIn s p) (b : Behind p 5 q) where
+  pub account-in : SpanIn s q
+  account-in = behind-in s p 5 w q b
 
-  pub account-order : p .start ≤ p .end
-  account-order = line-is .inside .order
-
-  module _ (q : Span) (b : Behind p 5 q) where
-    pub account-in : SpanIn s q
-    account-in = behind-in s p 5 (line-is .inside) q b
-
-    account-bytes : spanOf s q ≡ account59 (detailAt (detailsIn s) i)
-    account-bytes = behind-bytes s p 5 (line-is .inside) q b ∙ ap (λ (l : List ℕ). past ":59:/" l) (line-is .bytes)
-
-    pub judging-next : (text : List ℕ) (v : Verdict) → verdictOf v ≡ verdict (registerOf text) (spanOf s q) → {verdicts : List ℕ} → Judging text s verdicts i → (c : ℕ) → CodeOf v c → Judging text s (set verdicts i c) (i + 1)
-    judging-next text v u {verdicts} m c w =
-        let own : verdictOf (verdictBy c) ≡ verdict (registerOf text) (account59 (detailAt (detailsIn s) i)) = ap verdictOf (w .same) ∙ u ∙ ap (verdict (registerOf text)) account-bytes in record {
-          size = length-set verdicts i c ∙ m .size;
-          done = record {
-            each = λ j l. before-or-last j i l
-                (λ b. ap (λ (x : ℕ). verdictOf (verdictBy x)) (getD-set-other verdicts i j c 0 (λ z. omega arith)) ∙ m .done .each j b)
-                (λ z. rw z (ap (λ (x : ℕ). verdictOf (verdictBy x)) (getD-set-same verdicts i c 0 (omega (arith, m .size, k .few))) ∙ own));
-          };
-        }
-
-pub judging-end : (text s verdicts : List ℕ) (n i : ℕ) → Judging text s verdicts i → n ≤ i → VerdictsIn text s verdicts n
-judging-end text s verdicts n i m h = record { each = λ j l. m .done .each j (omega arith) }
+  pub verdict-on : (text : List ℕ) (v : Verdict) → verdictOf v ≡ verdict (registerOf text) (spanOf s q) → (c : ℕ) → CodeOf v c → VerdictOn text (past ":59:/" (spanOf s p)) c
+  verdict-on text v u c e = record { same = ap verdictOf (e .same) ∙ u ∙ ap (verdict (registerOf text)) (behind-bytes s p 5 w q b) }
 
 -- ---- a detail with its verdict
 
@@ -119,4 +124,4 @@ pub judged-made : (amounts places verdicts : List ℕ) (i : ℕ) {y b a p : Span
 unfolding judgedIn
 judged-made amounts places verdicts i c e f g h = rw (c, e, f, g, h)
 
-pub ruleset detailing = (listed, listed-line, line-small, code-line, code-cause, by-cause, by-line, judging-start, account-order, account-in, judging-next, judging-end, judged-made)
+pub ruleset detailing = (listed, listed-line, line-small, code-line, code-cause, by-cause, by-line, account-in, verdict-on, judged-made)

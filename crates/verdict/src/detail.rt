@@ -8,14 +8,12 @@ use forms::behind;
 ghost use mathlib.Core.Path.{_≡_};
 ghost use mathlib.Core.Bool.{true};
 ghost use Prim.Native.Nat.{_<_};
-ghost use lib.ListN.{length};
 ghost use Rattle.rules.specs.Text.{isSome};
-ghost use Rattle.rules.specs.Register.{register, registerOf};
-ghost use Rattle.rules.specs.Verdict.{verdict};
+ghost use Rattle.rules.specs.Messages.{past};
+ghost use Rattle.rules.specs.Register.{register};
 ghost use Rattle.forms.specs.Spans.{spanOf, SpanIn};
-ghost use Rattle.details.specs.Kept.{LinesIn};
-ghost use Rattle.verdict.specs.Answers.{verdictOf, verdictBy, judgedIn, Listed, CodeOf};
-ghost use Rattle.verdict.specs.Details.{VerdictsIn};
+ghost use Rattle.verdict.specs.Answers.{verdictBy, judgedIn, Listed, CodeOf};
+ghost use Rattle.verdict.specs.Details.{VerdictOn};
 
 // A detail with its verdict.
 pub struct Judged {
@@ -69,28 +67,15 @@ pub fn verdict_by(k: u8) -> Verdict
     Verdict::Credited((k - 4) as usize)
 }
 
-// The verdict on a part of the message.
-fn judge_part(text: &[u8], s: &[u8], p: Span) -> Verdict
+// A detail judged by 59's line p: its verdict as one number.
+pub fn judge_line(text: &[u8], s: &[u8], p: Span) -> u8
     requires { ⌜ isSome (register (now text)) ≡ true ⌝ }
     requires { ⌜ SpanIn (now s) p ⌝ }
-    ensures { λ r. ⌜ verdictOf r ≡ verdict (registerOf (now (text .entry))) (spanOf (now (s .entry)) p) ⌝ }
+    ensures { λ r. ⌜ VerdictOn (now (text .entry)) (past ":59:/" (spanOf (now (s .entry)) p)) r ⌝ }
 {
-    judge(text, s, p.start as usize, p.end as usize)
-}
-
-// The n details of a message judged, each by its field 59.
-pub fn judge_details(text: &[u8], s: &[u8], places: &[u16; 128], n: u32, verdicts: &mut [u8; 16])
-    requires { ⌜ isSome (register (now text)) ≡ true ⌝ }
-    requires { ⌜ LinesIn (now s) (now places) n ⌝ }
-    requires { ⌜ length (now verdicts) ≡ 16 ⌝ }
-    ensures { λ _. ⌜ VerdictsIn (now (text .entry)) (now (s .entry)) (now (verdicts .exit)) n ⌝ }
-{
-    let mut i: u32 = 0;
-    while i < n {
-        let v = judge_part(text, s, behind(line_at(places, 4 * i + 2), 5));
-        verdicts[i as usize] = code_of(text, v);
-        i += 1;
-    }
+    let account = behind(p, 5);
+    let v = judge(text, s, account.start as usize, account.end as usize);
+    code_of(text, v)
 }
 
 // Detail i with its verdict.

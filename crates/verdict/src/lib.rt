@@ -2,7 +2,7 @@
 mod detail;
 
 pub use detail::Judged;
-pub use detail::judge_details;
+pub use detail::judge_line;
 pub use detail::judged_at;
 pub use detail::verdict_by;
 use register::Found;

@@ -6,11 +6,8 @@ use borrow.Author.Needs.{needs}
 use Rattle.card.proofs.message.send_message.Statement.{statement}
 use Rattle.card.proofs.message.send_message.Tie as tie
 
-cast-n : tie.Need-cast-n
-cast-n c = search (sending, needs)
-
-judge-in-requires : tie.Need-judge-in-requires
-judge-in-requires c κs = search (sending, needs)
+cast-count-returned : tie.Need-cast-count-returned
+cast-count-returned c = search (sending, needs)
 
 count-returned-requires : tie.Need-count-returned-requires
 count-returned-requires c κs = search (sending, needs)
@@ -19,7 +16,10 @@ due-for-requires : tie.Need-due-for-requires
 due-for-requires c κs = search (sending, needs)
 
 message-size-requires : tie.Need-message-size-requires
-message-size-requires c κs = search (sending, needs)
+message-size-requires c κs =
+    let at-due-for = c .before in
+    let at-count-returned = at-due-for .before in
+    let p = (at-count-returned .before .before .before .before .before .pre) in ready _ _ (p .0) _ (p .1 .0) _ (p .1 .1 .1) (p .1 .1 .0) (at-count-returned .count-returned .ensures) (at-due-for .due-for .ensures)
 
 same-length : tie.Need-same-length
 same-length c = search (sending, needs)
@@ -27,18 +27,17 @@ same-length c = search (sending, needs)
 returns : tie.Need-returns
 returns c =
     let at-message-size = c .before in
-    let entry = at-message-size .before .before .before .before .before .before .before .before .before .before .before .before .before in
+    let entry = at-message-size .before .before .before .before .before .before .before .before in
     let p = (entry .pre) in sent-room _ _ (p .0) _ (p .1 .0) (now (entry .args .output)) (p .1 .1 .0) (at-message-size .message-size .ensures) (c .if1 .taken)
 
 accept-message-requires : tie.Need-accept-message-requires
 accept-message-requires c κs =
-    let at-if1 = c .before .before .before .before .before in
+    let at-if1 = c .before .before .before .before in
     let at-message-size = at-if1 .before in
-    let at-due-for = at-message-size .before .before .before in
+    let at-due-for = at-message-size .before .before in
     let at-count-returned = at-due-for .before in
-    let at-judge-in = at-count-returned .before .before in
-    let entry = at-judge-in .before .before .before .before .before .before .before in
-    let p = (entry .pre) in (ready _ _ (p .0) _ (p .1 .0) _ (p .1 .1 .1) (p .1 .1 .0) (at-judge-in .judge-in .ensures) (at-count-returned .count-returned .ensures) (at-due-for .due-for .ensures), text-fits (now ((entry .args .output))) (at-message-size .message-size .ensures) (at-if1 .if1 .left) (omega (arith, (entry .good))))
+    let entry = at-count-returned .before .before .before .before .before in
+    let p = (entry .pre) in (ready _ _ (p .0) _ (p .1 .0) _ (p .1 .1 .1) (p .1 .1 .0) (at-count-returned .count-returned .ensures) (at-due-for .due-for .ensures), text-fits (now ((entry .args .output))) (at-message-size .message-size .ensures) (at-if1 .if1 .left) (omega (arith, (entry .good))))
 
 same-length-2 : tie.Need-same-length-2
 same-length-2 c = search (sending, needs)
@@ -49,17 +48,16 @@ same-length-3 c = search (sending, needs)
 returns-2 : tie.Need-returns-2
 returns-2 c =
     let at-accept-message = c .before .before .before .before in
-    let at-if1 = at-accept-message .before .before .before .before .before .before in
+    let at-if1 = at-accept-message .before .before .before .before .before in
     let at-message-size = at-if1 .before in
-    let entry = at-message-size .before .before .before .before .before .before .before .before .before .before .before .before .before in
+    let entry = at-message-size .before .before .before .before .before .before .before .before in
     let p = (entry .pre) in sent-made _ _ (p .0) _ (p .1 .0) (now ((entry .args .output))) (p .1 .1 .0) (at-message-size .message-size .ensures) (at-if1 .if1 .left) (omega (arith, (entry .good))) (at-accept-message .accept-message .ensures)
 
 pub send-message-spec : {M : Type 1} → statement M
 send-message-spec =
     tie.close
     (tie.spec
-    cast-n
-    judge-in-requires
+    cast-count-returned
     count-returned-requires
     due-for-requires
     message-size-requires

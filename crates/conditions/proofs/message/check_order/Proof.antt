@@ -1,5 +1,5 @@
 -- `conditions::message::check_order` meets its contract: each way out is a law of the check.
-use Rattle.conditions.specs.Checks.{checking}
+use Rattle.conditions.specs.Checks.{order-good, checking}
 use borrow.Author.Needs.{needs}
 use Rattle.conditions.proofs.message.check_order.Statement.{statement}
 use Rattle.conditions.proofs.message.check_order.Tie as tie
@@ -11,7 +11,7 @@ element-copy-out-line : tie.Need-element-copy-out-line
 element-copy-out-line c = search (checking, needs)
 
 tally-details-requires : tie.Need-tally-details-requires
-tally-details-requires c κs = search (checking, needs)
+tally-details-requires c κs = (search (checking, needs), (search (checking, needs), (search (checking, needs), search (checking, needs))))
 
 order-stop-requires : tie.Need-order-stop-requires
 order-stop-requires c κs = search (checking, needs)
@@ -23,7 +23,12 @@ booking-of-requires : tie.Need-booking-of-requires
 booking-of-requires c κs = search (checking, needs)
 
 returns : tie.Need-returns
-returns c = search (checking, needs)
+returns c =
+    let at-order-stop = c .before .before .before in
+    let at-tally-details = at-order-stop .before .before .before in
+    let at-if1 = at-tally-details .before .before .before .before .before .before in
+    order-good _ _ _ (at-if1 .before .read-rows .ensures) (at-if1 .if1 .taken) _ (at-tally-details .tally-details .ensures) (at-order-stop .before .before .if2 .taken) _ (at-order-stop .order-stop .ensures) (c .before .before .if3 .taken) _
+    (c .before .behind .ensures) _ (c .booking-of .ensures)
 
 returns-2 : tie.Need-returns-2
 returns-2 c = search (checking, needs)

@@ -6,8 +6,8 @@ use Rattle.conditions.proofs.tally.after.Tie as tie
 day-of-requires : tie.Need-day-of-requires
 day-of-requires c κs = search needs
 
-raised-requires : tie.Need-raised-requires
-raised-requires c κs = search needs
+add-sum : tie.Need-add-sum
+add-sum c = search needs
 
 detail-stop-requires : tie.Need-detail-stop-requires
 detail-stop-requires c κs = search needs
@@ -24,4 +24,4 @@ returns c = search needs
 pub after-spec : {M : Type 1} → statement M
 after-spec =
     tie.close
-    (tie.spec day-of-requires raised-requires detail-stop-requires least-requires add-count returns)
+    (tie.spec day-of-requires add-sum detail-stop-requires least-requires add-count returns)

@@ -1,4 +1,4 @@
--- `conditions::tally::tally_details` meets its contract. The loop's invariant: some details are told and kept, and with those that are left they are all.
+-- `conditions::tally::tally_details` meets its contract. The loop's invariant: some details are told, judged and kept, the sum is that of their amounts, and with those that are left they are all.
 use Prim.Native.Nat.{_-_, _≤_}
 use lib.ListN.{length}
 use Rattle.conditions.specs.Tally.{Walking, tallying}
@@ -7,10 +7,10 @@ use Rattle.conditions.proofs.tally.tally_details.Statement.{statement}
 use Rattle.conditions.proofs.tally.tally_details.Tie as tie
 
 abbrev Inv-loop : tie.InvT-loop
-Inv-loop s at amounts₀ places₀ fields₀ none t₀ pos₀ amounts places fields t pos = (t .count ≤ 4096) × (pos ≤ length s) × Walking s at pos t amounts places fields
+Inv-loop s at text amounts₀ places₀ verdicts₀ fields₀ none t₀ pos₀ amounts places verdicts fields t pos = (t .count ≤ 4096) × (pos ≤ length s) × Walking s text at pos t amounts places verdicts fields
 
 abbrev μ-loop : tie.MeasureT-loop
-μ-loop s at amounts₀ places₀ fields₀ none t₀ pos₀ amounts places fields t pos = 4096 - t .count
+μ-loop s at text amounts₀ places₀ verdicts₀ fields₀ none t₀ pos₀ amounts places verdicts fields t pos = 4096 - t .count
 
 loop-holds : tie.Need-loop-holds Inv-loop μ-loop
 loop-holds c = search (tallying, needs)
