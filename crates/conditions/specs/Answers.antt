@@ -8,8 +8,7 @@ use Rattle.rules.specs.Messages.{Message, read, detailsOf}
 use Rattle.rules.specs.Register.{registerOf}
 use Rattle.rules.specs.Calls.{formStops, firstOf, inputStops}
 use Rattle.details.specs.Message.{orNone, messageIn, detailAt}
-use Rattle.details.specs.Kept.{LinesAs, amountAt}
-use Rattle.verdict.specs.Details.{verdictAt, JudgedIn}
+use Rattle.verdict.specs.Details.{JudgedAt, JudgedIn}
 use Rattle.conditions.specs.Books.{Books}
 use Rattle.conditions.specs.declared.booking.Booking.{Booking}
 use Rattle.conditions.specs.declared.message.Checked.{Checked}
@@ -27,22 +26,20 @@ pub record Reads (s text : List ℕ) (o : Option Message) (b : Booking) (amounts
   pub books : Books s message b
   pub count : b .count ≡ length (detailsOf message)
   pub few : b .count ≤ 16
-  pub amounts-are : (i : ℕ) → i < b .count → amountAt amounts (detailAt (detailsOf message) i) i
-  pub lines-are : (i : ℕ) → i < b .count → LinesAs s (detailAt (detailsOf message) i) places i
-  pub verdicts-are : (i : ℕ) → i < b .count → verdictAt text verdicts (detailAt (detailsOf message) i) i
+  pub each : (i : ℕ) → i < b .count → JudgedAt text s amounts places verdicts (detailAt (detailsOf message) i) i
 
 abbrev pub Parts : List ℕ → List ℕ → Option Message → List ℕ → List ℕ → List ℕ → Checked → Type 0
 Parts s text o amounts places verdicts (Refused k) = 0 < k
 Parts s text o amounts places verdicts (Passed b) = Reads s text o b amounts places verdicts
 
--- r answers 3 to 8 of what was read, and has its parts
-pub record CheckedBy (temporary s text : List ℕ) (o : Option Message) (r : Checked) (amounts places verdicts : List ℕ) : Type 0 where
-  pub number : numberOf r ≡ firstOf (formStops temporary o)
-  pub parts : Parts s text o amounts places verdicts r
-
 -- the temporary account of a register's text
 abbrev pub temporaryIn : List ℕ → List ℕ
 temporaryIn text = registerOf text .temporary
+
+-- r answers 3 to 8 of what was read, and has its parts
+pub record CheckedBy (s text : List ℕ) (o : Option Message) (r : Checked) (amounts places verdicts : List ℕ) : Type 0 where
+  pub number : numberOf r ≡ firstOf (formStops (temporaryIn text) o)
+  pub parts : Parts s text o amounts places verdicts r
 
 -- r answers 1 to 8 of the message's bytes, and has its parts
 pub record CheckedAs (s text : List ℕ) (r : Checked) (amounts places verdicts : List ℕ) : Type 0 where
@@ -69,9 +66,9 @@ reads-told s text b amounts places verdicts z p =
       read = rw e (p .same);
       books = rw e (p .books);
       judged = record {
-        lines-kept = record { count = rw e (p .count); few = p .few; each = rw e (p .lines-are) };
-        amounts-kept = record { each = rw e (p .amounts-are) };
-        verdicts-kept = record { each = rw e (p .verdicts-are) };
+        lines-kept = record { count = rw e (p .count); few = p .few; each = rw e (λ i l. p .each i l .kept .lines) };
+        amounts-kept = record { each = rw e (λ i l. p .each i l .kept .amount) };
+        verdicts-kept = record { each = rw e (λ i l. p .each i l .verdict) };
       };
     }
 

@@ -47,8 +47,8 @@ unread : (temporary : List ℕ) → firstOf (formStops temporary none) ≡ 3
 unfolding formStops firstOf
 unread temporary = refl
 
-formless : (temporary s text : List ℕ) (o : Option Message) {amounts places verdicts : List ℕ} → o ≡ none → CheckedBy temporary s text o (Refused 3) amounts places verdicts
-formless temporary s text o e = record { number = rw e (sym (unread temporary)); parts = omega arith }
+formless : (s text : List ℕ) (o : Option Message) {amounts places verdicts : List ℕ} → o ≡ none → CheckedBy s text o (Refused 3) amounts places verdicts
+formless s text o e = record { number = rw e (sym (unread (temporaryIn text))); parts = omega arith }
 
 -- field 20, behind its line's first four bytes
 field-20 : (s : List ℕ) (l : List Span) (n : ℕ) (q : Span) → message20 < n → SpanIn s (getD l message20 noSpan) → Behind (getD l message20 noSpan) 4 q → spanOf s q ≡ field20 (linesAt s l n)
@@ -56,13 +56,13 @@ field-20 s l n q h w b = rw (span-line s l n message20 h) (behind-bytes s _ 4 w 
 
 -- ---- an MT103
 
--- r answers of an MT103, whatever is kept: it has no details
+-- r answers of an MT103, by any register with this temporary account and whatever is kept: it has no details
 pub record TransferChecked (temporary s : List ℕ) (r : Checked) : Type 0 where
-  pub with : (text amounts places verdicts : List ℕ) → CheckedBy temporary s text (readTransfer s) r amounts places verdicts
+  pub with : (text amounts places verdicts : List ℕ) → temporary ≡ temporaryIn text → CheckedBy s text (readTransfer s) r amounts places verdicts
 
 module _ (s temporary : List ℕ) (t : T.Transfer) (w : TransferIn s t) where
   pub transfer-formless : t .ok ≡ false → TransferChecked temporary s (Refused 3)
-  transfer-formless h = record { with = λ text amounts places verdicts. formless temporary s text (readTransfer s) (answer-not _ _ _ (w .same) h) }
+  transfer-formless h = record { with = λ text amounts places verdicts v. formless s text (readTransfer s) (answer-not _ _ _ (w .same) h) }
 
   module _ (h : t .ok ≡ true) where
     transfer-read : readTransfer s ≡ some (mt103 (transferIn s t))
@@ -76,37 +76,31 @@ module _ (s temporary : List ℕ) (t : T.Transfer) (w : TransferIn s t) where
     transfer-date = date-six s _ transfer-its
 
     module _ (k : ℕ) (u : k ≡ transferStop s temporary t) where
-      transfer-number : k ≡ firstOf (formStops temporary (readTransfer s))
-      transfer-number = rw transfer-read (u ∙ transfer-stops s temporary t)
+      transfer-number : (text : List ℕ) → temporary ≡ temporaryIn text → k ≡ firstOf (formStops (temporaryIn text) (readTransfer s))
+      transfer-number text v = rw transfer-read (u ∙ transfer-stops s temporary t ∙ ap (λ (x : List ℕ). firstOf (formStops x (some (mt103 (transferIn s t))))) v)
 
       pub transfer-stopped : (k ≡ 0 → ⊥) → TransferChecked temporary s (Refused k)
-      transfer-stopped z = record { with = λ text amounts places verdicts. record { number = transfer-number; parts = omega arith } }
+      transfer-stopped z = record { with = λ text amounts places verdicts v. record { number = transfer-number text v; parts = omega arith } }
 
       pub transfer-good : k ≡ 0 → (q : Span) → Behind (getD (t .spans) message20 noSpan) 4 q → (b : Booking)
           → b ≡ bookingOf s true q (t .date) (t .amount) 0 → TransferChecked temporary s (Passed b)
       unfolding referenceOf detailsOf
       transfer-good z q d b e =
           let f : SpanIn s (getD (t .spans) message20 noSpan) = within-at s (t .spans) message20 (w .within) in record {
-            with = λ text amounts places verdicts. record {
-              number = sym z ∙ transfer-number;
+            with = λ text amounts places verdicts v. record {
+              number = sym z ∙ transfer-number text v;
               parts = record {
                 message = mt103 (transferIn s t);
                 same = transfer-read;
                 books = rw e (transfer-books s (transferIn s t) transfer-its q (behind-in s _ 4 f q d) (field-20 s (t .spans) 23 q (omega arith) f d) (w .small));
                 count = rw e;
                 few = rw e (omega arith);
-                amounts-are = λ i l. absurd (let n : i < 0 = rw e at l in omega arith);
-                lines-are = λ i l. absurd (let n : i < 0 = rw e at l in omega arith);
-                verdicts-are = λ i l. absurd (let n : i < 0 = rw e at l in omega arith);
+                each = λ i l. absurd (let n : i < 0 = rw e at l in omega arith);
               };
             };
           }
 
 -- ---- an MT101
-
--- r answers of an MT101, whatever the temporary account is
-pub record OrderChecked (s text : List ℕ) (r : Checked) (amounts places verdicts : List ℕ) : Type 0 where
-  pub with : (temporary : List ℕ) → CheckedBy temporary s text (readOrder s) r amounts places verdicts
 
 order-rows : part 0 1 ≡ orderRows
 unfolding part table
@@ -118,9 +112,9 @@ all-stops : (temporary bank : List ℕ) (rows : List Line) (ds : List M.Detail) 
 all-stops temporary bank rows ds n low b t e f g h = rw (e, f, g) (order-many (length ds) (slashed (field20 rows)) (lowestAny bank (firstDate ds) ds) t (twice alike ds) h ∙ order-stops temporary bank rows ds)
 
 module _ (s text : List ℕ) (rows : Rows) (w : RowsAt s 23 0 1 rows) where
-  pub order-rowless : {amounts places verdicts : List ℕ} → rows .ok ≡ false → OrderChecked s text (Refused 3) amounts places verdicts
+  pub order-rowless : {amounts places verdicts : List ℕ} → rows .ok ≡ false → CheckedBy s text (readOrder s) (Refused 3) amounts places verdicts
   unfolding readOrder
-  order-rowless h = let e : none ≡ takeRows orderRows (body s) = rw (h, order-rows, body-from) at (w .same) in record { with = λ u. formless u s text (readOrder s) (rw (← e)) }
+  order-rowless h = let e : none ≡ takeRows orderRows (body s) = rw (h, order-rows, body-from) at (w .same) in formless s text (readOrder s) (rw (← e))
 
   -- the message of some details
   abbrev order : List M.Detail → M.Order
@@ -133,8 +127,8 @@ module _ (s text : List ℕ) (rows : Rows) (w : RowsAt s 23 0 1 rows) where
         let e : some record { rows = linesAt s (rows .spans) 1; others = from s (rows .next) } ≡ takeRows orderRows (body s) = rw (h, order-rows, body-from) at (w .same) in
         rw (← e)
 
-    pub order-formless : t .ok ≡ false → OrderChecked s text (Refused 3) amounts places verdicts
-    order-formless k = record { with = λ u. formless u s text (readOrder s) (order-read ∙ (rw (v .none-there k))) }
+    pub order-formless : t .ok ≡ false → CheckedBy s text (readOrder s) (Refused 3) amounts places verdicts
+    order-formless k = formless s text (readOrder s) (order-read ∙ (rw (v .none-there k)))
 
     module _ (k : t .ok ≡ true) where
       abbrev all : DetailsTallied s text (rows .next) t amounts places verdicts fields
@@ -157,37 +151,33 @@ module _ (s text : List ℕ) (rows : Rows) (w : RowsAt s 23 0 1 rows) where
       order-date = rw (its .date) (date-six s _ order-its)
 
       module _ (c : ℕ) (u : c ≡ orderStop (t .count) (slashed (past ":20:" (spanOf s (getD (rows .spans) message20 noSpan)))) (t .low) (twice equal (fieldsFrom s fields 0 (t .count)))) where
-        order-number : (temporary : List ℕ) → c ≡ firstOf (formStops temporary (readOrder s))
-        order-number temporary =
+        order-number : c ≡ firstOf (formStops (temporaryIn text) (readOrder s))
+        order-number =
             u
-            ∙ all-stops temporary (sender s) (linesAt s (rows .spans) 1) (all .all) (t .count) (t .low) (slashed (past ":20:" (spanOf s (getD (rows .spans) message20 noSpan)))) (twice equal (fieldsFrom s fields 0 (t .count))) (its .count) (its .low) (rw (span-line s (rows .spans) 1 message20 (omega arith)))
+            ∙ all-stops (temporaryIn text) (sender s) (linesAt s (rows .spans) 1) (all .all) (t .count) (t .low) (slashed (past ":20:" (spanOf s (getD (rows .spans) message20 noSpan)))) (twice equal (fieldsFrom s fields 0 (t .count))) (its .count) (its .low) (rw (span-line s (rows .spans) 1 message20 (omega arith)))
             (λ l. ap (λ (n : ℕ). twice equal (fieldsFrom s fields 0 n)) (its .count) ∙ named-twice s (all .all) fields (its .first .named) l)
-            ∙ ap (λ (o : Option Message). firstOf (formStops temporary o)) (sym is-order)
+            ∙ ap (λ (o : Option Message). firstOf (formStops (temporaryIn text) o)) (sym is-order)
 
-        pub order-stopped : (c ≡ 0 → ⊥) → OrderChecked s text (Refused c) amounts places verdicts
-        order-stopped z = record { with = λ temporary. record { number = order-number temporary; parts = omega arith } }
+        pub order-stopped : (c ≡ 0 → ⊥) → CheckedBy s text (readOrder s) (Refused c) amounts places verdicts
+        order-stopped z = record { number = order-number; parts = omega arith }
 
         pub order-count : c ≡ 0 → t .count ≤ 16
         order-count z = order-few (t .count) (slashed (past ":20:" (spanOf s (getD (rows .spans) message20 noSpan)))) (t .low) (twice equal (fieldsFrom s fields 0 (t .count))) (sym u ∙ z)
 
         pub order-good : c ≡ 0 → (q : Span) → Behind (getD (rows .spans) message20 noSpan) 4 q → (b : Booking)
-            → b ≡ bookingOf s false q (t .date) (t .sum) (t .count) → OrderChecked s text (Passed b) amounts places verdicts
+            → b ≡ bookingOf s false q (t .date) (t .sum) (t .count) → CheckedBy s text (readOrder s) (Passed b) amounts places verdicts
         unfolding referenceOf detailsOf
         order-good z q d b e =
             let few : t .count ≤ 16 = order-count z in
             let f : SpanIn s (getD (rows .spans) message20 noSpan) = within-at s (rows .spans) message20 (w .within) in record {
-              with = λ temporary. record {
-                number = sym z ∙ order-number temporary;
-                parts = record {
-                  message = mt101 (order (all .all));
-                  same = is-order;
-                  books = rw e (order-books s (order (all .all)) order-its q (behind-in s _ 4 f q d) (field-20 s (rows .spans) 1 q (omega arith) f d) (its .date) (its .sum) (omega (arith, its .bound)));
-                  count = rw e (its .count);
-                  few = rw e few;
-                  amounts-are = λ i l. (let n : i < t .count = rw e at l in its .first .kept .amounts-are .each i (rw (← its .count) n) (omega arith));
-                  lines-are = λ i l. (let n : i < t .count = rw e at l in its .first .kept .lines-are .each i (rw (← its .count) n) (omega arith));
-                  verdicts-are = λ i l. (let n : i < t .count = rw e at l in its .first .judged .each .each i (rw (← its .count) n) (omega arith));
-                };
+              number = sym z ∙ order-number;
+              parts = record {
+                message = mt101 (order (all .all));
+                same = is-order;
+                books = rw e (order-books s (order (all .all)) order-its q (behind-in s _ 4 f q d) (field-20 s (rows .spans) 1 q (omega arith) f d) (its .date) (its .sum) (omega (arith, its .bound)));
+                count = rw e (its .count);
+                few = rw e few;
+                each = λ i l. (let n : i < t .count = rw e at l in its .first .judged .each i (rw (← its .count) n) (omega arith));
               };
             }
 
@@ -243,12 +233,9 @@ module _ (text : List ℕ) {amounts places verdicts : List ℕ} (r : JudgingRoom
   pub temporary-room : 22 ≤ length text
   temporary-room = omega (arith, text-first text (r .passes))
 
-  front-is : (t : List ℕ) → t ≡ take (22 - 0) (drop 0 text) → t ≡ temporaryIn text
+  pub temporary-is : (t : List ℕ) → t ≡ take (22 - 0) (drop 0 text) → t ≡ temporaryIn text
   unfolding cut
-  front-is t e = e ∙ sym (temporary-at text (r .passes))
-
-  pub transfer-front : (t s : List ℕ) (c : Checked) → t ≡ take (22 - 0) (drop 0 text) → TransferChecked t s c → TransferChecked (temporaryIn text) s c
-  transfer-front t s c e j = rw (front-is t e) at j
+  temporary-is t e = e ∙ sym (temporary-at text (r .passes))
 
 module _ (s text : List ℕ) (b : Bool) (u : b ≡ framed s) where
   pub message-unframed : b ≡ false → {amounts places verdicts : List ℕ} → CheckedAs s text (Refused 1) amounts places verdicts
@@ -266,18 +253,18 @@ module _ (s text : List ℕ) (b : Bool) (u : b ≡ framed s) where
       form-stops = rw (← u, h, ← v, k)
 
       module _ (q : Bool) (w : q ≡ equal (type s) (ascii "103")) (r : Checked) {amounts places verdicts : List ℕ} where
-        as-read : (o : Option Message) → o ≡ read s → CheckedBy (temporaryIn text) s text o r amounts places verdicts → CheckedAs s text r amounts places verdicts
+        as-read : (o : Option Message) → o ≡ read s → CheckedBy s text o r amounts places verdicts → CheckedAs s text r amounts places verdicts
         as-read o e j = record {
           number = j .number ∙ ap (λ (x : Option Message). firstOf (formStops (temporaryIn text) x)) e ∙ form-stops;
           parts = subst (λ (x : Option Message). Parts s text x amounts places verdicts r) e (j .parts);
         }
 
-        pub message-transfer : q ≡ true → TransferChecked (temporaryIn text) s r → CheckedAs s text r amounts places verdicts
+        pub message-transfer : q ≡ true → (t : List ℕ) → t ≡ temporaryIn text → TransferChecked t s r → CheckedAs s text r amounts places verdicts
         unfolding read
-        message-transfer z j = as-read (readTransfer s) (rw (← w, z)) (j .with text amounts places verdicts)
+        message-transfer z t e j = as-read (readTransfer s) (rw (← w, z)) (j .with text amounts places verdicts e)
 
-        pub message-order : q ≡ false → OrderChecked s text r amounts places verdicts → CheckedAs s text r amounts places verdicts
+        pub message-order : q ≡ false → CheckedBy s text (readOrder s) r amounts places verdicts → CheckedAs s text r amounts places verdicts
         unfolding read
-        message-order z j = as-read (readOrder s) (rw (← w, z)) (j .with (temporaryIn text))
+        message-order z j = as-read (readOrder s) (rw (← w, z)) j
 
-pub ruleset checking = (within-at, within-order, transfer-formless, transfer-stopped, transfer-date, transfer-good, order-rowless, order-formless, order-fields, order-stopped, order-date, order-count, order-good, framed-high, framed-low, type-is, addressed-not, addressed-101, addressed-103, message-unframed, message-unaddressed, temporary-room, transfer-front, message-transfer, message-order)
+pub ruleset checking = (within-at, within-order, transfer-formless, transfer-stopped, transfer-date, transfer-good, order-rowless, order-formless, order-fields, order-stopped, order-date, order-count, order-good, framed-high, framed-low, type-is, addressed-not, addressed-101, addressed-103, message-unframed, message-unaddressed, temporary-room, temporary-is, message-transfer, message-order)

@@ -16,17 +16,17 @@ use Rattle.rules.specs.Messages.{past, details, firstDate, sumOfAmounts}
 use Rattle.laws.specs.Parts.{from}
 use Rattle.laws.specs.Tests.{answer-is, answer-not, never}
 use Rattle.rule_laws.specs.Options.{Mapped, mapped}
-use Rattle.forms.specs.Spans.{spanOf, noSpan, within-at, within-order, span-line}
+use Rattle.forms.specs.Spans.{spanOf, noSpan, within-at, within-order}
 use Rattle.forms.specs.Fields.{Behind}
 use Rattle.forms.specs.Details.{detailIn, DetailAt, detail-long}
 use Rattle.forms.specs.declared.rows.Span.{Span}
 use Rattle.forms.specs.declared.detail.Detail.{Detail}
-use Rattle.details.specs.Lines.{withLine}
-use Rattle.details.specs.Kept.{Keeps, Kept, kept-none, kept-full, kept-more, more-length}
-use Rattle.verdict.specs.Details.{JudgingRoom, VerdictOn, Verdicts, verdicts-none, verdicts-full, verdicts-more}
+use Rattle.details.specs.Lines.{withLine, line-length}
+use Rattle.details.specs.Kept.{Keeps, OfFirst, first-none, first-full, first-more, more-length}
+use Rattle.verdict.specs.Details.{JudgingRoom, VerdictOn, JudgedAt, judged-room, judged-own, judged-other}
 use Rattle.field_conditions.specs.Stops.{lowest, detailStop, detail-lowest, noStop}
 use Rattle.conditions.specs.Lowest.{lowestAny, any-none, any-last}
-use Rattle.conditions.specs.Walk.{Named, FieldsIn, named-none, named-full, named-more}
+use Rattle.conditions.specs.Walk.{FieldAt, FieldsIn, field-own, field-other}
 use Rattle.conditions.specs.declared.tally.Tally.{Tally}
 
 -- ---- one more detail, n being before it
@@ -59,11 +59,12 @@ pub data KeepsFirst (s text : List ℕ) (n : ℕ) (d : Detail) (amounts places v
 
 -- ---- what is told of some details
 
--- of the first 16: amounts and places, verdicts, and the places of the fields 21
+-- the first 16 are kept and judged, and the places of their fields 21 are kept
 pub record FirstKept (s text : List ℕ) (ds : List M.Detail) (amounts places verdicts fields : List ℕ) : Type 0 where
-  pub kept : Kept s ds amounts places
-  pub judged : Verdicts text ds verdicts
-  pub named : Named s ds fields
+  pub room : JudgingRoom text amounts places verdicts
+  pub size : length fields ≡ 32
+  pub judged : OfFirst (JudgedAt text s amounts places verdicts) ds
+  pub named : OfFirst (FieldAt s fields) ds
 
 -- their number, the sum of their amounts, the first one's date, the lowest condition that one breaks
 pub record TallyTold (s text : List ℕ) (ds : List M.Detail) (t : Tally) (amounts places verdicts fields : List ℕ) : Type 0 where
@@ -94,20 +95,17 @@ low-more bank (e ∷ ds) d = sym (any-last bank (e .date) (e ∷ ds) d)
 
 first-told : (s text : List ℕ) (ds : List M.Detail) (d : Detail) {at : ℕ} → DetailAt s at d → d .ok ≡ true → {amounts places verdicts fields amounts' places' verdicts' fields' : List ℕ} → FirstKept s text ds amounts places verdicts fields
     → KeepsFirst s text (length ds) d amounts places verdicts fields amounts' places' verdicts' fields' → FirstKept s text (ds ++ (detailIn s d ∷ [])) amounts' places' verdicts' fields'
-first-told s text ds d w v o (stays h) = record {
-  kept = kept-full s ds (o .kept) h (detailIn s d);
-  judged = verdicts-full text ds (o .judged) (detailIn s d) h;
-  named = named-full s ds (o .named) h (detailIn s d);
-}
-first-told s text ds d w v o (keeps h k j b e) = record {
-  kept = kept-more s ds (o .kept) h d w v k;
-  judged = verdicts-more text ds (o .judged) (detailIn s d) h (rw (span-line s (d .spans) 17 detail59 (omega arith)) j);
-  named = rw e (named-more s ds (o .named) h d w b);
+first-told s text ds d w v o (stays h) = record { room = o .room; size = o .size; judged = first-full ds (o .judged) (detailIn s d) h; named = first-full ds (o .named) (detailIn s d) h }
+first-told s text ds d w v {fields = fields} o (keeps {q = q} h k j b e) = record {
+  room = judged-room text s (o .room) h d w v k j;
+  size = rw e (line-length fields (length ds) q ∙ o .size);
+  judged = first-more ds (o .judged) (detailIn s d) (judged-other text s (o .room) h d w v k j) (judged-own text s (o .room) h d w v k j);
+  named = rw e (first-more ds (o .named) (detailIn s d) (field-other s fields q) (field-own s fields q (o .size) h d w b));
 }
 
 pub told-none : (s text : List ℕ) {t : Tally} {amounts places verdicts fields : List ℕ} → t .count ≡ 0 → t .sum ≡ 0 → t .date ≡ 0 → t .low ≡ noStop → JudgingRoom text amounts places verdicts → length fields ≡ 32 → TallyTold s text [] t amounts places verdicts fields
 unfolding sumOfAmounts firstDate
-told-none s text a b c d e f = record { count = a; sum = b; bound = omega (arith, b); date = c; low = rw (any-none) d; first = record { kept = kept-none s (e .details); judged = verdicts-none text (e .size); named = named-none s f } }
+told-none s text a b c d e f = record { count = a; sum = b; bound = omega (arith, b); date = c; low = rw (any-none) d; first = record { room = e; size = f; judged = first-none; named = first-none } }
 
 module _ (s text : List ℕ) (ds : List M.Detail) (t : Tally) {amounts places verdicts fields : List ℕ} (o : TallyTold s text ds t amounts places verdicts fields) {at : ℕ} (d : Detail) (w : DetailAt s at d) (v : d .ok ≡ true) {amounts' places' verdicts' fields' : List ℕ}
     (c : KeepsFirst s text (t .count) d amounts places verdicts fields amounts' places' verdicts' fields') (r : Tally) (a : After s t d r) where
@@ -226,7 +224,7 @@ module _ (s text : List ℕ) (at pos : ℕ) (t : Tally) {amounts places verdicts
 pub told-fields : (s text : List ℕ) (at : ℕ) (t : Tally) (amounts places verdicts fields : List ℕ) → TallyAt s text at t amounts places verdicts fields → t .ok ≡ true → FieldsIn s fields (t .count)
 told-fields s text at t amounts places verdicts fields w h =
     let o : DetailsTallied s text at t amounts places verdicts fields = w .all-there h in
-    record { inside = λ i l m. o .told .first .named .each .each i (rw (← o .told .count) l) m .inside }
+    record { inside = λ i l m. o .told .first .named .each i (rw (← o .told .count) l) m .inside }
 
 pub ruleset keeping = (within-at, within-order, KeepsFirst.stays, KeepsFirst.keeps)
 

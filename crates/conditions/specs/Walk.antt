@@ -1,7 +1,7 @@
 -- The fields 21 of details, by their places, and which of them are the same. What is left of a walk over them gives the answer.
 use mathlib.Core.Path.{_≡_, refl, sym, ap, _∙_}
 use mathlib.Core.Bool.{Bool, true, false}
-use mathlib.Core.List.{List, [], _∷_, _++_, map}
+use mathlib.Core.List.{List, [], _∷_, map}
 use Prim.Native.Nat.{ℕ, zero, suc, _+_, _-_, _≤_, _<_}
 use native.Mathlib.Nat.{sub-zero, add-zero, zero-add}
 use native.Mathlib.Omega.{arith}
@@ -15,9 +15,9 @@ use Rattle.forms.specs.Fields.{Behind, behind-in, behind-bytes}
 use Rattle.forms.specs.Details.{DetailAt, detailIn}
 use Rattle.forms.specs.declared.rows.Span.{Span}
 use Rattle.forms.specs.declared.detail.Detail.{Detail}
-use Rattle.details.specs.Lines.{lineAt, withLine, line-length, line-set, line-other}
+use Rattle.details.specs.Lines.{lineAt, withLine, line-set, line-other}
 use Rattle.details.specs.Message.{detailAt}
-use Rattle.details.specs.Kept.{OfFirst, first-none, first-full, first-more}
+use Rattle.details.specs.Kept.{OfFirst}
 
 -- the first n places, 16 at most, lie within the text
 pub record FieldsIn (s fields : List ℕ) (n : ℕ) : Type 0 where
@@ -38,37 +38,24 @@ pub record FieldAt (s fields : List ℕ) (d : M.Detail) (i : ℕ) : Type 0 where
   pub inside : SpanIn s (lineAt fields i)
   pub bytes : spanOf s (lineAt fields i) ≡ field21 d
 
-pub record Named (s : List ℕ) (ds : List M.Detail) (fields : List ℕ) : Type 0 where
-  pub size : length fields ≡ 32
-  pub each : OfFirst (FieldAt s fields) ds
+module _ (s fields : List ℕ) {n : ℕ} (q : Span) where
+  pub field-other : (e : M.Detail) (i : ℕ) → i < n → FieldAt s fields e i → FieldAt s (withLine fields n q) e i
+  field-other e i l f =
+      let stays : lineAt (withLine fields n q) i ≡ lineAt fields i = line-other fields n q i (λ z. omega arith) in
+      record { inside = rw stays (f .inside); bytes = ap (spanOf s) stays ∙ f .bytes }
 
-pub named-none : (s : List ℕ) {fields : List ℕ} → length fields ≡ 32 → Named s [] fields
-named-none s e = record { size = e; each = first-none }
-
-module _ (s : List ℕ) (ds : List M.Detail) {fields : List ℕ} (k : Named s ds fields) where
-  pub named-full : 16 ≤ length ds → (d : M.Detail) → Named s (ds ++ (d ∷ [])) fields
-  named-full h d = record { size = k .size; each = first-full ds (k .each) d h }
-
-  module _ {at : ℕ} (h : length ds < 16) (d : Detail) (w : DetailAt s at d) {q : Span} (b : Behind (getD (d .spans) detail21 noSpan) 4 q) where
-    own : lineAt (withLine fields (length ds) q) (length ds) ≡ q
-    own = line-set fields (length ds) q (omega (arith, k .size))
-
-    other : (e : M.Detail) (i : ℕ) → i < length ds → FieldAt s fields e i → FieldAt s (withLine fields (length ds) q) e i
-    other e i l f =
-        let stays : lineAt (withLine fields (length ds) q) i ≡ lineAt fields i = line-other fields (length ds) q i (λ z. omega arith) in
-        record { inside = rw stays (f .inside); bytes = ap (spanOf s) stays ∙ f .bytes }
+  module _ (r : length fields ≡ 32) (h : n < 16) (d : Detail) {at : ℕ} (w : DetailAt s at d) (b : Behind (getD (d .spans) detail21 noSpan) 4 q) where
+    own : lineAt (withLine fields n q) n ≡ q
+    own = line-set fields n q (omega arith)
 
     first-in : SpanIn s (getD (d .spans) detail21 noSpan)
     first-in = within-at s (d .spans) detail21 (w .within)
 
-    own-field : FieldAt s (withLine fields (length ds) q) (detailIn s d) (length ds)
-    own-field = record {
+    pub field-own : FieldAt s (withLine fields n q) (detailIn s d) n
+    field-own = record {
       inside = rw own (behind-in s _ 4 first-in q b);
       bytes = ap (spanOf s) own ∙ rw (span-line s (d .spans) 17 detail21 (omega arith)) (behind-bytes s _ 4 first-in q b);
     }
-
-    pub named-more : Named s (ds ++ (detailIn s d ∷ [])) (withLine fields (length ds) q)
-    named-more = record { size = line-length fields (length ds) q ∙ k .size; each = first-more ds (k .each) (detailIn s d) other own-field }
 
 -- the places hold the fields 21
 fields-named : (s fields : List ℕ) (es : List M.Detail) (i : ℕ) → ((j : ℕ) → j < length es → spanOf s (lineAt fields (i + j)) ≡ field21 (detailAt es j)) → fieldsFrom s fields i (length es) ≡ map field21 es
@@ -93,9 +80,9 @@ twice-map (d ∷ ds) = rw (any-map d ds, twice-map ds) refl
     any-map d (e ∷ es) = rw (any-map d es) refl
 
 -- so that two of them are the same where two details have one field 21
-pub named-twice : (s : List ℕ) (ds : List M.Detail) (fields : List ℕ) → Named s ds fields → length ds ≤ 16 → twice equal (fieldsFrom s fields 0 (length ds)) ≡ twice alike ds
+pub named-twice : (s : List ℕ) (ds : List M.Detail) (fields : List ℕ) → OfFirst (FieldAt s fields) ds → length ds ≤ 16 → twice equal (fieldsFrom s fields 0 (length ds)) ≡ twice alike ds
 named-twice s ds fields k h =
-    rw (fields-named s fields ds 0 (λ j l. rw (zero-add j) (k .each .each j l (omega arith) .bytes))) (sym (twice-map ds))
+    rw (fields-named s fields ds 0 (λ j l. rw (zero-add j) (k .each j l (omega arith) .bytes))) (sym (twice-map ds))
 
 -- ---- two of them the same: j of n are passed
 

@@ -15,10 +15,11 @@ ghost use Prim.Native.Nat.{_≤_};
 ghost use lib.ListN.{length};
 ghost use Rattle.rules.specs.Text.{equal};
 ghost use Rattle.rules.specs.Lines.{type};
+ghost use Rattle.rules.specs.Messages.{readOrder};
 ghost use Rattle.rules.specs.Calls.{addressed};
 ghost use Rattle.verdict.specs.Details.{JudgingRoom};
-ghost use Rattle.conditions.specs.Answers.{CheckedAs};
-ghost use Rattle.conditions.specs.Checks.{TransferChecked, OrderChecked};
+ghost use Rattle.conditions.specs.Answers.{CheckedBy, CheckedAs};
+ghost use Rattle.conditions.specs.Checks.{TransferChecked};
 
 // What the check of a message answers.
 pub enum Checked {
@@ -57,7 +58,7 @@ fn check_order(
     requires { ⌜ 23 ≤ length (now s) ⌝ }
     requires { ⌜ length (now s) ≤ 4096 ⌝ }
     requires { ⌜ JudgingRoom (now text) (now amounts) (now places) (now verdicts) ⌝ }
-    ensures { λ r. ⌜ OrderChecked (now (s .entry)) (now (text .entry)) r (now (amounts .exit)) (now (places .exit)) (now (verdicts .exit)) ⌝ }
+    ensures { λ r. ⌜ CheckedBy (now (s .entry)) (now (text .entry)) (readOrder (now (s .entry))) r (now (amounts .exit)) (now (places .exit)) (now (verdicts .exit)) ⌝ }
 {
     let rows = read_rows(s, 23, 0, 1);
     if rows.ok {

@@ -53,15 +53,10 @@ pub record DetailRoom (amounts places : List ℕ) : Type 0 where
 pub record OfFirst (P : M.Detail → ℕ → Type 0) (ds : List M.Detail) : Type 0 where
   pub each : (i : ℕ) → i < length ds → i < 16 → P (detailAt ds i) i
 
--- the amount kept at place i is the detail's
-abbrev pub amountAt : List ℕ → M.Detail → ℕ → Type 0
-amountAt amounts d i = getD amounts i 0 ≡ d .amount
-
--- they are kept
-pub record Kept (s : List ℕ) (ds : List M.Detail) (amounts places : List ℕ) : Type 0 where
-  pub room : DetailRoom amounts places
-  pub amounts-are : OfFirst (amountAt amounts) ds
-  pub lines-are : OfFirst (λ (d : M.Detail) (i : ℕ). LinesAs s d places i) ds
+-- what is kept of detail d at place i: its amount and its lines
+pub record KeptAt (s amounts places : List ℕ) (d : M.Detail) (i : ℕ) : Type 0 where
+  pub amount : getD amounts i 0 ≡ d .amount
+  pub lines : LinesAs s d places i
 
 -- ---- one more
 
@@ -97,15 +92,15 @@ module _ (ds : List M.Detail) (d : M.Detail) where
   pub more-length : length (ds ++ (d ∷ [])) ≡ length ds + 1
   more-length = length-append ds (d ∷ [])
 
-  pub more-before : (i : ℕ) → i < length ds → detailAt (ds ++ (d ∷ [])) i ≡ detailAt ds i
+  more-before : (i : ℕ) → i < length ds → detailAt (ds ++ (d ∷ [])) i ≡ detailAt ds i
   more-before i h = List·getD-append ds (d ∷ []) noDetail i h
 
-  pub more-last : (i : ℕ) → i ≡ length ds → detailAt (ds ++ (d ∷ [])) i ≡ d
+  more-last : (i : ℕ) → i ≡ length ds → detailAt (ds ++ (d ∷ [])) i ≡ d
   more-last i e = rw e (getD-append-seam ds d [] noDetail)
 
 -- a place is before the last or the last
 module _ {A : Type 0} (i n : ℕ) (h : i < n + 1) where
-  pub before-or-last : (i < n → A) → (i ≡ n → A) → A
+  before-or-last : (i < n → A) → (i ≡ n → A) → A
   before-or-last f g = go (leb n i) refl
     where
       go : (t : Bool) → leb n i ≡ t → A
@@ -128,69 +123,65 @@ module _ {P : M.Detail → ℕ → Type 0} (ds : List M.Detail) (o : OfFirst P d
         (λ e. rw (more-last ds d i e) (rw e g));
   }
 
-pub kept-none : (s : List ℕ) {amounts places : List ℕ} → DetailRoom amounts places → Kept s [] amounts places
-kept-none s r = record { room = r; amounts-are = first-none; lines-are = first-none }
+-- detail n is d now: it is kept, and those before it are as they were
+module _ (s : List ℕ) {n : ℕ} {amounts places : List ℕ} (r : DetailRoom amounts places) (h : n < 16) (d : Detail) {at : ℕ} (w : DetailAt s at d) (g : d .ok ≡ true) {amounts' places' : List ℕ} (c : Keeps n d amounts places amounts' places') where
+  line-of : (j : ℕ) → j < 17 → LineOf s (detailIn s d) j (getD (d .spans) j noSpan)
+  line-of j l = record { inside = within-at s (d .spans) j (w .within); bytes = sym (span-line s (d .spans) 17 j l) }
 
-module _ (s : List ℕ) (ds : List M.Detail) {amounts places : List ℕ} (k : Kept s ds amounts places) where
-  pub kept-full : 16 ≤ length ds → (d : M.Detail) → Kept s (ds ++ (d ∷ [])) amounts places
-  kept-full h d = record { room = k .room; amounts-are = first-full ds (k .amounts-are) d h; lines-are = first-full ds (k .lines-are) d h }
+  rows-of : (j n : ℕ) → j + n < 17 → RowsOf s (detailIn s d) j n (stretchOf (d .spans) j (j + n))
+  unfolding linesAt
+  rows-of j n l =
+      let t : StretchOf s (take 17 (d .spans)) j n = stretch-of (w .stand .stands g) j n (rw (length-take-le 17 (d .spans) (omega (arith, w .stand .size))) l) in
+      record {
+        inside = record { order = rw (getD-take 17 (d .spans) j noSpan (omega arith), getD-take 17 (d .spans) (j + n) noSpan l) at (t .order); room = omega (arith, within-at s (d .spans) (j + n) (w .within) .order, within-at s (d .spans) (j + n) (w .within) .room) };
+        bytes = rw (getD-take 17 (d .spans) j noSpan (omega arith), getD-take 17 (d .spans) (j + n) noSpan l) at (t .text);
+      }
 
-  module _ {at : ℕ} (h : length ds < 16) (d : Detail) (w : DetailAt s at d) (g : d .ok ≡ true) {amounts' places' : List ℕ} (c : Keeps (length ds) d amounts places amounts' places') where
-    line-of : (j : ℕ) → j < 17 → LineOf s (detailIn s d) j (getD (d .spans) j noSpan)
-    line-of j l = record { inside = within-at s (d .spans) j (w .within); bytes = sym (span-line s (d .spans) 17 j l) }
+  -- its own part j
+  own : (j : ℕ) → j < 4 → lineAt places' (4 * n + j) ≡ getD (keptOf d) j noSpan
+  own j l = rw (c .places-are) (lines-set places (4 * n) (keptOf d) j l (omega (arith, r .places-size)))
 
-    rows-of : (j n : ℕ) → j + n < 17 → RowsOf s (detailIn s d) j n (stretchOf (d .spans) j (j + n))
-    unfolding linesAt
-    rows-of j n l =
-        let t : StretchOf s (take 17 (d .spans)) j n = stretch-of (w .stand .stands g) j n (rw (length-take-le 17 (d .spans) (omega (arith, w .stand .size))) l) in
-        record {
-          inside = record { order = rw (getD-take 17 (d .spans) j noSpan (omega arith), getD-take 17 (d .spans) (j + n) noSpan l) at (t .order); room = omega (arith, within-at s (d .spans) (j + n) (w .within) .order, within-at s (d .spans) (j + n) (w .within) .room) };
-          bytes = rw (getD-take 17 (d .spans) j noSpan (omega arith), getD-take 17 (d .spans) (j + n) noSpan l) at (t .text);
-        }
+  other-line : (j : ℕ) → j < 4 * n → lineAt places' j ≡ lineAt places j
+  other-line j l = rw (c .places-are) (lines-before places (4 * n) (keptOf d) j l)
 
-    -- its own part j
-    own : (j : ℕ) → j < 4 → lineAt places' (4 * length ds + j) ≡ getD (keptOf d) j noSpan
-    own j l = rw (c .places-are) (lines-set places (4 * length ds) (keptOf d) j l (omega (arith, k .room .places-size)))
+  own-lines : LinesAs s (detailIn s d) places' (n)
+  own-lines = record {
+    read = detail-read (from s at) _ (answered (w .same));
+    payer = rw (rw (add-zero (4 * n)) at (own 0 (omega arith))) (rows-of detail50H 4 (omega arith));
+    branch = rw (own 1 (omega arith)) (rows-of detail52D 2 (omega arith));
+    account = rw (own 2 (omega arith)) (line-of detail59 (omega arith));
+    baeref = rw (own 3 (omega arith)) (line-of detailBaeref (omega arith));
+  }
+    where
+      answered : {o : Option TakenDetail} → detailedOf s d ≡ o → o ≡ some record { detail = detailIn s d; others = from s (d .next) }
+      answered e = sym (rw g at e)
 
-    other-line : (j : ℕ) → j < 4 * length ds → lineAt places' j ≡ lineAt places j
-    other-line j l = rw (c .places-are) (lines-before places (4 * length ds) (keptOf d) j l)
+  other-lines : (e : M.Detail) (i : ℕ) → i < n → LinesAs s e places i → LinesAs s e places' i
+  other-lines e i l a = record {
+    read = a .read;
+    payer = rw (other-line (4 * i) (omega arith)) (a .payer);
+    branch = rw (other-line (4 * i + 1) (omega arith)) (a .branch);
+    account = rw (other-line (4 * i + 2) (omega arith)) (a .account);
+    baeref = rw (other-line (4 * i + 3) (omega arith)) (a .baeref);
+  }
 
-    own-lines : LinesAs s (detailIn s d) places' (length ds)
-    own-lines = record {
-      read = detail-read (from s at) _ (answered (w .same));
-      payer = rw (rw (add-zero (4 * length ds)) at (own 0 (omega arith))) (rows-of detail50H 4 (omega arith));
-      branch = rw (own 1 (omega arith)) (rows-of detail52D 2 (omega arith));
-      account = rw (own 2 (omega arith)) (line-of detail59 (omega arith));
-      baeref = rw (own 3 (omega arith)) (line-of detailBaeref (omega arith));
-    }
-      where
-        answered : {o : Option TakenDetail} → detailedOf s d ≡ o → o ≡ some record { detail = detailIn s d; others = from s (d .next) }
-        answered e = sym (rw g at e)
+  own-amount : getD amounts' (n) 0 ≡ d .amount
+  own-amount = rw (c .amounts-are) (getD-set-same amounts (n) (d .amount) 0 (rw (r .amounts-size) h))
 
-    other-lines : (e : M.Detail) (i : ℕ) → i < length ds → LinesAs s e places i → LinesAs s e places' i
-    other-lines e i l a = record {
-      read = a .read;
-      payer = rw (other-line (4 * i) (omega arith)) (a .payer);
-      branch = rw (other-line (4 * i + 1) (omega arith)) (a .branch);
-      account = rw (other-line (4 * i + 2) (omega arith)) (a .account);
-      baeref = rw (other-line (4 * i + 3) (omega arith)) (a .baeref);
-    }
+  other-amount : (i : ℕ) → i < n → getD amounts' i 0 ≡ getD amounts i 0
+  other-amount i l = rw (c .amounts-are, getD-set-other amounts (n) i (d .amount) 0 (λ e. omega arith))
 
-    own-amount : getD amounts' (length ds) 0 ≡ d .amount
-    own-amount = rw (c .amounts-are) (getD-set-same amounts (length ds) (d .amount) 0 (rw (k .room .amounts-size) h))
+  pub keeps-room : DetailRoom amounts' places'
+  keeps-room = record {
+    amounts-size = rw (c .amounts-are) (length-set amounts n (d .amount) ∙ r .amounts-size);
+    places-size = rw (c .places-are) (lines-length places (4 * n) (keptOf d) ∙ r .places-size);
+  }
 
-    other-amount : (i : ℕ) → i < length ds → getD amounts' i 0 ≡ getD amounts i 0
-    other-amount i l = rw (c .amounts-are, getD-set-other amounts (length ds) i (d .amount) 0 (λ e. omega arith))
+  pub keeps-own : KeptAt s amounts' places' (detailIn s d) n
+  keeps-own = record { amount = own-amount; lines = own-lines }
 
-    pub kept-more : Kept s (ds ++ (detailIn s d ∷ [])) amounts' places'
-    kept-more = record {
-      room = record {
-        amounts-size = rw (c .amounts-are) (length-set amounts (length ds) (d .amount) ∙ k .room .amounts-size);
-        places-size = rw (c .places-are) (lines-length places (4 * length ds) (keptOf d) ∙ k .room .places-size);
-      };
-      amounts-are = first-more ds (k .amounts-are) (detailIn s d) (λ e i l a. other-amount i l ∙ a) own-amount;
-      lines-are = first-more ds (k .lines-are) (detailIn s d) other-lines own-lines;
-    }
+  pub keeps-other : (e : M.Detail) (i : ℕ) → i < n → KeptAt s amounts places e i → KeptAt s amounts' places' e i
+  keeps-other e i l k = record { amount = other-amount i l ∙ k .amount; lines = other-lines e i l (k .lines) }
 
 -- ---- the details of a message, all kept
 

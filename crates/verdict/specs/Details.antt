@@ -1,8 +1,8 @@
 -- The verdicts of a message's details, and a detail with its verdict, as the code holds them.
 use mathlib.Core.Path.{_≡_, ap, _∙_}
 use mathlib.Core.Bool.{true}
-use mathlib.Core.List.{List, [], _∷_, _++_}
-use Prim.Native.Nat.{ℕ, _+_, _*_, _≤_, _<_}
+use mathlib.Core.List.{List}
+use Prim.Native.Nat.{ℕ, _+_, _*_, _<_}
 use native.Mathlib.Omega.{arith}
 use lib.ListN.{length, getD, set, length-set}
 use lib.Seq.{getD-set-same, getD-set-other}
@@ -13,12 +13,14 @@ use Rattle.rules.specs.Messages.{past, account59}
 use Rattle.rules.specs.Register.{register, registerOf}
 use Rattle.rules.specs.Verdict.{verdict}
 use Rattle.register.specs.Passed.{text-count, accounts-count}
-use Rattle.forms.specs.Spans.{spanOf, SpanIn}
+use Rattle.forms.specs.Spans.{spanOf, noSpan, SpanIn, span-line}
 use Rattle.forms.specs.Fields.{Behind, behind-in, behind-bytes}
+use Rattle.forms.specs.Details.{DetailAt, detailIn}
 use Rattle.forms.specs.declared.rows.Span.{Span}
+use Rattle.forms.specs.declared.detail.Detail.{Detail}
 use Rattle.details.specs.Lines.{lineAt}
 use Rattle.details.specs.Message.{detailsIn, detailAt}
-use Rattle.details.specs.Kept.{LineOf, RowsOf, LinesIn, AmountsIn, DetailRoom, OfFirst, first-none, first-full, first-more}
+use Rattle.details.specs.Kept.{LineOf, RowsOf, LinesIn, AmountsIn, DetailRoom, KeptAt, Keeps, keeps-room, keeps-own, keeps-other}
 use Rattle.verdict.specs.Answers.{verdictOf, verdictBy, CodeOf, judgedIn, Listed, listed, listed-line, code-line, code-cause, by-cause, by-line}
 use Rattle.verdict.specs.declared.Verdict.{Verdict}
 use Rattle.verdict.specs.declared.Verdict.the-variants.{Credited}
@@ -50,27 +52,28 @@ pub record JudgingRoom (text amounts places verdicts : List ℕ) : Type 0 where
 pub record VerdictOn (text cs : List ℕ) (r : ℕ) : Type 0 where
   pub same : verdictOf (verdictBy r) ≡ verdict (registerOf text) cs
 
--- the verdicts of the first 16 of some details are kept
-pub record Verdicts (text : List ℕ) (ds : List M.Detail) (verdicts : List ℕ) : Type 0 where
-  pub size : length verdicts ≡ 16
-  pub each : OfFirst (verdictAt text verdicts) ds
+-- what is kept of detail d at place i, and its verdict
+pub record JudgedAt (text s amounts places verdicts : List ℕ) (d : M.Detail) (i : ℕ) : Type 0 where
+  pub kept : KeptAt s amounts places d i
+  pub verdict : verdictAt text verdicts d i
 
-pub verdicts-none : (text : List ℕ) {verdicts : List ℕ} → length verdicts ≡ 16 → Verdicts text [] verdicts
-verdicts-none text e = record { size = e; each = first-none }
+-- detail n is d now, and its verdict's number c
+module _ (text s : List ℕ) {n : ℕ} {amounts places verdicts : List ℕ} (r : JudgingRoom text amounts places verdicts) (h : n < 16) (d : Detail) {at : ℕ} (w : DetailAt s at d) (g : d .ok ≡ true) {amounts' places' : List ℕ} (k : Keeps n d amounts places amounts' places')
+    {c : ℕ} (v : VerdictOn text (past ":59:/" (spanOf s (getD (d .spans) detail59 noSpan))) c) where
+  pub judged-room : JudgingRoom text amounts' places' (set verdicts n c)
+  judged-room = record { passes = r .passes; details = keeps-room s (r .details) h d w g k; size = length-set verdicts n c ∙ r .size }
 
-module _ (text : List ℕ) (ds : List M.Detail) {verdicts : List ℕ} (v : Verdicts text ds verdicts) (d : M.Detail) where
-  pub verdicts-full : 16 ≤ length ds → Verdicts text (ds ++ (d ∷ [])) verdicts
-  verdicts-full h = record { size = v .size; each = first-full ds (v .each) d h }
+  pub judged-own : JudgedAt text s amounts' places' (set verdicts n c) (detailIn s d) n
+  judged-own = record {
+    kept = keeps-own s (r .details) h d w g k;
+    verdict = ap (λ (x : ℕ). verdictOf (verdictBy x)) (getD-set-same verdicts n c 0 (omega (arith, r .size))) ∙ rw (span-line s (d .spans) 17 detail59 (omega arith)) (v .same);
+  }
 
-  module _ (h : length ds < 16) {c : ℕ} (w : VerdictOn text (account59 d) c) where
-    other : (e : M.Detail) (i : ℕ) → i < length ds → verdictAt text verdicts e i → verdictAt text (set verdicts (length ds) c) e i
-    other e i l a = ap (λ (x : ℕ). verdictOf (verdictBy x)) (getD-set-other verdicts (length ds) i c 0 (λ z. omega arith)) ∙ a
-
-    own : verdictAt text (set verdicts (length ds) c) d (length ds)
-    own = ap (λ (x : ℕ). verdictOf (verdictBy x)) (getD-set-same verdicts (length ds) c 0 (omega (arith, v .size))) ∙ w .same
-
-    pub verdicts-more : Verdicts text (ds ++ (d ∷ [])) (set verdicts (length ds) c)
-    verdicts-more = record { size = length-set verdicts (length ds) c ∙ v .size; each = first-more ds (v .each) d other own }
+  pub judged-other : (e : M.Detail) (i : ℕ) → i < n → JudgedAt text s amounts places verdicts e i → JudgedAt text s amounts' places' (set verdicts n c) e i
+  judged-other e i l j = record {
+    kept = keeps-other s (r .details) h d w g k e i l (j .kept);
+    verdict = ap (λ (x : ℕ). verdictOf (verdictBy x)) (getD-set-other verdicts n i c 0 (λ z. omega arith)) ∙ j .verdict;
+  }
 
 -- a line number of a register that passed is small
 pub line-small : (text : List ℕ) (v : Verdict) (i : ℕ) → isSome (register text) ≡ true → Listed text v → v ≡ Credited i → i < 40
