@@ -16,6 +16,13 @@ MT103 of a return repeats. Where all details are returned, the card writes 16 po
 
 In these days references and IBANs differ in their last characters only, and the wrong end is another closing line. The same days with `first-` in
 front of their names have references and IBANs that differ in their first characters, the large message's before all others, and a lone LF near the end.
+
+Both kinds stand there with `codes-` in front of their names too: behind the account lines there are 40 code lines, each for the last account, and the
+second line behind 50H's account has ten digits, in a large message a code that is not listed. One day more has them only:
+
+  coded         as `returned`, with the last code in each detail, so that all are credited by it
+
+With `plain-` in front of their names the first days stand there without holidays.
 """
 import itertools
 import os
@@ -26,6 +33,8 @@ TODAY, TOMORROW = "060306", "060307"
 HOLIDAYS = ",".join(d for d in DAYS[:28] + ["0603%02d" % d for d in range(1, 32)] + ["0604%02d" % d for d in range(1, 4)] if d not in (TODAY, TOMORROW))
 SENDER = "AAAABGSF"
 ACCOUNTS = 41
+CODES = 40
+UNLISTED = "9" * 10
 LARGE = 99  # the large message's number; the others count from 0
 # a detail's lines of text, by field (50H, 52D, 59, 70) and place, in the order in which they are filled: those that a return repeats, then the others
 FILLED = [(0, 0), (0, 1), (0, 2), (1, 0), (0, 3), (2, 0), (2, 1), (2, 2), (3, 0), (3, 1)]
@@ -61,16 +70,17 @@ def command(message):
 
 
 class Kind:
-    """Days of one kind: the register's accounts, the reference of message n, and how an end is made wrong."""
+    """Days of one kind: the register's accounts and codes, the holidays, the reference of message n, and how an end is made wrong."""
 
-    def __init__(self, accounts, reference, wrong_end):
-        self.accounts, self.reference, self.wrong_end = accounts, reference, wrong_end
+    def __init__(self, accounts, codes, holidays, reference, wrong_end):
+        self.accounts, self.codes, self.holidays, self.reference, self.wrong_end = accounts, codes, holidays, reference, wrong_end
 
     def register(self):
-        return lines(self.accounts[:1] + [account + ",500000,500000" for account in self.accounts[1:]])
+        return lines(self.accounts[:1] + [account + ",500000,500000" for account in self.accounts[1:]]
+                     + [code + "," + self.accounts[-1] for code in self.codes])
 
     def opening(self):
-        return "O,%s,%d,%d\r\n%s%s" % (TODAY, len(self.register()), len(HOLIDAYS), self.register(), HOLIDAYS)
+        return "O,%s,%d,%d\r\n%s%s" % (TODAY, len(self.register()), len(self.holidays), self.register(), self.holidays)
 
     def detail(self, number, amount, date, account, texts):
         """A detail; `texts` are the lines of text of 50H, 52D, 59 and 70."""
@@ -85,16 +95,21 @@ class Kind:
         """A message with one detail."""
         return self.mt101(number, [self.detail(1, amount, date, self.accounts[-1], [["A"]] * 4)])
 
-    def large(self, number, date, code):
-        """A message of 4,096 bytes: 16 details for the register's last account with a payment code, every line of text there."""
+    def large(self, number, date, code, second=UNLISTED):
+        """A message of 4,096 bytes: 16 details for the register's last account with a payment code, every line of text there; where the register has
+        codes, the second line behind 50H's account is the one given."""
         room = [[1] * 4, [1], [1] * 3, [1] * 2]
 
         def whole():
             texts = [["T" * n for n in part] for part in room]
+            if self.codes:
+                texts[0][1] = second
             return self.mt101(number, [self.detail(k + 1, "059999999999,99", date, self.accounts[-1] + "PAY" + code, texts) for k in range(16)])
 
         left = (4096 - len(whole())) // 16
         for field, k in FILLED:
+            if self.codes and (field, k) == (0, 1):
+                continue
             more = min(34, left)
             room[field][k] += more
             left -= more
@@ -112,7 +127,8 @@ class Kind:
         late, early = DAYS[-32:], DAYS[-31:]
         full = self.book(late, late[-1])
         returned = self.large(LARGE, late[-1], "999999")
-        return {
+        coded = {"coded": full + command(self.large(LARGE, late[-1], "999999", self.codes[-1]))} if self.codes else {}
+        return coded | {
             "opening": self.opening(),
             "returned": full + command(returned),
             "opened": self.book(early, early[-1]) + command(self.large(LARGE, DAYS[0], "999999")),
@@ -123,9 +139,16 @@ class Kind:
         }
 
 
+LATE_CODES = ["%010d" % n for n in range(CODES)]
+EARLY_CODES = ["%02d00000000" % n for n in range(CODES)]
+LATE = lambda n: "MESSAGE/REF%05d" % n, lambda message: message[:-3] + "+\r\n"
+EARLY = lambda n: "%05dMESSAGE/REF" % ((n + 1) % (LARGE + 1)), lambda message: message[:-6] + "\n" + message[-5:]
 KINDS = {
-    "": Kind(late_accounts(), lambda n: "MESSAGE/REF%05d" % n, lambda message: message[:-3] + "+\r\n"),
-    "first-": Kind(early_accounts(), lambda n: "%05dMESSAGE/REF" % ((n + 1) % (LARGE + 1)), lambda message: message[:-6] + "\n" + message[-5:]),
+    "": Kind(late_accounts(), [], HOLIDAYS, *LATE),
+    "first-": Kind(early_accounts(), [], HOLIDAYS, *EARLY),
+    "codes-": Kind(late_accounts(), LATE_CODES, HOLIDAYS, *LATE),
+    "codes-first-": Kind(early_accounts(), EARLY_CODES, HOLIDAYS, *EARLY),
+    "plain-": Kind(late_accounts(), [], "", *LATE),
 }
 
 

@@ -44,8 +44,9 @@ enum {
   CARD_LIST = 18         /* the holiday list */
 };
 
-/* Opens an engine with a register, a holiday list and a day (six digits as a number: 060302 is 60302). The list has dates of six digits, each later
- * than the last, with a comma between two and nothing else; no holidays are a length of 0. The engine keeps it until the next accepted opening. */
+/* Opens an engine with a register, a holiday list and a day (six digits as a number: 060302 is 60302). The register has a line with the temporary
+ * account, up to 40 lines `IBAN,low,high` and behind them up to 40 lines `code,IBAN`, each ended by CR LF. The list has dates of six digits, each later
+ * than the last, with a comma between two and nothing else; no holidays are a length of 0. The engine keeps both until the next accepted opening. */
 uint32_t card_open(const uint8_t *text, uint64_t text_length, const uint8_t *list, uint64_t list_length, uint32_t day,
                    uint8_t *area, uint64_t area_length, uint64_t *written, int64_t *difference);
 

@@ -15,6 +15,7 @@ use Rattle.laws.specs.Tests.{and-right, or-left, or-right, any-left}
 use Rattle.engine_laws.specs.Limits.{Limits, bank-small}
 use Rattle.engine_laws.specs.Accepted.{Has, read-has, sender-bank}
 use Rattle.rule_laws.specs.Clear.{Clear}
+use Rattle.rule_laws.specs.Registers.{accounts-pass-of}
 use Rattle.rule_laws.specs.Messages.{DetailsRead, DetailsRead.last, DetailsRead.more, ReadAs, ReadAs.transfer, ReadAs.order, read-as}
 use Rattle.balance_laws.specs.Details.{read-sent}
 use Rattle.balance_laws.specs.Accounts.{temporary-shape}
@@ -29,6 +30,7 @@ unfolding isBank overLimit positionAfter
 postable room e s m l r c =
     let a : Has s m = read-has s m r in
     let b : isBank (bankOf m) ≡ true = rw (a .sent) (sender-bank s (c .frame)) in record {
+      accounts = accounts-pass-of (e .register) (l .register);
       book = record {
         known = and-right (leb (bankOf m) lastBank) _ b;
         small = omega (arith, bank-small (bankOf m) b);

@@ -10,7 +10,7 @@ use Rattle.rules.specs.Amounts.{withComma}
 use Rattle.rules.specs.Accounts.{isBic, ibanShape}
 use Rattle.rules.specs.Messages.{Detail, branch, payerLines, branchLines, account59, baerefDate, baerefName}
 use Rattle.rules.specs.Engine.{Position, bic}
-use Rattle.rules.specs.Written.{Book, reference, firstLine, field, field32A, temporaryField, baerefRow, size, returnedRows, allReturned, linked, position79, closed79, mt199, partsOf, mt199s, verdicts, return103, returnOf, returns}
+use Rattle.rules.specs.Written.{Book, reference, firstLine, field, field32A, temporaryField, baerefRow, size, listedRows, allListed, linked, position79, closed79, mt199, partsOf, mt199s, verdicts, return103, returnOf, returns}
 use Rattle.laws.specs.All.{All, All.none, All.more, all-take, all-drop}
 use Rattle.rule_laws.specs.Lines.{inLine}
 use Rattle.balance_laws.specs.Told.{Short, short-join, short-text, short-part, Mute, mute-none, mute-line, mute-join}
@@ -67,13 +67,13 @@ pub record DetailSent (d : Detail) : Type 0 where
 
 -- ---- MT199
 
-mute-returned : {ds : List Detail} → All DetailSent ds → Mute (allReturned ds)
-unfolding allReturned returnedRows every inLine
-mute-returned none = mute-none
-mute-returned (more d s) =
+mute-listed : {ds : List Detail} → All DetailSent ds → Mute (allListed ds)
+unfolding allListed listedRows every inLine
+mute-listed none = mute-none
+mute-listed (more d s) =
     mute-line (d .code ⊕ short-text (ascii "/") refl ⊕ d .dated ⊕ short-text (ascii "/") refl ⊕ d .named) refl
     ▹ mute-line (d .account) refl
-    ▹ mute-returned s
+    ▹ mute-listed s
 
 mute-linked : (day n part : ℕ) → Mute (linked day n part)
 unfolding linked every inLine
@@ -103,7 +103,7 @@ unfolding mt199 every inLine
 mute-199 day n p part parts h s =
     (mute-opened (p .key .bank) (ascii "199") (short-text (ascii "199") refl) h ▹ mute-field (short-text (ascii ":20:") refl) (short-reference day (n + part)) refl ▹ mute-linked day n part)
     ▹ mute-position (p .key .date) (p .transferred) (p .detailed)
-    ▹ mute-returned s
+    ▹ mute-listed s
     ▹ mute-closed part parts
 
 mute-199s : (k day n : ℕ) (p : Position) (part parts : ℕ) {ds : List Detail} → isBic (bic (p .key .bank)) ≡ true → All DetailSent ds → Mute (mt199s k day n p part parts ds)

@@ -35,7 +35,8 @@ use Rattle.conditions.specs.declared.message.Checked.{Checked}
 use Rattle.conditions.specs.declared.message.Checked.the-variants.{Refused}
 use Rattle.verdict.specs.Details.{JudgedIn, JudgingRoom}
 use Rattle.state_conditions.specs.Stops.{additionBy}
-use Rattle.detail_lines.specs.Returned.{ReturnedCount}
+use Rattle.detail_lines.specs.Chosen.{CountsOf}
+use Rattle.detail_lines.specs.declared.chosen.Counts.{Counts}
 use Rattle.message_text.specs.Message.{AfterOf, amount-part, after-is, DueFor, DueIn, due-told, TextPut}
 use Rattle.message_text.specs.declared.numbered.Due.{Due}
 use Rattle.position.specs.Values.{keyValue, positionValue}
@@ -130,7 +131,7 @@ leaves-told a s b k x y p q = record {
 
 module _ (s area : List ℕ) (h : isSome (holds area) ≡ true) (b : Booking) {amounts places verdicts : List ℕ} (k : Passes s (decode area .register) b amounts places verdicts) (p : P.Position) (q : Leaves area s p)
     (z : 0 ≡ firstOf (limitStops (decode area) (some (messageIn s)))) where
-  pub ready : {n : ℕ} → ReturnedCount verdicts (b .count) n → {due : Due} → DueFor b p n due → Ready s area b p due amounts places verdicts
+  pub ready : {n : Counts} → CountsOf verdicts (b .count) n → {due : Due} → DueFor b p n due → Ready s area b p due amounts places verdicts
   ready c w = record {
     engine = h;
     books = k .books;

@@ -124,8 +124,8 @@ fn send_message(
 {
     *written = 0;
     *difference = 0;
-    let returned = detail_lines::count_returned(verdicts, b.count as u32);
-    let due = message_text::due_for(b, p, returned);
+    let counts = detail_lines::count_verdicts(verdicts, b.count as u32);
+    let due = message_text::due_for(b, p, counts);
     let size = message_size(message, amounts, places, verdicts, area, b, p, due);
     if output.len() < size {
         return 16;

@@ -10,7 +10,7 @@ use lib.ListN.{length, getD, take, set}
 use lib.Seq.{take-append-seam}
 use borrow.Author.Tests.{eq-eqb, ne-eqb}
 use Rattle.rules.specs.Lines.{isClosingLine, sender}
-use Rattle.rules.specs.Forms.{detail21, detail59}
+use Rattle.rules.specs.Forms.{detail21, detailCode, detail59}
 use Rattle.rules.specs.Messages as M
 use Rattle.rules.specs.Messages.{past, details, firstDate, sumOfAmounts}
 use Rattle.laws.specs.Parts.{from}
@@ -51,10 +51,10 @@ pub record After (s : List ℕ) (t : Tally) (d : Detail) (r : Tally) : Type 0 wh
   pub date : r .date ≡ dayOf (t .count) (t .date) (d .date)
   pub low : r .low ≡ min (t .low) (detailStop s (r .date) d)
 
--- detail n, where it is one of the first 16, is d now, judged by its field 59 and its field 21 found; else all stays
+-- detail n, where it is one of the first 16, is d now, judged by its field 59 and its code, and its field 21 found; else all stays
 pub data KeepsFirst (s text : List ℕ) (n : ℕ) (d : Detail) (amounts places verdicts fields : List ℕ) : List ℕ → List ℕ → List ℕ → List ℕ → Type 0 where
   stays : 16 ≤ n → KeepsFirst s text n d amounts places verdicts fields amounts places verdicts fields
-  keeps : {amounts' places' fields' : List ℕ} {c : ℕ} {q : Span} → n < 16 → Keeps n d amounts places amounts' places' → VerdictOn text (past ":59:/" (spanOf s (getD (d .spans) detail59 noSpan))) c → Behind (getD (d .spans) detail21 noSpan) 4 q
+  keeps : {amounts' places' fields' : List ℕ} {c : ℕ} {q : Span} → n < 16 → Keeps n d amounts places amounts' places' → VerdictOn text (spanOf s (getD (d .spans) detailCode noSpan)) (past ":59:/" (spanOf s (getD (d .spans) detail59 noSpan))) c → Behind (getD (d .spans) detail21 noSpan) 4 q
       → fields' ≡ withLine fields n q → KeepsFirst s text n d amounts places verdicts fields amounts' places' (set verdicts n c) fields'
 
 -- ---- what is told of some details

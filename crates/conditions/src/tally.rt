@@ -5,6 +5,7 @@ use field_conditions::NO_STOP;
 use field_conditions::detail_stop;
 use forms::DETAIL_21;
 use forms::DETAIL_59;
+use forms::DETAIL_CODE;
 use forms::Detail;
 use forms::behind;
 use forms::read_detail;
@@ -94,7 +95,7 @@ fn keep_first(
         return;
     }
     keep(amounts, places, n, d);
-    verdicts[n as usize] = judge_line(text, s, d.spans[DETAIL_59]);
+    verdicts[n as usize] = judge_line(text, s, d.spans[DETAIL_59], d.spans[DETAIL_CODE]);
     set_line(fields, n, behind(d.spans[DETAIL_21], 4));
 }
 

@@ -1,4 +1,5 @@
 pub mod Postings
 pub mod Rows
-pub mod Returned
+pub mod Chosen
+pub mod Listed
 pub mod Returns

@@ -1,4 +1,4 @@
--- The rows of a returned detail, off the parts of its lines.
+-- The rows of a listed detail, off the parts of its lines.
 use mathlib.Core.Path.{_≡_}
 use mathlib.Core.List.{List, _++_}
 use Prim.Native.Nat.{ℕ, _+_, _-_, _≤_, _<_}
@@ -8,7 +8,7 @@ use lib.Seq.{take-all}
 use Rattle.rules.specs.Text.{ascii}
 use Rattle.rules.specs.Forms.{detail52D, detail59, detailBaeref}
 use Rattle.rules.specs.Messages.{Detail, past}
-use Rattle.rules.specs.Written.{returnedRows}
+use Rattle.rules.specs.Written.{listedRows}
 use Rattle.laws.specs.Parts.{cut, cut-take, cut-length}
 use Rattle.laws.specs.Writing.{Wrote}
 use Rattle.rule_laws.specs.Messages.{DetailRead}
@@ -47,6 +47,6 @@ rowFront s branch baeref = take 8 (past ":52D:" (spanOf s branch)) ++ ascii "/" 
 abbrev pub rowsOf : List ℕ → Span → Span → Span → List ℕ
 rowsOf s branch account baeref = (rowFront s branch baeref ++ past "BAEREFnnnnnn" (spanOf s baeref) ++ ascii "\r\n") ++ (past ":59:/" (spanOf s account) ++ ascii "\r\n")
 
-pub rows-kept : (s : List ℕ) (d : Detail) (branch account baeref : Span) → DetailRead d → RowsOf s d detail52D 2 branch → LineOf s d detail59 account → LineOf s d detailBaeref baeref → rowsOf s branch account baeref ≡ returnedRows d
-unfolding returnedRows
+pub rows-kept : (s : List ℕ) (d : Detail) (branch account baeref : Span) → DetailRead d → RowsOf s d detail52D 2 branch → LineOf s d detail59 account → LineOf s d detailBaeref baeref → rowsOf s branch account baeref ≡ listedRows d
+unfolding listedRows
 rows-kept s d branch account baeref r h k l = rw (h .bytes, branch-begins r, k .bytes, l .bytes)

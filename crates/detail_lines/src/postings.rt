@@ -7,17 +7,30 @@ use written::put_to_account;
 use written::put_to_bank;
 ghost use mathlib.Core.Path.{_≡_};
 ghost use mathlib.Core.Bool.{true};
-ghost use Prim.Native.Nat.{_≤_};
+ghost use Prim.Native.Nat.{_≤_, _<_};
 ghost use lib.ListN.{length};
 ghost use Rattle.rules.specs.Text.{isSome};
 ghost use Rattle.rules.specs.Register.{register, registerOf};
+ghost use Rattle.rules.specs.Verdict.{accountAt};
+ghost use Rattle.rules.specs.Written.{toAccount};
 ghost use Rattle.rules.specs.Calls.{detailPostings};
 ghost use Rattle.laws.specs.Writing.{Wrote};
 ghost use Rattle.details.specs.Message.{detailsIn};
 ghost use Rattle.details.specs.Kept.{LinesIn, AmountsIn};
-ghost use Rattle.verdict.specs.Answers.{verdictOf, Listed};
+ghost use Rattle.verdict.specs.Answers.{verdictOf, InRegister};
 ghost use Rattle.verdict.specs.Details.{VerdictsIn};
 ghost use Rattle.detail_lines.specs.Postings.{bookBy, verdictPosting};
+
+// The posting line that credits account line i.
+fn put_credit(out: &mut [u8], at: usize, book: Book, text: &[u8], i: usize, amount: u64) -> usize
+    requires { ⌜ isSome (register (now text)) ≡ true ⌝ }
+    requires { ⌜ i < length (registerOf (now text) .accounts) ⌝ }
+    requires { ⌜ 22 ≤ length (now text) ⌝ }
+    ensures { λ r. ⌜ Wrote (toAccount (bookBy (now (text .entry)) book) (accountAt (registerOf (now (text .entry))) i .iban) amount) at (now (out .entry)) r (now (out .exit)) ⌝ }
+{
+    let a = account_place(text, i);
+    put_to_account(out, at, book, &text[0..22], &text[a..a + 22], amount)
+}
 
 // The posting line of an amount by its verdict: a credit, or a return.
 fn put_verdict_posting(
@@ -29,15 +42,13 @@ fn put_verdict_posting(
     amount: u64,
 ) -> usize
     requires { ⌜ isSome (register (now text)) ≡ true ⌝ }
-    requires { ⌜ Listed (now text) v ⌝ }
+    requires { ⌜ InRegister (now text) v ⌝ }
     requires { ⌜ 22 ≤ length (now text) ⌝ }
     ensures { λ r. ⌜ Wrote (verdictPosting (registerOf (now (text .entry))) (bookBy (now (text .entry)) book) amount (verdictOf v)) at (now (out .entry)) r (now (out .exit)) ⌝ }
 {
     match v {
-        Verdict::Credited(i) => {
-            let a = account_place(text, i);
-            put_to_account(out, at, book, &text[0..22], &text[a..a + 22], amount)
-        }
+        Verdict::Credited(i) => put_credit(out, at, book, text, i, amount),
+        Verdict::CreditedByCode(i, _) => put_credit(out, at, book, text, i, amount),
         Verdict::Returned(_) => put_to_bank(out, at, book, &text[0..22], amount),
     }
 }

@@ -1,4 +1,4 @@
-// The two rows of a returned detail in field 79.
+// The two rows of a listed detail in field 79.
 use forms::Span;
 use forms::behind;
 ghost use mathlib.Core.List.{_++_};
@@ -63,7 +63,7 @@ fn put_account_row(out: &mut [u8], at: usize, s: &[u8], account: Span) -> usize
 }
 
 // Both rows, from 52D's lines and those of 59 and BAEREF.
-pub fn put_returned_rows(
+pub fn put_listed_rows(
     out: &mut [u8],
     at: usize,
     s: &[u8],

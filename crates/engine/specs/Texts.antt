@@ -15,8 +15,7 @@ use Rattle.laws.specs.Parts.{cut}
 use Rattle.engine_laws.specs.Several.{TextRoom}
 use Rattle.engine_laws.specs.Decoded.{decoded, decoded-limits, decoded-text}
 use Rattle.text.specs.Numbers.{NumberAt}
-use Rattle.register.specs.Places.{place, count}
-use Rattle.register.specs.Passed.{temporary-at, text-size}
+use Rattle.register.specs.Passed.{temporary-at, text-first}
 
 -- ---- text k
 
@@ -70,8 +69,7 @@ module _ (a : List ℕ) (h : isSome (holds a) ≡ true) where
   pub register-told : {t : List ℕ} → t ≡ textAt a 0 → RegisterOf a t
   unfolding decode
   register-told e =
-      let size : length (decode a .register) ≡ place (count (decode a .register)) = text-size (decode a .register) (decoded-limits a h .register) in
-      record { same = e; passes = rw e (decoded-limits a h .register); enough = rw e (omega (arith, size)) }
+      record { same = e; passes = rw e (decoded-limits a h .register); enough = rw e (omega (arith, text-first (decode a .register) (decoded-limits a h .register))) }
 
   -- ---- the holiday list, text 1
 
@@ -86,9 +84,7 @@ module _ (a : List ℕ) (h : isSome (holds a) ≡ true) where
 
   begins : (n : ℕ) (cs : List ℕ) → isSome (register (take n cs)) ≡ true → registerOf (take n cs) .temporary ≡ take 22 cs
   unfolding cut
-  begins n cs p =
-      let size : length (take n cs) ≡ place (count (take n cs)) = text-size (take n cs) p in
-      temporary-at (take n cs) p ∙ take-take 22 n cs (omega (arith, length-take n cs))
+  begins n cs p = temporary-at (take n cs) p ∙ take-take 22 n cs (omega (arith, text-first (take n cs) p, length-take n cs))
 
   pub temporary-stands : registerOf (decode a .register) .temporary ≡ take 22 (drop textsPlace a)
   unfolding decode textAt textPlace

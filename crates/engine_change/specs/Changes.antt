@@ -11,7 +11,8 @@ use Rattle.rules.specs.Text.{passing}
 use Rattle.rules.specs.Area.{padded, joined}
 use Rattle.laws.specs.Laid.{laid, laid-front}
 use Rattle.laws.specs.Writing.{Wrote}
-use Rattle.laws.specs.Sections.{Each, inserted, replaced, Agree, passing-map, padded-length, joined-length, each-inserted, each-replaced, each-passing, map-inserted, map-replaced, passing-length}
+use Rattle.laws.specs.All.{all-passing}
+use Rattle.laws.specs.Sections.{Each, inserted, replaced, Agree, passing-map, padded-length, joined-length, each-inserted, each-replaced, map-inserted, map-replaced, passing-length}
 use Rattle.laws.specs.Standing.{Stands, moved, stands-laid, stands-replaced, stands-inserted}
 use Rattle.laws.specs.Moving.{Sifted, sifted-count, stands-sifted}
 
@@ -75,7 +76,7 @@ module _ {A : Type 0} (write : A → List ℕ) {w base : ℕ} (n : ℕ) {p q are
       let v' : Sifted f w (length (map write xs)) base area j area' = rw same v in
       let e : passing f (map write xs) ≡ map write (passing g xs) = passing-map a in
       let k : w * length (passing g xs) ≤ n = omega (arith, mul-le-mul-left w (passing-length g xs)) in
-      now-has (passing g xs) (rw e at (each-passing f s)) k
+      now-has (passing g xs) (rw e at (all-passing f s)) k
       (rw e at (stands-sifted n t s v' (rw same l)))
 
   pub section-counted : {f : List ℕ → Bool} {g : A → Bool} {j : ℕ} {area' : List ℕ} → Agree write f g xs → Sifted f w (length xs) base area j area' → j ≡ length (passing g xs)

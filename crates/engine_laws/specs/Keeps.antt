@@ -1,23 +1,24 @@
 -- Accepted calls keep the engine within its limits: an opening, a message and a turn.
 use mathlib.Core.Path.{_≡_, refl}
 use mathlib.Core.Bool.{Bool, true, false, not, cond}
-use mathlib.Core.List.{List, [], _∷_}
+use mathlib.Core.List.{List}
 use mathlib.Core.Option.{some}
-use Prim.Native.Nat.{ℕ, suc, _+_, _/_, _≤_, _<_}
+use Prim.Native.Nat.{ℕ, _+_, _/_, _≤_, _<_}
 use native.Mathlib.Omega.{arith}
 use lib.Dec.{leb, eqb}
 use lib.ListN.{length}
 use borrow.Author.Tests.{leb-true, eqb-true, not-false}
 use Rattle.rules.specs.Text.{ordered}
 use Rattle.rules.specs.Lines.{framed}
-use Rattle.rules.specs.Messages.{Message, mt103, mt101, Detail, read, detailsOf, dateOf, referenceOf}
-use Rattle.rules.specs.Register.{Register, register, registerOf}
-use Rattle.rules.specs.Verdict.{isReturned}
+use Rattle.rules.specs.Messages.{Message, mt103, mt101, read, detailsOf, dateOf, referenceOf}
+use Rattle.rules.specs.Register.{registerOf}
+use Rattle.rules.specs.Verdict.{Verdict, isReturned, isListed199}
 use Rattle.rules.specs.Engine.{Position, Engine, limit, slashed, isBank, goodPositions, goodReference, goodReferences, within}
 use Rattle.rules.specs.Written.{partsOf}
-use Rattle.rules.specs.Calls.{firstOf, openStops, opened, badReference, misdated, bankOf, ownReference, addition, positionAfter, noRoom, overLimit, verdictOf, returnedOf, returnedDetails, hasVerdict, partsWritten, messagesWritten, afterMessage, messageStops, turnStops, afterTurn}
+use Rattle.rules.specs.Calls.{firstOf, openStops, opened, badReference, misdated, bankOf, ownReference, addition, positionAfter, noRoom, overLimit, verdictIs, judgedTo, returnedDetails, listedDetails, hasVerdict, partsWritten, messagesWritten, afterMessage, messageStops, turnStops, afterTurn}
 use Rattle.laws.specs.Tests.{or-left, or-right}
 use Rattle.laws.specs.Order.{Sorted, ordered-sorted, sorted-ordered}
+use Rattle.laws.specs.Sections.{passing-length}
 use Rattle.rule_laws.specs.Clear.{OpenClear, open-clear, Clear, clear, TurnClear, turn-clear}
 use Rattle.engine_laws.specs.Limits.{Limits, limits, limits-within}
 use Rattle.engine_laws.specs.Positions.{Before, position-order, booked-sorted, booked-few, UnderLimit, booked-good, all-good, good-all, kept-sorted, kept-good, kept-length, corrected-length}
@@ -45,15 +46,6 @@ opened-within size text list day h =
 
 -- ---- message
 
-returned-few : (r : Register) (ds : List Detail) → length (returnedOf r ds) ≤ length ds
-unfolding returnedOf
-returned-few r [] = omega arith
-returned-few r (d ∷ ds) = go (isReturned (verdictOf r d)) (returned-few r ds)
-  where
-    go : (t : Bool) → length (returnedOf r ds) ≤ length ds → length (cond t (d ∷ returnedOf r ds) (returnedOf r ds)) ≤ suc (length ds)
-    go true i = omega arith
-    go false i = omega arith
-
 parts-few : (n : ℕ) → n ≤ 16 → partsOf n ≤ 2
 unfolding partsOf
 parts-few n h = go (eqb n 0)
@@ -67,15 +59,12 @@ pub writes-few : (e : Engine) (m : Message) → length (detailsOf m) ≤ 16 → 
 unfolding messagesWritten partsWritten
 writes-few e m h = go (hasVerdict m (positionAfter e m))
   where
-    n : ℕ
-    n = length (returnedDetails e m)
+    few : (test : Verdict → Bool) → length (judgedTo test (registerOf (e .register)) (detailsOf m)) ≤ 16
+    few test = omega (arith, passing-length (verdictIs test (registerOf (e .register))) (detailsOf m))
 
-    few : n ≤ 16
-    few = omega (arith, returned-few (registerOf (e .register)) (detailsOf m))
-
-    go : (t : Bool) → cond t (partsOf n) 0 + n ≤ 18
-    go true = omega (arith, few, parts-few n few)
-    go false = omega (arith, few)
+    go : (t : Bool) → cond t (partsOf (length (listedDetails e m))) 0 + length (returnedDetails e m) ≤ 18
+    go true = omega (arith, few isReturned, parts-few (length (listedDetails e m)) (few isListed199))
+    go false = omega (arith, few isReturned)
 
 dated : (day : ℕ) (m : Message) → misdated day m ≡ false → dateOf m ≤ day
 unfolding misdated dateOf

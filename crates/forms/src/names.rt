@@ -21,6 +21,9 @@ pub const DETAIL_32B: usize = 1;
 // 50H's account.
 pub const DETAIL_50H: usize = 2;
 
+// 50H's second line behind the account.
+pub const DETAIL_CODE: usize = 4;
+
 // 52D's BAE.
 pub const DETAIL_52D: usize = 7;
 

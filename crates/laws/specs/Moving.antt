@@ -12,7 +12,8 @@ use Rattle.rules.specs.Text.{passing}
 use Rattle.rules.specs.Area.{zeros, padded, joined, recordsOf}
 use Rattle.laws.specs.Laid.{laid, laid-append, laid-set, laid-load-before, laid-load-behind, laid-drop, laid-length}
 use Rattle.laws.specs.Writing.{Wrote}
-use Rattle.laws.specs.Sections.{Each, records-more, records-each, each-passing, passing-append, joined-append, joined-length}
+use Rattle.laws.specs.All.{all-passing}
+use Rattle.laws.specs.Sections.{Each, records-more, records-each, passing-append, joined-append, joined-length}
 use Rattle.laws.specs.Standing.{moved, Stands, stands-records, stands-passing}
 
 -- of the bytes of a that are to go from one place to another those from low up to high are there; b is the area now
@@ -120,7 +121,7 @@ module _ {p : List ℕ → Bool} {w n base i j : ℕ} {a b : List ℕ} {t : Bool
   K-length : length (joined K) ≡ w * j
   unfolding K
   K-length =
-      joined-length (each-passing p (records-each w i (drop base a) (rw length-drop (omega (arith, g .room, mul-le-mul-left w h, mul-suc w i)))))
+      joined-length (all-passing p (records-each w i (drop base a) (rw length-drop (omega (arith, g .room, mul-le-mul-left w h, mul-suc w i)))))
       ∙ ap (λ (k : ℕ). w * k) (sym (g .count))
 
   -- record i is as it was
@@ -172,7 +173,7 @@ keeping-end {p} {w} {n} {base} {i} {j} {a = a} g h v =
     let K : List (List ℕ) = passing p (recordsOf w n (drop base a)) in
     let e : i ≡ n = omega (arith, g .done) in
     let c : j ≡ length K = rw e at (g .count) in
-    let k : length (joined K) ≡ w * j = joined-length (each-passing p (records-each w n (drop base a) (rw length-drop (omega (arith, g .room))))) ∙ ap (λ (x : ℕ). w * x) (sym c) in
+    let k : length (joined K) ≡ w * j = joined-length (all-passing p (records-each w n (drop base a) (rw length-drop (omega (arith, g .room))))) ∙ ap (λ (x : ℕ). w * x) (sym c) in
     let z : w * n - w * j ≡ w * (n - j) = sym (mul-sub w n j) in record {
       count = c;
       bytes = rw (laid-append, k, z) (v .output ∙ ap (laid (zeros (w * (n - j))) (base + w * j)) (rw e at (g .now)));

@@ -10,7 +10,7 @@ use lib.Seq.{drop-cons, take-at, drop-at, length-take-le, drop-drop}
 use Rattle.rules.specs.Text.{passing}
 use Rattle.rules.specs.Area.{zeros, padded, joined, recordsOf}
 use Rattle.laws.specs.Laid.{laid, laid-past, laid-front}
-use Rattle.laws.specs.All.{All, All.none, All.more, all-append, all-take, all-drop}
+use Rattle.laws.specs.All.{All, All.none, All.more, all-append, all-take, all-drop, all-at}
 
 -- each record has w bytes
 abbrev pub Each : ℕ → List (List ℕ) → Type 0
@@ -75,11 +75,6 @@ padded-front n b s h l =
 
 -- ---- records one behind the other
 
-pub each-get : {w : ℕ} {xs : List (List ℕ)} (i : ℕ) → Each w xs → i < length xs → length (getD xs i []) ≡ w
-each-get i none h = absurd (omega arith)
-each-get zero (more e s) h = e
-each-get (suc i) (more e s) h = each-get i s (omega arith)
-
 pub each-map : {A : Type 0} {w : ℕ} (f : A → List ℕ) → ((x : A) → length (f x) ≡ w) → (xs : List A) → Each w (map f xs)
 each-map f h [] = none
 each-map f h (x ∷ xs) = more (h x) (each-map f h xs)
@@ -91,15 +86,6 @@ each-inserted i r s e = all-append (all-take i s) (more e (all-drop i s))
 pub each-replaced : {w : ℕ} {xs : List (List ℕ)} (i : ℕ) (r : List ℕ) → Each w xs → length r ≡ w → Each w (replaced i r xs)
 unfolding replaced
 each-replaced i r s e = all-append (all-take i s) (more e (all-drop (suc i) s))
-
-pub each-passing : {w : ℕ} {xs : List (List ℕ)} (p : List ℕ → Bool) → Each w xs → Each w (passing p xs)
-unfolding passing
-each-passing p none = none
-each-passing {w} p (more {x} {xs} e s) = go (p x) (each-passing p s)
-  where
-    go : (b : Bool) → Each w (passing p xs) → Each w (cond b (x ∷ passing p xs) (passing p xs))
-    go true t = more e t
-    go false t = t
 
 pub joined-append : (xs ys : List (List ℕ)) → joined (xs ++ ys) ≡ joined xs ++ joined ys
 unfolding joined
@@ -139,14 +125,14 @@ section-part n i xs q k w h f g =
 
 module _ {w : ℕ} {xs : List (List ℕ)} (n i : ℕ) (s : Each w xs) where
   pub section-record : (q : List ℕ) → i < length xs → take w (drop (w * i) (padded n (joined xs) ++ q)) ≡ getD xs i []
-  section-record q h = section-part n i xs q (w * i) w h (joined-front i s (omega arith)) (each-get i s h)
+  section-record q h = section-part n i xs q (w * i) w h (joined-front i s (omega arith)) (all-at [] i s h)
 
   module _ (r : List ℕ) (e : length r ≡ w) where
     pub section-replaced : i < length xs → laid r (w * i) (padded n (joined xs)) ≡ padded n (joined (replaced i r xs))
     unfolding replaced joined
     section-replaced h =
         rw (joined-append, joined-split i xs, joined-record i xs h, ← joined-front i s (omega arith))
-        (padded-part n (joined (take i xs)) (getD xs i []) (joined (drop (suc i) xs)) r (e ∙ sym (each-get i s h)))
+        (padded-part n (joined (take i xs)) (getD xs i []) (joined (drop (suc i) xs)) r (e ∙ sym (all-at [] i s h)))
 
     -- those from record i on stand behind r
     pub section-inserted : i ≤ length xs → w * suc (length xs) ≤ n

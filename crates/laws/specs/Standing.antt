@@ -11,8 +11,8 @@ use Rattle.rules.specs.Text.{passing}
 use Rattle.rules.specs.Area.{zeros, padded, joined, recordsOf}
 use Rattle.laws.specs.Laid.{laid, laid-append, laid-past, laid-apart}
 use Rattle.laws.specs.Writing.{Wrote}
-use Rattle.laws.specs.Sections.{Each, inserted, replaced, zeros-length, padded-length, padded-front, each-passing, passing-length, joined-length, joined-split, joined-front, section-record, section-replaced, section-inserted, records-back}
-use Rattle.laws.specs.All.{all-drop}
+use Rattle.laws.specs.Sections.{Each, inserted, replaced, zeros-length, padded-length, padded-front, passing-length, joined-length, joined-split, joined-front, section-record, section-replaced, section-inserted, records-back}
+use Rattle.laws.specs.All.{all-drop, all-passing}
 
 -- a part x stands at a place of an area, behind p and before q
 pub record Stands (p x q : List ℕ) (base : ℕ) (area : List ℕ) : Type 0 where
@@ -101,7 +101,7 @@ module _ (n : ℕ) {w base : ℕ} {p q area : List ℕ} {xs : List (List ℕ)} (
   pub stands-passing : (f : List ℕ → Bool) → w * length xs ≤ n
       → Stands p (padded n (joined (passing f xs))) q base (laid (padded (w * length xs) (joined (passing f xs))) base area)
   stands-passing f l =
-      let k : length (joined (passing f xs)) ≡ w * length (passing f xs) = joined-length (each-passing f s) in
+      let k : length (joined (passing f xs)) ≡ w * length (passing f xs) = joined-length (all-passing f s) in
       rw (joined-length s) at
       (stands-shorter n (joined xs) (joined (passing f xs)) t (rw (joined-length s) l)
       (rw (k, joined-length s) (mul-le-mul-left w (passing-length f xs))))

@@ -10,8 +10,9 @@ use lib.ListN.{length}
 use Rattle.rules.specs.Messages.{Message, dateOf, detailsOf}
 use Rattle.rules.specs.Register.{register, registerOf}
 use Rattle.rules.specs.Engine.{Engine, Position, hasDetails}
+use Rattle.rules.specs.Verdict.{isReturned, isListed199}
 use Rattle.rules.specs.Written.{mt199s, partsOf, verdicts, returns}
-use Rattle.rules.specs.Calls.{bankOf, hasVerdict, positionAfter, returnedDetails, messageBook, postings, messageText, partsWritten, messagesWritten}
+use Rattle.rules.specs.Calls.{bankOf, hasVerdict, positionAfter, returnedDetails, listedDetails, messageBook, postings, messageText, partsWritten, messagesWritten}
 use Rattle.rules.specs.Area.{decode}
 use Rattle.laws.specs.Writing.{Wrote, wrote-then}
 use Rattle.engine.specs.Totals.{TotalsOf}
@@ -25,7 +26,8 @@ use Rattle.conditions.specs.declared.booking.Booking.{Booking}
 use Rattle.verdict.specs.Details.{JudgedIn}
 use Rattle.position.specs.Values.{keyValue, positionValue}
 use Rattle.position.specs.declared.Position as P
-use Rattle.detail_lines.specs.Returned.{count-is, returned-all, ReturnedCount, count-paper}
+use Rattle.detail_lines.specs.Chosen.{count-is, chosen-all, CountsOf, count-paper}
+use Rattle.detail_lines.specs.declared.chosen.Counts.{Counts}
 use Rattle.outgoing_number.specs.declared.Numbered.{Numbered}
 use Rattle.message_text.specs.Parts.{PartsOf}
 use Rattle.message_text.specs.Numbered.{MessagesDue, MessagesPut}
@@ -63,27 +65,27 @@ follows-is s b k p = go (b .transfer) refl
 
 -- ---- what is due
 
--- r parts, so many details being returned
-pub record PartsFor (b : Booking) (p : P.Position) (returned r : ℕ) : Type 0 where
-  pub value : r ≡ cond (verdictFollows (b .transfer) (p .detailed)) (partsOf returned) 0
+-- r parts, so many details being listed
+pub record PartsFor (b : Booking) (p : P.Position) (listed r : ℕ) : Type 0 where
+  pub value : r ≡ cond (verdictFollows (b .transfer) (p .detailed)) (partsOf listed) 0
   pub few : r ≤ 2
 
-module _ (b : Booking) (p : P.Position) (returned : ℕ) (v : Bool) (f : v ≡ verdictFollows (b .transfer) (p .detailed)) where
-  pub parts-some : v ≡ true → {r : ℕ} → PartsOf returned r → PartsFor b p returned r
+module _ (b : Booking) (p : P.Position) (listed : ℕ) (v : Bool) (f : v ≡ verdictFollows (b .transfer) (p .detailed)) where
+  pub parts-some : v ≡ true → {r : ℕ} → PartsOf listed r → PartsFor b p listed r
   parts-some e u = record { value = u .value ∙ rw (← f, e); few = u .few }
 
-  pub parts-none : v ≡ false → PartsFor b p returned 0
+  pub parts-none : v ≡ false → PartsFor b p listed 0
   parts-none e = record { value = rw (← f, e); few = omega arith }
 
--- the parts, and a return for each of them
-pub record DueFor (b : Booking) (p : P.Position) (returned : ℕ) (u : Due) : Type 0 where
-  pub parts : PartsFor b p returned (u .parts)
-  pub messages : u .messages ≡ u .parts + returned
+-- the parts for the listed, and a return for each of the returned
+pub record DueFor (b : Booking) (p : P.Position) (k : Counts) (u : Due) : Type 0 where
+  pub parts : PartsFor b p (k .listed) (u .parts)
+  pub messages : u .messages ≡ u .parts + k .returned
   pub details : u .details ≡ b .count
   pub few : u .messages ≤ 18
 
-pub due-made : (b : Booking) (p : P.Position) (returned : ℕ) → returned ≤ 16 → {r : ℕ} → PartsFor b p returned r → DueFor b p returned record { messages = r + returned; parts = r; details = b .count }
-due-made b p returned h u = record { parts = u; messages = refl; details = refl; few = omega (arith, u .few) }
+pub due-made : (b : Booking) (p : P.Position) (k : Counts) → k .returned ≤ 16 → {r : ℕ} → PartsFor b p (k .listed) r → DueFor b p k record { messages = r + k .returned; parts = r; details = b .count }
+due-made b p k h u = record { parts = u; messages = refl; details = refl; few = omega (arith, u .few) }
 
 -- what is due, as the paper has it
 pub record DueIn (e : Engine) (m : Message) (u : Due) : Type 0 where
@@ -96,11 +98,12 @@ module _ (a s : List ℕ) (b : Booking) (k : Books s (messageIn s) b) (p : P.Pos
   judged-is : hasVerdict (messageIn s) (positionAfter (decode a) (messageIn s)) ≡ verdictFollows (b .transfer) (p .detailed)
   judged-is = rw (← q) (follows-is s b k p)
 
-  pub due-told : (amounts places verdicts : List ℕ) → JudgedIn (decode a .register) s amounts places verdicts (b .count) → {n : ℕ} → ReturnedCount verdicts (b .count) n → {u : Due} → DueFor b p n u → DueIn (decode a) (messageIn s) u
+  pub due-told : (amounts places verdicts : List ℕ) → JudgedIn (decode a .register) s amounts places verdicts (b .count) → {n : Counts} → CountsOf verdicts (b .count) n → {u : Due} → DueFor b p n u → DueIn (decode a) (messageIn s) u
   unfolding messagesWritten partsWritten
   due-told amounts places verdicts j {n} c {u} w =
-      let e : n ≡ length (returnedDetails (decode a) (messageIn s)) = count-paper (decode a .register) s places verdicts (b .count) n (j .lines-kept) (j .verdicts-kept) c in
-      let f : u .parts ≡ partsWritten (decode a) (messageIn s) = w .parts .value ∙ rw (judged-is, e) refl in
+      let l : n .listed ≡ length (listedDetails (decode a) (messageIn s)) = count-paper isListed199 (decode a .register) s places verdicts (b .count) _ (j .lines-kept) (j .verdicts-kept) (c .listed) in
+      let e : n .returned ≡ length (returnedDetails (decode a) (messageIn s)) = count-paper isReturned (decode a .register) s places verdicts (b .count) _ (j .lines-kept) (j .verdicts-kept) (c .returned) in
+      let f : u .parts ≡ partsWritten (decode a) (messageIn s) = w .parts .value ∙ rw (judged-is, l) refl in
       record { messages = w .messages ∙ rw (f, e); parts = f; details = w .details ∙ j .lines-kept .count; few = w .few }
 
 -- ---- the position as the message leaves it is the paper's
@@ -118,19 +121,19 @@ pub record TextPut (e : Engine) (m : Message) (at : ℕ) (out : List ℕ) (r : N
 
 module _ (e : Engine) (m : Message) where
   -- as many parts as follow
-  verdict-is : (t : Bool) → cond t (verdicts (e .day) (e .count) (positionAfter e m) (returnedDetails e m)) []
-      ≡ mt199s (cond t (partsOf (length (returnedDetails e m))) 0) (e .day) (e .count) (positionAfter e m) 1 (cond t (partsOf (length (returnedDetails e m))) 0) (returnedDetails e m)
+  verdict-is : (t : Bool) → cond t (verdicts (e .day) (e .count) (positionAfter e m) (listedDetails e m)) []
+      ≡ mt199s (cond t (partsOf (length (listedDetails e m))) 0) (e .day) (e .count) (positionAfter e m) 1 (cond t (partsOf (length (listedDetails e m))) 0) (listedDetails e m)
   unfolding verdicts mt199s
   verdict-is true = refl
   verdict-is false = refl
 
   -- posting lines, and behind them what is due
   text-is : messageText e m
-      ≡ postings (registerOf (e .register)) (messageBook e m) m ++ (mt199s (partsWritten e m) (e .day) (e .count) (positionAfter e m) 1 (partsWritten e m) (returnedDetails e m) ++ returns (messageBook e m) (e .count + partsWritten e m) (returnedDetails e m))
+      ≡ postings (registerOf (e .register)) (messageBook e m) m ++ (mt199s (partsWritten e m) (e .day) (e .count) (positionAfter e m) 1 (partsWritten e m) (listedDetails e m) ++ returns (messageBook e m) (e .count + partsWritten e m) (returnedDetails e m))
   unfolding messageText partsWritten
   text-is =
       ap (λ (l : List ℕ). postings (registerOf (e .register)) (messageBook e m) m ++ l ++ returns (messageBook e m) (e .count + partsWritten e m) (returnedDetails e m)) (verdict-is (hasVerdict m (positionAfter e m)))
-      ∙ append-assoc (postings (registerOf (e .register)) (messageBook e m) m) (mt199s (partsWritten e m) (e .day) (e .count) (positionAfter e m) 1 (partsWritten e m) (returnedDetails e m)) (returns (messageBook e m) (e .count + partsWritten e m) (returnedDetails e m))
+      ∙ append-assoc (postings (registerOf (e .register)) (messageBook e m) m) (mt199s (partsWritten e m) (e .day) (e .count) (positionAfter e m) 1 (partsWritten e m) (listedDetails e m)) (returns (messageBook e m) (e .count + partsWritten e m) (returnedDetails e m))
 
 module _ (a s text : List ℕ) (g : RegisterOf a text) {amounts places verdicts : List ℕ} {n : ℕ} (j : JudgedIn (decode a .register) s amounts places verdicts n) where
   pub judged-here : JudgedIn text s amounts places verdicts n
@@ -146,7 +149,7 @@ module _ (a s text : List ℕ) (g : RegisterOf a text) {amounts places verdicts 
       from = record { passes = g .passes; enough = g .enough; lines = rw same-details at (j .lines-kept); amounts-kept = rw same-details at (j .amounts-kept) };
       low = omega (arith, d .count-small);
       few = w .few;
-      all = w .messages ∙ rw (← w .parts, ← returned-all (decode a .register) s places verdicts n (j .lines-kept) (j .verdicts-kept), count-is s verdicts n 0, same-details);
+      all = w .messages ∙ rw (← w .parts, ← chosen-all isReturned s verdicts (decode a .register) places n (j .lines-kept) (j .verdicts-kept), count-is isReturned s verdicts n 0, same-details);
     }
 
     module _ (p : P.Position) (q : positionValue p ≡ positionAfter (decode a) (messageIn s)) {at m : ℕ} {r : Numbered} {out out₁ out₂ : List ℕ} where
@@ -160,7 +163,7 @@ module _ (a s text : List ℕ) (g : RegisterOf a text) {amounts places verdicts 
             wrote =
                 rw (text-is (decode a) (messageIn s))
                 (wrote-then (rw (d .day, g .same, bank, date) at v)
-                (rw (sub-zero (u .details), ← same-details, w .parts, d .day, d .count, q, g .same, bank, date, returned-all (decode a .register) s places verdicts n (j .lines-kept) (j .verdicts-kept)) at (x .wrote)));
+                (rw (sub-zero (u .details), ← same-details, w .parts, d .day, d .count, q, g .same, bank, date, chosen-all isListed199 s verdicts (decode a .register) places n (j .lines-kept) (j .verdicts-kept), chosen-all isReturned s verdicts (decode a .register) places n (j .lines-kept) (j .verdicts-kept)) at (x .wrote)));
             count = x .kept ∙ rw (d .count, w .messages);
           }
 

@@ -10,10 +10,11 @@ use lib.Dec.{leb}
 use borrow.Author.Tests.{leb-true, leb-false}
 use Rattle.rules.specs.Messages.{Detail}
 use Rattle.rules.specs.Engine.{Position}
+use Rattle.rules.specs.Verdict.{isReturned, isListed199}
 use Rattle.rules.specs.Written.{Book, mt199, mt199s, returnOf, returns}
 use Rattle.laws.specs.Writing.{Wrote, Left, left-turn, left-none, left-length, furthest}
 use Rattle.laws.specs.Pieces.{left-all}
-use Rattle.detail_lines.specs.Returned.{returnedAt, countAt, count-next, count-none-left}
+use Rattle.detail_lines.specs.Chosen.{chosenAt, countAt, count-next, count-none-left}
 use Rattle.outgoing_number.specs.declared.Numbered.{Numbered}
 use Rattle.outgoing_number.specs.declared.Outgoing.{Outgoing}
 use Rattle.outgoing_number.specs.declared.Reference.{Reference}
@@ -32,7 +33,7 @@ pub record NextDue (r : Reference) (u : Due) (text s amounts places verdicts : L
   pub placed : Placed r u t
   pub within : t .listed ≤ u .details
   pub kept : 2 ≤ placeAmong u t → placeAmong u t ≤ u .parts → t .first + placeAmong u t ≡ r .number + 1
-  pub waiting : u .parts < placeAmong u t → 0 < countAt verdicts (t .returned) (u .details - t .returned)
+  pub waiting : u .parts < placeAmong u t → 0 < countAt isReturned verdicts (t .returned) (u .details - t .returned)
 
 -- it was written, and t' is where the messages then stand
 pub record NextPut (r : Reference) (p : Position) (u : Due) (text s verdicts : List ℕ) (t : Progress) (out : List ℕ) (t' : Progress) (out' : List ℕ) : Type 0 where
@@ -61,12 +62,12 @@ pub record MessagesDue (count : ℕ) (u : Due) (text s amounts places verdicts :
   pub from : WrittenFrom u text s amounts places
   pub low : count ≤ 65535
   pub few : u .messages ≤ 18
-  pub all : u .messages ≡ u .parts + countAt verdicts 0 (u .details)
+  pub all : u .messages ≡ u .parts + countAt isReturned verdicts 0 (u .details)
 
--- some parts, those of the returned from detail q on being in none, and the returns from detail q' on, after m messages
+-- some parts, the listed from detail q on being in none, and the returns from detail q' on, after m messages
 abbrev pub partsAndReturns : ℕ → ℕ → Position → Due → List ℕ → List ℕ → List ℕ → ℕ → ℕ → ℕ → ℕ → ℕ → List ℕ
 partsAndReturns day count p u text s verdicts left part q m q' =
-    mt199s left day count p part (u .parts) (returnedAt s verdicts q (u .details - q)) ++ returns (bookFor day text p) m (returnedAt s verdicts q' (u .details - q'))
+    mt199s left day count p part (u .parts) (chosenAt isListed199 s verdicts q (u .details - q)) ++ returns (bookFor day text p) m (chosenAt isReturned s verdicts q' (u .details - q'))
 
 -- the text of all of them
 abbrev pub allMessages : ℕ → ℕ → Position → Due → List ℕ → List ℕ → List ℕ → List ℕ
@@ -94,7 +95,7 @@ pub record MessagesLeft (day count : ℕ) (p : Position) (u : Due) (text s amoun
   pub left-few : t .left ≤ u .messages
   pub within : t .listed ≤ u .details
   pub first : 2 ≤ placeAmong u t → placeAmong u t ≤ u .parts → t .first ≡ count + 1
-  pub waiting : countAt verdicts (t .returned) (u .details - t .returned) ≡ returnsLeft u t
+  pub waiting : countAt isReturned verdicts (t .returned) (u .details - t .returned) ≡ returnsLeft u t
   pub unwritten : Left (textLeft day count p u text s verdicts t) (t .out) out (allMessages day count p u text s verdicts) at start
 
 -- ---- numbers: of the messages left n are returns, and there is one less
@@ -203,7 +204,7 @@ module _ {day count : ℕ} {p : Position} {u : Due} {text s amounts places verdi
           let e : r .number - placeAmong u t ≡ count = omega (arith, number-is, l .kept, l .left-few) in
           let c : 0 < t .left - (u .messages - u .parts) = omega (arith, parts-left k) in
           rw (part-fewer (t .left) (t' .left) (u .messages - u .parts) (w .fewer) (parts-left k), part-same (t .left) (t' .left) (u .messages - u .parts) (w .fewer) (parts-left k), place-next, x .returned, x .skipped .same)
-          (left-turn (rw (parts-step day count p (t .left - (u .messages - u .parts)) (placeAmong u t) (u .parts) (returnedAt s verdicts (t .listed) (u .details - t .listed)) _ c) at (l .unwritten)) (rw (e, day-is) at (x .wrote)))
+          (left-turn (rw (parts-step day count p (t .left - (u .messages - u .parts)) (placeAmong u t) (u .parts) (chosenAt isListed199 s verdicts (t .listed) (u .details - t .listed)) _ c) at (l .unwritten)) (rw (e, day-is) at (x .wrote)))
 
       -- the text behind a return
       after-return : u .parts < placeAmong u t → Left (textLeft day count p u text s verdicts t') (t' .out) out' (allMessages day count p u text s verdicts) at start
@@ -213,13 +214,13 @@ module _ {day count : ℕ} {p : Position} {u : Due} {text s amounts places verdi
           let b : t' .left - (u .messages - u .parts) ≡ 0 = omega (arith, none-left k, w .fewer) in
           let m : count + u .messages - t .left + 1 ≡ r .number = number-before (o .count) (t .left) _ (l .kept) ∙ sym number-is in
           let n : count + u .messages - (t .left - 1) ≡ r .number = number-behind (o .count) (t .left) _ (l .kept) h ∙ sym number-is in
-          rw (parts-done day count p (t' .left - (u .messages - u .parts)) (placeAmong u t') (u .parts) (returnedAt s verdicts (t' .listed) (u .details - t' .listed)) _ b, return-fewer (t .left) (t' .left) (u .messages - u .parts) (w .fewer) (none-left k), n)
+          rw (parts-done day count p (t' .left - (u .messages - u .parts)) (placeAmong u t') (u .parts) (chosenAt isListed199 s verdicts (t' .listed) (u .details - t' .listed)) _ b, return-fewer (t .left) (t' .left) (u .messages - u .parts) (w .fewer) (none-left k), n)
           (left-turn
           (rw m at (rw (
-            parts-done day count p (t .left - (u .messages - u .parts)) (placeAmong u t) (u .parts) (returnedAt s verdicts (t .listed) (u .details - t .listed)) _ a,
+            parts-done day count p (t .left - (u .messages - u .parts)) (placeAmong u t) (u .parts) (chosenAt isListed199 s verdicts (t .listed) (u .details - t .listed)) _ a,
             all-returns (t .left) (u .messages - u .parts) (none-left k),
             x .next,
-            returns-step (bookFor day text p) (count + u .messages - t .left) (x .detail) (returnedAt s verdicts (t' .returned) (u .details - t' .returned)),
+            returns-step (bookFor day text p) (count + u .messages - t .left) (x .detail) (chosenAt isReturned s verdicts (t' .returned) (u .details - t' .returned)),
           ) at (l .unwritten)))
           (rw day-is at (x .wrote)))
 
@@ -250,18 +251,18 @@ module _ {day count : ℕ} {p : Position} {u : Due} {text s amounts places verdi
                 left-few = omega (arith, l .left-few, w .fewer);
                 within = rw (x .listed) (l .within);
                 first = λ y z. absurd (omega (arith, place-next));
-                waiting = omega (arith, count-next s verdicts (t .returned) (u .details - t .returned) (t' .returned) (u .details - t' .returned) (x .detail) (x .next), l .waiting, all-returns (t .left) (u .messages - u .parts) (none-left k), return-fewer (t .left) (t' .left) (u .messages - u .parts) (w .fewer) (none-left k));
+                waiting = omega (arith, count-next isReturned s verdicts (t .returned) (u .details - t .returned) (t' .returned) (u .details - t' .returned) (x .detail) (x .next), l .waiting, all-returns (t .left) (u .messages - u .parts) (none-left k), return-fewer (t .left) (t' .left) (u .messages - u .parts) (w .fewer) (none-left k));
                 unwritten = after-return k;
               }
 
   pub messages-end : t .left ≤ 0 → MessagesPut day count p u text s verdicts at start (record { at = t .out; count = o .count }) out
   messages-end h =
       let a : t .left - (u .messages - u .parts) ≡ 0 = omega arith in
-      let z : countAt verdicts (t .returned) (u .details - t .returned) ≡ 0 = omega (arith, l .waiting) in
+      let z : countAt isReturned verdicts (t .returned) (u .details - t .returned) ≡ 0 = omega (arith, l .waiting) in
       record {
         wrote = left-none (rw (
-          parts-done day count p (t .left - (u .messages - u .parts)) (placeAmong u t) (u .parts) (returnedAt s verdicts (t .listed) (u .details - t .listed)) _ a,
-          count-none-left s verdicts (t .returned) (u .details - t .returned) z,
+          parts-done day count p (t .left - (u .messages - u .parts)) (placeAmong u t) (u .parts) (chosenAt isListed199 s verdicts (t .listed) (u .details - t .listed)) _ a,
+          count-none-left isReturned s verdicts (t .returned) (u .details - t .returned) z,
           returns-done,
         ) at (l .unwritten));
         kept = omega (arith, l .kept);

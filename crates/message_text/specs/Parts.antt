@@ -1,4 +1,4 @@
--- The parts of an MT199, each with the next 14 of the returned details.
+-- The parts of an MT199, each with the next 14 of the listed details.
 use mathlib.Core.Path.{_≡_, refl}
 use mathlib.Core.Bool.{Bool, true, false}
 use mathlib.Core.List.{List, _++_}
@@ -9,32 +9,34 @@ use lib.Dec.{leb}
 use borrow.Author.Tests.{eq-eqb, ne-eqb, leb-true, leb-false}
 use Rattle.rules.specs.Text.{ascii}
 use Rattle.rules.specs.Engine.{Position}
+use Rattle.rules.specs.Verdict.{isListed199}
 use Rattle.rules.specs.Written.{firstLine, field, reference, linked, position79, closed79, mt199, partsOf}
 use Rattle.laws.specs.Writing.{Wrote, left-length}
 use Rattle.laws.specs.Pieces.{wrote-4}
 use Rattle.details.specs.Kept.{LinesIn}
-use Rattle.detail_lines.specs.Returned.{returnedAt, DetailsSkipped, RowsPut}
-use Rattle.detail_lines.specs.declared.returned.Place.{Place}
+use Rattle.detail_lines.specs.Chosen.{chosenAt}
+use Rattle.detail_lines.specs.Listed.{DetailsSkipped, RowsPut}
+use Rattle.detail_lines.specs.declared.listed.Place.{Place}
 use Rattle.outgoing_number.specs.declared.Reference.{Reference}
 use Rattle.message_text.specs.declared.numbered.Due.{Due}
 use Rattle.message_text.specs.declared.numbered.Progress.{Progress}
 
 -- ---- how many
 
--- r parts for so many returned details
-pub record PartsOf (returned r : ℕ) : Type 0 where
-  pub value : r ≡ partsOf returned
+-- r parts for so many listed details
+pub record PartsOf (listed r : ℕ) : Type 0 where
+  pub value : r ≡ partsOf listed
   pub few : r ≤ 2
 
-pub parts-one : (returned : ℕ) → returned ≡ 0 → PartsOf returned 1
+pub parts-one : (listed : ℕ) → listed ≡ 0 → PartsOf listed 1
 unfolding partsOf
-parts-one returned e = record { value = rw (eq-eqb returned 0 e); few = omega arith }
+parts-one listed e = record { value = rw (eq-eqb listed 0 e); few = omega arith }
 
-pub parts-more : (returned : ℕ) → (returned ≡ 0 → ⊥) → returned ≤ 16 → PartsOf returned ((returned + 13) / 14)
+pub parts-more : (listed : ℕ) → (listed ≡ 0 → ⊥) → listed ≤ 16 → PartsOf listed ((listed + 13) / 14)
 unfolding partsOf
-parts-more returned n h = record { value = rw (ne-eqb returned 0 n); few = omega arith }
+parts-more listed n h = record { value = rw (ne-eqb listed 0 n); few = omega arith }
 
--- ---- one part, with the next 14 of the returned details
+-- ---- one part, with the next 14 of the listed details
 
 -- its place among the messages, so many being left
 abbrev pub placeAmong : Due → Progress → ℕ
@@ -78,7 +80,7 @@ module _ {r : Reference} {u : Due} {s places : List ℕ} {t : Progress} (d : Par
 
 -- it was written, and t' is where the messages then stand
 pub record PartPut (r : Reference) (p : Position) (u : Due) (s verdicts : List ℕ) (t : Progress) (out : List ℕ) (t' : Progress) (out' : List ℕ) : Type 0 where
-  pub wrote : Wrote (mt199 (r .day) (r .number - placeAmong u t) p (placeAmong u t) (u .parts) (take 14 (returnedAt s verdicts (t .listed) (u .details - t .listed)))) (t .out) out (t' .out) out'
+  pub wrote : Wrote (mt199 (r .day) (r .number - placeAmong u t) p (placeAmong u t) (u .parts) (take 14 (chosenAt isListed199 s verdicts (t .listed) (u .details - t .listed)))) (t .out) out (t' .out) out'
   pub skipped : DetailsSkipped s verdicts (t .listed) (u .details) 14 (t' .listed)
   pub fewer : t' .left ≡ t .left - 1
   pub first : t' .first + placeAmong u t ≡ r .number + 1

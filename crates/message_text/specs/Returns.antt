@@ -9,6 +9,7 @@ use Rattle.rules.specs.Text.{isSome}
 use Rattle.rules.specs.Messages.{Detail, past}
 use Rattle.rules.specs.Register.{register}
 use Rattle.rules.specs.Engine.{Position}
+use Rattle.rules.specs.Verdict.{isReturned}
 use Rattle.rules.specs.Written.{return103, returnOf}
 use Rattle.laws.specs.Parts.{cut}
 use Rattle.laws.specs.Writing.{Wrote, left-length}
@@ -20,7 +21,8 @@ use Rattle.verdict.specs.Answers.{judgedIn}
 use Rattle.verdict.specs.Details.{judged-payer, judged-branch}
 use Rattle.verdict.specs.declared.detail.Judged.{Judged}
 use Rattle.written.specs.Values.{bookOf}
-use Rattle.detail_lines.specs.Returned.{returnedAt, countAt, NextReturned, payer-in, branch-in}
+use Rattle.detail_lines.specs.Chosen.{chosenAt, countAt, NextReturned}
+use Rattle.detail_lines.specs.Listed.{payer-in, branch-in}
 use Rattle.detail_lines.specs.Returns.{return-kept}
 use Rattle.outgoing_number.specs.declared.Reference.{Reference}
 use Rattle.message_text.specs.Postings.{bookFor}
@@ -38,12 +40,12 @@ pub record WrittenFrom (u : Due) (text s amounts places : List ℕ) : Type 0 whe
 pub record ReturnDue (u : Due) (text s amounts places verdicts : List ℕ) (t : Progress) : Type 0 where
   pub from : WrittenFrom u text s amounts places
   pub some : 0 < t .left
-  pub waiting : 0 < countAt verdicts (t .returned) (u .details - t .returned)
+  pub waiting : 0 < countAt isReturned verdicts (t .returned) (u .details - t .returned)
 
 -- it was written for the next returned detail, and t' is where the messages then stand
 pub record ReturnPut (r : Reference) (p : Position) (u : Due) (text s verdicts : List ℕ) (t : Progress) (out : List ℕ) (t' : Progress) (out' : List ℕ) : Type 0 where
   pub detail : Detail
-  pub next : returnedAt s verdicts (t .returned) (u .details - t .returned) ≡ detail ∷ returnedAt s verdicts (t' .returned) (u .details - t' .returned)
+  pub next : chosenAt isReturned s verdicts (t .returned) (u .details - t .returned) ≡ detail ∷ chosenAt isReturned s verdicts (t' .returned) (u .details - t' .returned)
   pub wrote : Wrote (returnOf (bookFor (r .day) text p) (r .number) detail) (t .out) out (t' .out) out'
   pub fewer : t' .left ≡ t .left - 1
   pub listed : t' .listed ≡ t .listed

@@ -4,6 +4,7 @@ use crate::numbered::put_messages;
 use crate::postings::put_postings;
 use crate::verdicts::parts_of;
 use conditions::Booking;
+use detail_lines::Counts;
 use engine::Totals;
 use engine::header_of;
 use engine::register_text;
@@ -48,25 +49,26 @@ fn has_verdict(b: Booking, p: Position) -> bool
     true
 }
 
-// How many parts of an MT199 follow, so many details being returned.
-fn parts_for(b: Booking, p: Position, returned: u32) -> u32
-    requires { ⌜ returned ≤ 16 ⌝ }
-    ensures { λ r. ⌜ PartsFor b p returned r ⌝ }
+// How many parts of an MT199 follow, so many details being listed.
+fn parts_for(b: Booking, p: Position, listed: u32) -> u32
+    requires { ⌜ listed ≤ 16 ⌝ }
+    ensures { λ r. ⌜ PartsFor b p listed r ⌝ }
 {
     if has_verdict(b, p) {
-        return parts_of(returned);
+        return parts_of(listed);
     }
     0
 }
 
-// What is due for the message, so many of its details being returned: the parts, and a return for each of those.
-pub fn due_for(b: Booking, p: Position, returned: u32) -> Due
-    requires { ⌜ returned ≤ 16 ⌝ }
-    ensures { λ r. ⌜ DueFor b p returned r ⌝ }
+// What is due for the message, so many of its details being listed and returned: the parts for the listed, and a return for each of the returned.
+pub fn due_for(b: Booking, p: Position, counts: Counts) -> Due
+    requires { ⌜ counts .listed ≤ 16 ⌝ }
+    requires { ⌜ counts .returned ≤ 16 ⌝ }
+    ensures { λ r. ⌜ DueFor b p counts r ⌝ }
 {
-    let parts = parts_for(b, p, returned);
+    let parts = parts_for(b, p, counts.listed);
     Due {
-        messages: parts + returned,
+        messages: parts + counts.returned,
         parts,
         details: b.count as u32,
     }

@@ -1,7 +1,7 @@
 // An MT199 in its parts.
 use crate::numbered::Due;
 use crate::numbered::Progress;
-use detail_lines::put_returned;
+use detail_lines::put_listed;
 use outgoing_number::Reference;
 use position::Position;
 use written::put_closed79;
@@ -11,15 +11,15 @@ ghost use Prim.Native.Nat.{_≤_};
 ghost use Rattle.position.specs.Values.{positionValue};
 ghost use Rattle.message_text.specs.Parts.{PartsOf, FirstOf, PartDue, PartPut};
 
-// How many parts there are: 14 returned details to each, and one part where there are none.
-pub fn parts_of(returned: u32) -> u32
-    requires { ⌜ returned ≤ 16 ⌝ }
-    ensures { λ r. ⌜ PartsOf returned r ⌝ }
+// How many parts there are: 14 listed details to each, and one part where there are none.
+pub fn parts_of(listed: u32) -> u32
+    requires { ⌜ listed ≤ 16 ⌝ }
+    ensures { λ r. ⌜ PartsOf listed r ⌝ }
 {
-    if returned == 0 {
+    if listed == 0 {
         return 1;
     }
-    ((returned as u16 + 13) / 14) as u32
+    ((listed as u16 + 13) / 14) as u32
 }
 
 // The number of part 1: that of the reference where this is part 1, and else the one kept of it.
@@ -32,7 +32,7 @@ fn first_number(part: u32, r: Reference, kept: u32) -> u32
     kept
 }
 
-// The next of the parts, by the reference that was issued for it: the next 14 returned of the details of the message s.
+// The next of the parts, by the reference that was issued for it: the next 14 listed of the details of the message s.
 pub fn put_part(
     out: &mut [u8],
     t: Progress,
@@ -52,7 +52,7 @@ pub fn put_part(
     let first = first_number(part, r, t.first);
     let a = put_opened199(out, t.out, r.day, first, r.number, p.key.bank, part);
     let b = put_position79(out, a, p.key.date, p.transferred, p.detailed);
-    let c = put_returned(out, b, s, amounts, places, verdicts, t.listed, n, 14);
+    let c = put_listed(out, b, s, amounts, places, verdicts, t.listed, n, 14);
     let d = put_closed79(out, c.out, part, due.parts);
     Progress {
         out: d,

@@ -43,7 +43,7 @@ postings-mute {ls = ls} s m = rw (lined-lines (lined-join s (m .reading)), lined
 pub message-posts : (e : Engine) (m : Message) → Postable e m → postingsIn (messageText e m) ≡ postingsIn (postingText (e .register) (e .day) m)
 message-posts e m w =
     let t : Tells (comesIn (bankOf m)) (message []) (postingText (e .register) (e .day) m) _ =
-    postings-in (bankOf m) (message []) (w .book .small) (registerOf (e .register)) (messageBook e m) (w .book) m (w .transferred) (w .detailed) in
+    postings-in (bankOf m) (message []) (w .book .small) (registerOf (e .register)) (w .accounts) (messageBook e m) (w .book) m (w .transferred) (w .detailed) in
     rw (message-parts e m) (postings-mute (t .reading) (mute-behind e m w))
 
 -- those of a message as it is sent, if it is read as one, by register and day

@@ -1,42 +1,45 @@
 -- A text passes 9 exactly where the tests at its places hold, and then the register is what stands there.
 use mathlib.Core.Path.{_≡_, refl, sym, ap, _∙_}
 use mathlib.Core.Bool.{Bool, true, false, _&&_, not}
-use mathlib.Core.List.{List, [], _∷_, map}
+use mathlib.Core.List.{List, [], _∷_, _++_, map, append-nil}
 use mathlib.Core.Option.{Option, none, some, Option·map}
-use Prim.Native.Nat.{ℕ, zero, suc, _+_, _-_, _≤_}
-use native.Mathlib.Nat.{zero-add}
+use Prim.Native.Nat.{ℕ, zero, suc, _+_, _*_, _≤_}
 use native.Mathlib.Omega.{arith}
 use lib.Dec.{leb, eqb}
 use lib.ListN.{length, take, drop, length-map}
-use borrow.Author.Tests.{eqb-true, leb-true, eq-eqb, le-leb}
-use Rattle.rules.specs.Text.{ascii, isDigit, isLetter, isAlnum, fitsSign, every, fits, then, given, readEach}
+use borrow.Author.Tests.{eqb-true, eq-eqb, le-leb}
+use Rattle.rules.specs.Text.{ascii, isDigit, isLetter, isAlnum, fitsSign, equal, every, fits, given, any, twice}
 use Rattle.rules.specs.Accounts.{ibanShape, passes}
 use Rattle.rules.specs.Lines.{Line, before, lines}
-use Rattle.rules.specs.Register.{Account, Register, accountLine, sound, ofLines, register}
+use Rattle.rules.specs.Register.{Account, Code, Register, accountLine, codeLine, accountIbans, soundAccounts, sameCode, soundCodes, sound, register}
 use Rattle.laws.specs.Parts.{cut, cut-take, cut-drop, from, from-done, from-all}
-use Rattle.laws.specs.Tests.{and-left, and-right, cond-left, cond-right, never}
-use Rattle.rule_laws.specs.Options.{Gave, gave, Reads, Reads.empty, Reads.more}
-use Rattle.rule_laws.specs.Registers.{RegisterRead, register-read, register-size}
-use Rattle.register.specs.Blocks.{inside, line-at, LinesStand, stands}
-use Rattle.register.specs.Places.{counted, upto, place, formAt, endsAt, boundAt, ibanIn, accountIn, lineIn, count, ibansIn, accountsIn, linesIn, firstIn, againIn, lengthIn, passesIn, registerIn}
-use Rattle.register.specs.AccountLine.{accountForm, accountOn, lineOn, account-line}
+use Rattle.laws.specs.Tests.{and-left, and-right, never}
+use Rattle.rule_laws.specs.Options.{Gave, gave}
+use Rattle.rule_laws.specs.Registers.{RegisterRead, register-read, register-of, register-size, register-few, codes-few, codes-unread, temporary-passes}
+use Rattle.rule_laws.specs.Options.{Unread.end}
+use Rattle.register_lines.specs.Blocks.{inside, line-at, LinesStand, stands}
+use Rattle.register_lines.specs.Places.{placesFrom, upto, upto-all, endsAt, formAt, boundAt, keyIn, accountIn, accountStands, codeForm, codeIn, codeStands, keysIn, repeatIn, firstIn}
+use Rattle.register.specs.Whole.{place, accountsIn, codesIn, foreignIn, count, codeCount, againIn, linesTest, passesIn, registerIn}
+use Rattle.register.specs.Sections.{LineForm, lineAt, leading-all, leading-few, leading-is, lines-on, reads-on, Stand, lines-back, none-stands}
+use Rattle.register_lines.specs.Forms.{account-ended, code-ended}
+use Rattle.register_lines.specs.AccountLine.{accountForm, accountOn, lineOn, account-line}
 
--- ---- an account line at its place and as a line
+-- ---- account lines
 
-module _ (s : List ℕ) (i : ℕ) where
-  at-low : take 6 (drop 23 (cut s (place i) (place i + 36))) ≡ cut s (place i + 23) (place i + 23 + 6)
-  at-low = rw cut-drop (cut-take s (place i + 23) (place i + 36) 6 (omega arith))
+module _ (s : List ℕ) (at : ℕ) where
+  at-low : take 6 (drop 23 (cut s at (at + 36))) ≡ cut s (at + 23) (at + 23 + 6)
+  at-low = rw cut-drop (cut-take s (at + 23) (at + 36) 6 (omega arith))
 
-  at-high : take 6 (drop 30 (cut s (place i) (place i + 36))) ≡ cut s (place i + 30) (place i + 30 + 6)
-  at-high = rw cut-drop (cut-take s (place i + 30) (place i + 36) 6 (omega arith))
+  at-high : take 6 (drop 30 (cut s at (at + 36))) ≡ cut s (at + 30) (at + 30 + 6)
+  at-high = rw cut-drop (cut-take s (at + 30) (at + 36) 6 (omega arith))
 
-  account-in : accountOn (cut s (place i) (place i + 36)) ≡ accountIn s i
-  unfolding accountOn accountIn ibanIn boundAt
-  account-in = rw (at-low, at-high, cut-take s (place i) (place i + 36) 22 (omega arith))
+  account-in : accountOn (cut s at (at + 36)) ≡ accountIn s at
+  unfolding accountOn accountIn boundAt
+  account-in = rw (at-low, at-high, cut-take s at (at + 36) 22 (omega arith))
 
-  line-in : (lineOn (cut s (place i) (place i + 36)) && endsAt s (place i + 36)) ≡ lineIn s i
-  unfolding lineOn lineIn formAt ibanIn boundAt
-  line-in = rw (at-low, at-high, cut-take s (place i) (place i + 36) 22 (omega arith)) (go (fits accountForm (cut s (place i) (place i + 36))) (passes (cut s (place i) (place i + 22))) _ (endsAt s (place i + 36)))
+  line-in : (lineOn (cut s at (at + 36)) && endsAt s (at + 36)) ≡ accountStands s at
+  unfolding lineOn accountStands formAt boundAt
+  line-in = rw (at-low, at-high, cut-take s at (at + 36) 22 (omega arith)) (go (fits accountForm (cut s at (at + 36))) (passes (cut s at (at + 22))) _ (endsAt s (at + 36)))
     where
       go : (a b c d : Bool) → (a && b && c && d) ≡ (a && d && b && c)
       go true true true true = refl
@@ -47,16 +50,7 @@ module _ (s : List ℕ) (i : ℕ) where
       go true false c false = refl
       go false b c d = refl
 
--- ---- account lines: from the places to the accounts
-
--- a line taken off before others, and its account
-module _ (l : Line) (a : Account) (e : accountLine l ≡ some a) where
-  accounts-before : (o : Option (List Line)) → then (Option·map (before l) o) (readEach accountLine) ≡ Option·map (λ (more : List Account). a ∷ more) (then o (readEach accountLine))
-  unfolding readEach
-  accounts-before none = refl
-  accounts-before (some ls) = rw e
-
--- neither form has room for CR or LF
+-- neither form has room for CR or LF, nor has an IBAN
 abbrev ibanForm : List ℕ
 ibanForm = ascii "BGnnaaaannnnnncccccccc"
 
@@ -64,209 +58,252 @@ account-inside : every inside accountForm ≡ true
 unfolding every inside fitsSign isAlnum isDigit isLetter
 account-inside = refl
 
+code-inside : every inside codeForm ≡ true
+unfolding every inside fitsSign isAlnum isDigit isLetter
+code-inside = refl
+
 iban-inside : every inside ibanForm ≡ true
 unfolding every inside fitsSign isAlnum isDigit isLetter
 iban-inside = refl
 
--- account line i, its tests passed
-module _ (s : List ℕ) (i : ℕ) (g : lineIn s i ≡ true) where
-  both : (lineOn (cut s (place i) (place i + 36)) && endsAt s (place i + 36)) ≡ true
-  both = line-in s i ∙ g
+account-fit : (l : Line) (a : Account) → accountLine l ≡ some a → fits accountForm l ≡ true
+unfolding lineOn
+account-fit l a e = let g : Gave (lineOn l) (accountOn l) a = gave _ _ (sym (account-line l) ∙ e) in and-left _ _ (and-left _ _ (g .test))
 
-  account-here : accountLine (cut s (place i) (place i + 36)) ≡ some (accountIn s i)
-  account-here = account-line _ ∙ rw (and-left (lineOn _) _ both, account-in)
+account-read : (s : List ℕ) (at : ℕ) → accountStands s at ≡ true → accountLine (cut s at (at + 36)) ≡ some (accountIn s at)
+account-read s at h = account-line _ ∙ rw (and-left (lineOn (cut s at (at + 36))) _ (line-in s at ∙ h), account-in)
 
-  line-here : lines (from s (place i)) ≡ Option·map (before (cut s (place i) (place i + 36))) (lines (from s (place (i + 1))))
-  unfolding lineIn formAt endsAt
-  line-here =
-      let e : place (i + 1) ≡ place i + 36 + 2 = omega arith in
-      let f : fits accountForm (cut s (place i) (place i + 36)) && endsAt s (place i + 36) ≡ true = and-left _ _ (and-left _ _ g) in
-      rw e (line-at accountForm s (place i) account-inside (and-left _ _ f) (and-right (fits accountForm (cut s (place i) (place i + 36))) _ f))
+account-back : (s : List ℕ) (at : ℕ) (a : Account) → accountLine (cut s at (at + 36)) ≡ some a → endsAt s (at + 36) ≡ true → Gave (accountStands s at) (accountIn s at) a
+account-back s at a e h =
+    let g : Gave (lineOn (cut s at (at + 36))) (accountOn (cut s at (at + 36))) a = gave _ _ (sym (account-line (cut s at (at + 36))) ∙ e) in
+    record { test = sym (line-in s at) ∙ rw (g .test) h; is = sym (account-in s at) ∙ g .is }
 
--- the lines from line i on, k of them, each with its tests passed
-lines-in : (s : List ℕ) (i k : ℕ) → length s ≡ place (i + k) → every (lineIn s) (counted i k) ≡ true → then (lines (from s (place i))) (readEach accountLine) ≡ some (map (accountIn s) (counted i k))
-unfolding counted every readEach lines
-lines-in s i zero h g = rw (from-done s (place i) (omega arith))
-lines-in s i (suc k) h g =
-    let d : lineIn s i ≡ true = cond-left _ _ g in
-    rw (line-here s i d, accounts-before _ _ (account-here s i d), lines-in s (i + 1) k (omega arith) (cond-right (lineIn s i) _ g))
+-- lines `IBAN,low,high`
+abbrev accountLines : LineForm Account
+accountLines = record {
+  pattern = accountForm;
+  plain = account-inside;
+  reader = accountLine;
+  standing = accountStands;
+  value = accountIn;
+  fit = account-fit;
+  read = account-read;
+  ended = account-ended;
+  back = account-back;
+}
 
--- ---- and back: from the accounts to the places
+-- ---- code lines
 
--- a line from place i on that is an account's
-module _ (s : List ℕ) (i : ℕ) {l : Line} {ls : List Line} {a : Account} (h : lines (from s (place i)) ≡ some (l ∷ ls)) (e : accountLine l ≡ some a) where
-  on : Gave (lineOn l) (accountOn l) a
-  on = gave _ _ (sym (account-line l) ∙ e)
+code-in : (s : List ℕ) (at : ℕ) → record { code = take 10 (cut s at (at + 33)); iban = drop 11 (cut s at (at + 33)) } ≡ codeIn s at
+unfolding codeIn
+code-in s at = let e : at + 11 + 22 ≡ at + 33 = omega arith in rw (cut-take s at (at + 33) 10 (omega arith), cut-drop s at (at + 33) 11, e)
 
-  it : LinesStand accountForm s (place i) account-inside l ls
-  unfolding lineOn
-  it = stands accountForm s (place i) account-inside l ls h (and-left _ _ (and-left _ _ (on .test)))
+code-fit : (l : Line) (c : Code) → codeLine l ≡ some c → fits codeForm l ≡ true
+unfolding codeLine
+code-fit l c e = gave _ _ e .test
 
-  line-holds : lineIn s i ≡ true
-  unfolding endsAt
-  line-holds = sym (line-in s i) ∙ rw (← it .same, on .test) (it .ended)
+code-read : (s : List ℕ) (at : ℕ) → codeStands s at ≡ true → codeLine (cut s at (at + 33)) ≡ some (codeIn s at)
+unfolding codeLine codeStands
+code-read s at h = rw (and-left (fits codeForm (cut s at (at + 33))) _ h, code-in)
 
-  account-same : a ≡ accountIn s i
-  account-same = sym (on .is) ∙ ap accountOn (it .same) ∙ account-in s i
+code-back : (s : List ℕ) (at : ℕ) (c : Code) → codeLine (cut s at (at + 33)) ≡ some c → endsAt s (at + 33) ≡ true → Gave (codeStands s at) (codeIn s at) c
+unfolding codeLine codeStands
+code-back s at c e h =
+    let g : Gave (fits codeForm (cut s at (at + 33))) _ c = gave _ _ e in
+    record { test = rw (g .test) h; is = sym (code-in s at) ∙ g .is }
 
-  next-lines : lines (from s (place (i + 1))) ≡ some ls
-  next-lines = let k : place (i + 1) ≡ place i + 36 + 2 = omega arith in rw k (it .others)
-
--- the accounts xs are those of the lines from account line i on
-record AccountsListed (s : List ℕ) (i : ℕ) (xs : List Account) : Type 0 where
-  good : every (lineIn s) (counted i (length xs)) ≡ true
-  same : xs ≡ map (accountIn s) (counted i (length xs))
-
-listed : (s : List ℕ) (i : ℕ) {ls : List Line} {xs : List Account} → lines (from s (place i)) ≡ some ls → Reads accountLine ls xs → AccountsListed s i xs
-unfolding counted every
-listed s i h empty = record { good = refl; same = refl }
-listed s i h (more e r) =
-    let m = listed s (i + 1) (next-lines s i h e) r in record {
-      good = rw (line-holds s i h e) (m .good);
-      same = rw (account-same s i h e) (ap (λ (more : List Account). accountIn s i ∷ more) (m .same));
-    }
+-- lines `code,IBAN`
+abbrev codeLines : LineForm Code
+codeLines = record {
+  pattern = codeForm;
+  plain = code-inside;
+  reader = codeLine;
+  standing = codeStands;
+  value = codeIn;
+  fit = code-fit;
+  read = code-read;
+  ended = code-ended;
+  back = code-back;
+}
 
 -- ---- the whole text
 
--- all account lines, by number and by how many
-pub upto-0 : (n : ℕ) → upto 0 n ≡ counted 0 n
-unfolding upto
-upto-0 n = let e : n - 0 ≡ n = omega arith in rw e
+from-length : (w at k : ℕ) → length (placesFrom w at k) ≡ k
+unfolding placesFrom
+from-length w at zero = refl
+from-length w at (suc k) = ap suc (from-length w (at + w) k)
 
-counted-length : (i k : ℕ) → length (counted i k) ≡ k
-unfolding counted
-counted-length i zero = refl
-counted-length i (suc k) = ap suc (counted-length (i + 1) k)
-
-pub accounts-length : (s : List ℕ) (n : ℕ) → length (accountsIn s 0 n) ≡ n
+pub accounts-length : (s : List ℕ) (n : ℕ) → length (accountsIn s n) ≡ n
 unfolding accountsIn
-accounts-length s n = length-map (upto 0 n) (accountIn s) ∙ ap length (upto-0 n) ∙ counted-length 0 n
+accounts-length s n = length-map (placesFrom 38 24 n) (accountIn s) ∙ from-length 38 24 n
 
-iban-of : (s : List ℕ) (i : ℕ) → accountIn s i .iban ≡ ibanIn s i
-unfolding accountIn
-iban-of s i = refl
+pub codes-length : (s : List ℕ) (at k : ℕ) → length (codesIn s at k) ≡ k
+unfolding codesIn
+codes-length s at k = length-map (placesFrom 35 at k) (codeIn s) ∙ from-length 35 at k
 
-ibans-of : (s : List ℕ) (n : ℕ) → map (λ (a : Account). a .iban) (accountsIn s 0 n) ≡ ibansIn s 0 n
-unfolding accountsIn ibansIn
-ibans-of s n = go (upto 0 n)
+-- the IBANs of account lines are their keys
+pub ibans-of : (s : List ℕ) (n : ℕ) → accountIbans (accountsIn s n) ≡ keysIn s 22 (upto 38 24 0 n)
+unfolding accountsIn keysIn accountIn keyIn
+ibans-of s n = rw (upto-all 38 24 n) (go (placesFrom 38 24 n))
   where
-    go : (is : List ℕ) → map (λ (a : Account). a .iban) (map (accountIn s) is) ≡ map (ibanIn s) is
+    go : (ps : List ℕ) → accountIbans (map (accountIn s) ps) ≡ map (keyIn s 22) ps
     go [] = refl
-    go (i ∷ is) = rw (iban-of s i) (ap (λ (r : List (List ℕ)). ibanIn s i ∷ r) (go is))
+    go (p ∷ ps) = ap (λ (r : List (List ℕ)). cut s p (p + 22) ∷ r) (go ps)
+
+-- the codes of code lines are theirs
+codes-twice : (s : List ℕ) (at k : ℕ) → twice sameCode (codesIn s at k) ≡ repeatIn s 10 35 at 0 k
+unfolding codesIn repeatIn keysIn codeIn keyIn sameCode any twice
+codes-twice s at k = rw (upto-all 35 at k) (go (placesFrom 35 at k))
+  where
+    some : (a : ℕ) (ps : List ℕ) → any (sameCode (codeIn s a)) (map (codeIn s) ps) ≡ any (equal (keyIn s 10 a)) (map (keyIn s 10) ps)
+    some a [] = refl
+    some a (p ∷ ps) = rw (some a ps)
+
+    go : (ps : List ℕ) → twice sameCode (map (codeIn s) ps) ≡ twice equal (map (keyIn s 10) ps)
+    go [] = refl
+    go (p ∷ ps) = rw (some p ps, go ps)
 
 -- what is asked of a register, by its places
-sound-in : (s : List ℕ) → sound (registerIn s) ≡ (passes (cut s 0 22) && leb (count s) 40 && not (againIn s (count s)))
-unfolding sound registerIn againIn
-sound-in s = rw (accounts-length, ibans-of)
+accounts-sound : (s : List ℕ) (n m : ℕ) → soundAccounts (registerIn s n m) ≡ (passes (cut s 0 22) && leb n 40 && not (againIn s n))
+unfolding soundAccounts registerIn againIn keyIn
+accounts-sound s n m = rw (accounts-length, ibans-of)
 
--- the register of a first line and accounts
-unfoldable soundOf : Line → List Account → Option Register
-soundOf l xs = let r : Register = record { temporary = l; accounts = xs } in given (sound r) r
+codes-sound : (s : List ℕ) (n m : ℕ) → soundCodes (registerIn s n m) ≡ (leb m 40 && not (foreignIn s n (place n) m) && not (repeatIn s 10 35 (place n) 0 m))
+unfolding soundCodes registerIn foreignIn
+codes-sound s n m = rw (codes-length, codes-twice)
 
-first-before : (l : Line) (o : Option (List Line)) → then (Option·map (before l) o) ofLines ≡ then (then o (readEach accountLine)) (soundOf l)
-unfolding ofLines soundOf
-first-before l none = refl
-first-before l (some ls) = refl
+-- the lines at the places
+abbrev accountsAt : List ℕ → ℕ → List Line
+accountsAt s n = map (lineAt accountLines s) (placesFrom 38 24 n)
+
+abbrev codesAt : List ℕ → ℕ → ℕ → List Line
+codesAt s n m = map (lineAt codeLines s) (placesFrom 35 (place n) m)
 
 -- where the tests at the places hold, there is a register
-module _ (s : List ℕ) (h : passesIn s (count s) ≡ true) where
-  in-length : lengthIn s (count s) ≡ true
-  unfolding passesIn
-  in-length = and-left _ _ (and-left _ _ (and-left _ _ h))
-
+module _ (s : List ℕ) (n m : ℕ) (a : every (accountStands s) (placesFrom 38 24 n) ≡ true) (c : every (codeStands s) (placesFrom 35 (place n) m) ≡ true) (n-few : n ≤ 40) (m-few : m ≤ 40) (h : passesIn s n m ≡ true) where
   in-first : firstIn s ≡ true
   unfolding passesIn
-  in-first = and-right (lengthIn s (count s)) _ (and-left _ _ (and-left _ _ h))
+  in-first = and-left _ _ h
 
-  in-lines : linesIn s 0 (count s) ≡ true
+  in-lines : linesTest s n m ≡ true
   unfolding passesIn
-  in-lines = and-right (lengthIn s (count s) && firstIn s) _ (and-left _ _ h)
+  in-lines = and-right (firstIn s) _ h
 
-  in-single : not (againIn s (count s)) ≡ true
-  unfolding passesIn
-  in-single = and-right (lengthIn s (count s) && firstIn s && linesIn s 0 (count s)) _ h
+  in-size : length s ≡ place n + 35 * m
+  unfolding linesTest
+  in-size = eqb-true (length s) (place n + 35 * m) (and-left _ _ (and-left _ _ (and-left _ _ in-lines)))
 
-  in-size : length s ≡ place (count s)
-  unfolding lengthIn
-  in-size = eqb-true (length s) (place (count s)) (and-left _ _ in-length)
+  in-single : not (againIn s n) ≡ true
+  unfolding linesTest
+  in-single = and-right (eqb (length s) (place n + 35 * m)) _ (and-left _ _ (and-left _ _ in-lines))
 
-  in-count : count s ≤ 40
-  unfolding lengthIn
-  in-count = leb-true (count s) 40 (and-right (eqb (length s) (place (count s))) _ in-length)
+  in-own : not (foreignIn s n (place n) m) ≡ true
+  unfolding linesTest
+  in-own = and-right (eqb (length s) (place n + 35 * m) && not (againIn s n)) _ (and-left _ _ in-lines)
+
+  in-once : not (repeatIn s 10 35 (place n) 0 m) ≡ true
+  unfolding linesTest
+  in-once = and-right (eqb (length s) (place n + 35 * m) && not (againIn s n) && not (foreignIn s n (place n) m)) _ in-lines
 
   first-here : lines s ≡ Option·map (before (cut s 0 22)) (lines (from s 24))
   unfolding firstIn endsAt passes ibanShape
   first-here = ap lines (sym (from-all s)) ∙ line-at ibanForm s 0 iban-inside (and-left _ _ (and-left _ _ in-first)) (and-right (passes (cut s 0 22)) _ in-first)
 
-  sound-here : sound (registerIn s) ≡ true
-  unfolding firstIn
-  sound-here = sound-in s ∙ rw (and-left (passes (cut s 0 22)) _ in-first, le-leb (count s) 40 in-count, in-single)
+  none-left : lines (from s (place n + 35 * m)) ≡ some []
+  unfolding lines
+  none-left = rw (from-done s (place n + 35 * m) (omega (arith, in-size)))
 
-  accounts-here : then (lines (from s 24)) (readEach accountLine) ≡ some (accountsIn s 0 (count s))
-  unfolding linesIn accountsIn
-  accounts-here =
-      let e : length s ≡ place (0 + count s) = rw zero-add in-size in
-      rw (upto-0) (lines-in s 0 (count s) e (rw upto-0 at in-lines))
+  codes-here : lines (from s (place n)) ≡ some (codesAt s n m)
+  codes-here = rw append-nil at (lines-on codeLines s (place n) m [] c none-left)
 
-  sound-given : soundOf (cut s 0 22) (accountsIn s 0 (count s)) ≡ some (registerIn s)
-  unfolding soundOf registerIn
-  sound-given = rw sound-here
-
-  pub in-register : register s ≡ some (registerIn s)
-  unfolding register
-  in-register = rw (first-here, first-before, accounts-here) sound-given
+  pub in-register : register s ≡ some (registerIn s n m)
+  unfolding registerIn accountsIn codesIn sound firstIn
+  in-register = register-of s (registerIn s n m) record {
+    account-lines = accountsAt s n;
+    code-lines = codesAt s n m;
+    all = first-here ∙ rw (lines-on accountLines s 24 n (codesAt s n m) a codes-here);
+    accounts = reads-on accountLines s 24 n a;
+    codes = reads-on codeLines s (place n) m c;
+    good = rw (accounts-sound s n m, codes-sound s n m, and-left (passes (cut s 0 22)) _ in-first, le-leb n 40 n-few, in-single, le-leb m 40 m-few, in-own, in-once);
+  }
 
 -- where there is a register, the tests at the places hold
 module _ (s : List ℕ) (r : Register) (h : register s ≡ some r) where
   its : RegisterRead s r
   its = register-read s r h
 
-  first : LinesStand ibanForm s 0 iban-inside (r .temporary) (its .others)
-  unfolding sound passes ibanShape
-  first = stands ibanForm s 0 iban-inside (r .temporary) (its .others) (rw from-all (its .all)) (and-left _ _ (and-left _ _ (and-left _ _ (its .good))))
+  -- its account lines and code lines
+  abbrev n : ℕ
+  n = length (r .accounts)
 
-  all : AccountsListed s 0 (r .accounts)
-  all = listed s 0 (first .others) (its .accounts)
+  abbrev m : ℕ
+  m = length (r .codes)
 
-  counts : length (r .accounts) ≡ count s
+  first : LinesStand ibanForm s 0 iban-inside (r .temporary) (its .account-lines ++ its .code-lines)
+  unfolding passes ibanShape
+  first = stands ibanForm s 0 iban-inside (r .temporary) (its .account-lines ++ its .code-lines) (rw from-all (its .all)) (and-left _ _ (temporary-passes s r h))
+
+  accounts-stand : Stand accountLines s 24 (r .accounts) (its .code-lines)
+  accounts-stand = lines-back accountLines s 24 (its .accounts) (first .others)
+
+  codes-stand : Stand codeLines s (place n) (r .codes) []
+  codes-stand = lines-back codeLines s (place n) (its .codes) (rw append-nil (accounts-stand .others))
+
+  -- behind the account lines stands none, and behind the code lines no code line
+  count-is : count s ≡ n
   unfolding count
-  counts = omega (arith, register-size s r h)
+  count-is = leading-is (accountStands s) 38 24 40 n (accounts-stand .good) (register-few s r h) (none-stands accountLines s (place n) (accounts-stand .others) (codes-unread (its .codes)))
 
-  accounts-are : r .accounts ≡ accountsIn s 0 (count s)
+  code-count-is : codeCount s n ≡ m
+  unfolding codeCount
+  code-count-is = leading-is (codeStands s) 35 (place n) 40 m (codes-stand .good) (codes-few s r h) (none-stands codeLines s (place n + 35 * m) (codes-stand .others) end)
+
+  accounts-are : r .accounts ≡ accountsIn s n
   unfolding accountsIn
-  accounts-are = all .same ∙ rw (counts, upto-0)
+  accounts-are = accounts-stand .same
 
-  register-is : r ≡ registerIn s
+  codes-are : r .codes ≡ codesIn s (place n) m
+  unfolding codesIn
+  codes-are = codes-stand .same
+
+  register-is : r ≡ registerIn s n m
   unfolding registerIn
-  register-is = λ i. record { temporary = first .same i; accounts = accounts-are i }
+  register-is = λ i. record { temporary = first .same i; accounts = accounts-are i; codes = codes-are i }
 
-  sound-holds : (passes (cut s 0 22) && leb (count s) 40 && not (againIn s (count s))) ≡ true
-  sound-holds = sym (sound-in s) ∙ ap sound (sym register-is) ∙ its .good
+  first-holds : firstIn s ≡ true
+  unfolding firstIn endsAt
+  first-holds = rw (← first .same, temporary-passes s r h) (first .ended)
 
-  size-holds : eqb (length s) (place (count s)) ≡ true
-  size-holds = eq-eqb (length s) (place (count s)) (register-size s r h ∙ rw counts)
+  accounts-hold : (passes (cut s 0 22) && leb n 40 && not (againIn s n)) ≡ true
+  unfolding sound
+  accounts-hold = sym (accounts-sound s n m) ∙ ap soundAccounts (sym register-is) ∙ and-left _ _ (its .good)
 
-  lines-holds : every (lineIn s) (upto 0 (count s)) ≡ true
-  lines-holds = rw (upto-0, ← counts) (all .good)
+  codes-hold : (leb m 40 && not (foreignIn s n (place n) m) && not (repeatIn s 10 35 (place n) 0 m)) ≡ true
+  unfolding sound
+  codes-hold = sym (codes-sound s n m) ∙ ap soundCodes (sym register-is) ∙ and-right (soundAccounts r) _ (its .good)
 
-  register-holds : passesIn s (count s) ≡ true
-  unfolding passesIn lengthIn firstIn linesIn endsAt
-  register-holds =
-      let k = and-left (passes (cut s 0 22) && leb (count s) 40) _ sound-holds in
-      rw (
-        size-holds,
-        and-right (passes (cut s 0 22)) _ k,
-        and-left (passes (cut s 0 22)) _ k,
-        first .ended,
-        lines-holds,
-        and-right (passes (cut s 0 22) && leb (count s) 40) _ sound-holds,
-      )
+  register-holds : passesIn s n m ≡ true
+  unfolding passesIn linesTest
+  register-holds = rw (
+    first-holds,
+    eq-eqb (length s) (place n + 35 * m) (register-size s r h),
+    and-right (passes (cut s 0 22) && leb n 40) _ accounts-hold,
+    and-right (leb m 40) _ (and-left _ _ codes-hold),
+    and-right (leb m 40 && not (foreignIn s n (place n) m)) _ codes-hold,
+  )
 
 -- the register of a text, by its places
-pub in-places : (s : List ℕ) → register s ≡ given (passesIn s (count s)) (registerIn s)
-in-places s = go (passesIn s (count s)) refl (register s) refl
+pub in-places : (s : List ℕ) → register s ≡ given (passesIn s (count s) (codeCount s (count s))) (registerIn s (count s) (codeCount s (count s)))
+unfolding count codeCount
+in-places s = go (passesIn s n m) refl (register s) refl
   where
-    go : (t : Bool) → passesIn s (count s) ≡ t → (o : Option Register) → register s ≡ o → o ≡ given t (registerIn s)
-    go true e o f = sym f ∙ in-register s e
+    n : ℕ
+    n = count s
+
+    m : ℕ
+    m = codeCount s n
+
+    go : (t : Bool) → passesIn s n m ≡ t → (o : Option Register) → register s ≡ o → o ≡ given t (registerIn s n m)
+    go true e o f = sym f ∙ in-register s n m (leading-all (accountStands s) 38 24 40) (leading-all (codeStands s) 35 (place n) 40) (leading-few (accountStands s) 38 24 40) (leading-few (codeStands s) 35 (place n) 40) e
     go false e none f = refl
-    go false e (some r) f = never (sym e ∙ register-holds s r f)
+    go false e (some r) f = never (sym e ∙ rw (count-is s r f, code-count-is s r f) (register-holds s r f))

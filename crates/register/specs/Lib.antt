@@ -1,10 +1,9 @@
-pub mod Blocks
-pub mod AccountLine
 pub mod Answers
-pub mod Places
-pub mod Formed
+pub mod Whole
+pub mod Sections
 pub mod Agree
 pub mod Passed
 pub mod Turns
 pub mod Checks
+pub mod Searching
 pub mod Sets

@@ -1,94 +1,91 @@
 // The check of a register's text (9).
-use crate::lines::account_line_passes;
-use crate::lines::account_lines;
-use crate::lines::first_line_passes;
+use register_lines::Form;
+use register_lines::appears_again;
+use register_lines::first_line_passes;
+use register_lines::key_mark;
+use register_lines::lines_from;
+use register_lines::put_marks;
+use register_lines::stands_in;
 ghost use mathlib.Core.Path.{_≡_};
 ghost use Prim.Native.Nat.{_+_, _*_, _≤_};
 ghost use lib.ListN.{length};
 ghost use Rattle.rules.specs.Text.{isSome};
 ghost use Rattle.rules.specs.Register.{register};
-ghost use Rattle.register.specs.Places.{lengthIn, linesIn, standsIn, againIn};
+ghost use Rattle.register.specs.Whole.{foreignIn, againIn, linesTest};
+ghost use Rattle.register_lines.specs.Marks.{MarksOf};
+ghost use Rattle.register_lines.specs.declared.sections.Form.the-variants.{AccountLine};
 
-// The longest text that passes: a first line and 40 account lines.
-pub const LONGEST: usize = 1544;
+// The longest text that passes: a first line, 40 account lines and 40 code lines.
+pub const LONGEST: usize = 2944;
 
-// Is the text as long as n account lines, 40 at most?
-fn length_passes(text: &[u8], n: usize) -> bool
-    ensures { λ r. ⌜ r ≡ lengthIn (now (text .entry)) n ⌝ }
-{
-    if 40 < n {
-        return false;
-    }
-    text.len() == 24 + 38 * n
-}
-
-// Does each of the n account lines pass?
-fn account_lines_pass(text: &[u8], n: u32) -> bool
-    requires { ⌜ n ≤ 40 ⌝ }
-    requires { ⌜ 24 + 38 * n ≤ length (now text) ⌝ }
-    ensures { λ r. ⌜ r ≡ linesIn (now (text .entry)) 0 n ⌝ }
-{
-    let mut i: u32 = 0;
-    while i < n {
-        if account_line_passes(text, i) {
-            i += 1;
-        } else {
-            return false;
-        }
-    }
-    true
-}
-
-// Is the IBAN at a place that of an account line, first up to n?
-fn stands_in(text: &[u8], a: usize, first: u32, n: u32) -> bool
-    requires { ⌜ n ≤ 40 ⌝ }
-    requires { ⌜ a + 22 ≤ length (now text) ⌝ }
-    requires { ⌜ 24 + 38 * n ≤ length (now text) ⌝ }
-    ensures { λ r. ⌜ r ≡ standsIn (now (text .entry)) a first n ⌝ }
-{
-    let mut i = first;
-    while i < n {
-        if account::same_iban(text, a, text, (24 + 38 * i) as usize) {
-            return true;
-        }
-        i += 1;
-    }
-    false
-}
-
-// Does an IBAN appear twice?
-fn appears_again(text: &[u8], n: u32) -> bool
-    requires { ⌜ n ≤ 40 ⌝ }
-    requires { ⌜ 24 + 38 * n ≤ length (now text) ⌝ }
+// Does an IBAN appear twice in the first line and the n account lines?
+fn iban_again(text: &[u8], n: u32, marks: &[u32; 40]) -> bool
+    requires { ⌜ 24 ≤ length (now text) ⌝ }
+    requires { ⌜ MarksOf (now text) AccountLine 24 n (now marks) ⌝ }
     ensures { λ r. ⌜ r ≡ againIn (now (text .entry)) n ⌝ }
 {
-    if stands_in(text, 0, 0, n) {
+    let m = key_mark(text, 0, Form::AccountLine);
+    if stands_in(text, 0, m, Form::AccountLine, 24, 0, n, marks) {
         return true;
     }
-    let mut i: u32 = 0;
-    while i < n {
-        if stands_in(text, (24 + 38 * i) as usize, i + 1, n) {
+    appears_again(text, Form::AccountLine, 24, n, marks)
+}
+
+// Is the account of one of the m code lines from a place on none of the n account lines?
+fn has_foreign(text: &[u8], n: u32, marks: &[u32; 40], at: usize, m: u32) -> bool
+    requires { ⌜ MarksOf (now text) AccountLine 24 n (now marks) ⌝ }
+    requires { ⌜ at + 35 * m ≤ length (now text) ⌝ }
+    ensures { λ r. ⌜ r ≡ foreignIn (now (text .entry)) n at m ⌝ }
+{
+    let mut k = m;
+    let mut place = at;
+    while k > 0 {
+        let a = place + 11;
+        let x = key_mark(text, a, Form::AccountLine);
+        if stands_in(text, a, x, Form::AccountLine, 24, 0, n, marks) {
+            place += 35;
+            k -= 1;
+        } else {
             return true;
         }
-        i += 1;
     }
     false
+}
+
+// Do n account lines and m code lines behind them fill the text, each IBAN and each code a single time and no account foreign?
+fn lines_pass(text: &[u8], n: u32, m: u32) -> bool
+    requires { ⌜ n ≤ 40 ⌝ }
+    requires { ⌜ m ≤ 40 ⌝ }
+    requires { ⌜ 24 + 38 * n + 35 * m ≤ length (now text) ⌝ }
+    ensures { λ r. ⌜ r ≡ linesTest (now (text .entry)) n m ⌝ }
+{
+    let at = (24 + 38 * n) as usize;
+    if text.len() != at + (35 * m) as usize {
+        return false;
+    }
+    let mut marks: [u32; 40] = [0; 40];
+    put_marks(text, Form::AccountLine, 24, n, &mut marks);
+    if iban_again(text, n, &marks) {
+        return false;
+    }
+    if has_foreign(text, n, &marks, at, m) {
+        return false;
+    }
+    put_marks(text, Form::CodeLine, at, m, &mut marks);
+    !appears_again(text, Form::CodeLine, at, m, &marks)
 }
 
 // Does the text pass?
 pub fn register_passes(text: &[u8]) -> bool
     ensures { λ r. ⌜ r ≡ isSome (register (now (text .entry))) ⌝ }
 {
-    let n = account_lines(text);
-    if !length_passes(text, n) {
+    if text.len() < 24 {
         return false;
     }
     if !first_line_passes(text) {
         return false;
     }
-    let k = n as u32;
-    if !account_lines_pass(text, k) {
-        return false;
-    }
-    !appears_again(text, k)
+    let n = lines_from(text, 24, Form::AccountLine);
+    let m = lines_from(text, (24 + 38 * n) as usize, Form::CodeLine);
+    lines_pass(text, n, m)
 }

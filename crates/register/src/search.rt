@@ -1,18 +1,18 @@
 // The search in a register that passed.
-use crate::lines::bound_at;
+use register_lines::bound_at;
 ghost use mathlib.Core.Path.{_≡_};
 ghost use mathlib.Core.Bool.{true};
 ghost use Prim.Native.Nat.{_+_, _<_, _≤_};
 ghost use lib.ListN.{length};
 ghost use Rattle.rules.specs.Text.{isSome};
 ghost use Rattle.rules.specs.Register.{register, registerOf};
-ghost use Rattle.rules.specs.Verdict.{found, accountAt};
+ghost use Rattle.rules.specs.Verdict.{found, accountAt, lineByCode};
 ghost use Rattle.laws.specs.Parts.{cut};
 ghost use Rattle.register.specs.Answers.{foundOf};
-ghost use Rattle.register.specs.Places.{count};
 ghost use Rattle.register.specs.Passed.{LinePlace};
+ghost use Rattle.register.specs.Searching.{AccountCount, CodesOf};
 
-// The search for an IBAN among the account lines.
+// The search for an account line.
 pub enum Found {
     // The line, counted from 0.
     At(usize),
@@ -20,12 +20,20 @@ pub enum Found {
     Nothing,
 }
 
-// How many account lines there are, 40 at most.
-fn lines_in(text: &[u8]) -> u32
+// How many account lines there are. Behind the ten digits of a code line stands a comma, where an account line has a letter or digit.
+fn account_count(text: &[u8]) -> u32
     requires { ⌜ isSome (register (now text)) ≡ true ⌝ }
-    ensures { λ r. ⌜ r ≡ count (now (text .entry)) ⌝ }
+    ensures { λ r. ⌜ AccountCount (now (text .entry)) r ⌝ }
 {
-    ((text.len() - 24) as u16 / 38) as u32
+    let mut end = text.len() as u32;
+    while end > 24 {
+        if text[(end - 25) as usize] == 44 {
+            end -= 35;
+        } else {
+            return ((end - 24) as u16 / 38) as u32;
+        }
+    }
+    0
 }
 
 // The account line of the IBAN that stands in s at a place.
@@ -34,13 +42,55 @@ pub fn find_account(text: &[u8], s: &[u8], at: usize) -> Found
     requires { ⌜ at + 22 ≤ length (now s) ⌝ }
     ensures { λ r. ⌜ foundOf r ≡ found (cut (now (s .entry)) at (at + 22)) 0 (registerOf (now (text .entry)) .accounts) ⌝ }
 {
-    let n = lines_in(text);
+    let n = account_count(text);
     let mut i: u32 = 0;
     while i < n {
         if account::same_iban(text, (24 + 38 * i) as usize, s, at) {
             return Found::At(i as usize);
         }
         i += 1;
+    }
+    Found::Nothing
+}
+
+// The code lines of a register.
+struct Codes {
+    // Where the first begins.
+    at: u32,
+    // How many there are.
+    lines: u32,
+}
+
+// Those behind all account lines.
+fn codes_of(text: &[u8]) -> Codes
+    requires { ⌜ isSome (register (now text)) ≡ true ⌝ }
+    ensures { λ r. ⌜ CodesOf (now (text .entry)) (r .at) (r .lines) ⌝ }
+{
+    let at = 24 + 38 * account_count(text);
+    Codes {
+        at,
+        lines: ((text.len() as u32 - at) as u16 / 35) as u32,
+    }
+}
+
+// The account line to which the code in s from a up to b leads.
+pub fn find_code(text: &[u8], s: &[u8], a: usize, b: usize) -> Found
+    requires { ⌜ isSome (register (now text)) ≡ true ⌝ }
+    requires { ⌜ a ≤ b ⌝ }
+    requires { ⌜ b ≤ length (now s) ⌝ }
+    ensures { λ r. ⌜ foundOf r ≡ lineByCode (registerOf (now (text .entry))) (cut (now (s .entry)) a b) ⌝ }
+{
+    if b - a != 10 {
+        return Found::Nothing;
+    }
+    let codes = codes_of(text);
+    let mut j: u32 = 0;
+    while j < codes.lines {
+        let at = (codes.at + 35 * j) as usize;
+        if text::equal_from_end(text, at, s, a, 10) {
+            return find_account(text, text, at + 11);
+        }
+        j += 1;
     }
     Found::Nothing
 }

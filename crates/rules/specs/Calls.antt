@@ -6,14 +6,14 @@ use Prim.Native.Nat.{ℕ, _+_, _-_}
 use lib.Dec.{leb, eqb}
 use lib.IntN.{ℤ, pos, subℕ}
 use lib.ListN.{length, take, drop}
-use Rattle.rules.specs.Text.{ascii, equal, bigEndian, isSome, any, twice}
+use Rattle.rules.specs.Text.{ascii, equal, bigEndian, isSome, any, passing, twice}
 use Rattle.rules.specs.Dates.{exists}
 use Rattle.rules.specs.Accounts.{passes}
 use Rattle.rules.specs.BankingDays.{holidays, holidaysOf, isBankingDay}
 use Rattle.rules.specs.Lines.{framed, type, receiver}
-use Rattle.rules.specs.Messages.{Message, mt103, mt101, Detail, currency32A, account103, field21, currency32B, payer, account59, read, senderOf, referenceOf, detailsOf, dateOf, transferredBy, detailedBy, firstDate}
+use Rattle.rules.specs.Messages.{Message, mt103, mt101, Detail, currency32A, account103, field21, currency32B, payer, payerCode, account59, read, senderOf, referenceOf, detailsOf, dateOf, transferredBy, detailedBy, firstDate}
 use Rattle.rules.specs.Register.{Register, register, registerOf}
-use Rattle.rules.specs.Verdict.{Verdict, credited, returned, verdict, isReturned, accountAt}
+use Rattle.rules.specs.Verdict.{Verdict, credited, creditedByCode, returned, verdict, byCode, isReturned, isListed199, accountAt}
 use Rattle.rules.specs.Engine.{Key, Position, Reference, Engine, areaSize, limit, positionOf, isOpen, booked, kept, slashed, sameReference, filed, hasDetails}
 use Rattle.rules.specs.Written.{Book, fromBank, toAccount, toBank, verdicts, partsOf, returns, correctionPostings, corrections, correctedCount}
 
@@ -149,18 +149,25 @@ overLimit e m = not (leb (positionAfter e m .transferred) limit) || not (leb (po
 
 -- ---- message: what is written
 
--- "A detail's verdict": of field 59
+-- "A detail's verdict": of field 59, and where it would be returned of its code
 abbrev pub verdictOf : Register → Detail → Verdict
-verdictOf r d = verdict r (account59 d)
+verdictOf r d = byCode r (payerCode d) (verdict r (account59 d))
 
--- the returned of some details
-unfoldable pub returnedOf : Register → List Detail → List Detail
-returnedOf r [] = []
-returnedOf r (d ∷ ds) = let more = returnedOf r ds in cond (isReturned (verdictOf r d)) (d ∷ more) more
+-- a detail whose verdict passes a test
+unfoldable pub verdictIs : (Verdict → Bool) → Register → Detail → Bool
+verdictIs test r d = test (verdictOf r d)
+
+-- those of some details whose verdicts do
+abbrev pub judgedTo : (Verdict → Bool) → Register → List Detail → List Detail
+judgedTo test r ds = passing (verdictIs test r) ds
 
 -- "each returned detail of this message"
 abbrev pub returnedDetails : Engine → Message → List Detail
-returnedDetails e m = returnedOf (registerOf (e .register)) (detailsOf m)
+returnedDetails e m = judgedTo isReturned (registerOf (e .register)) (detailsOf m)
+
+-- the details of a message that its MT199 lists
+abbrev pub listedDetails : Engine → Message → List Detail
+listedDetails e m = judgedTo isListed199 (registerOf (e .register)) (detailsOf m)
 
 -- what the posting lines and the returns of a message share
 abbrev pub messageBook : Engine → Message → Book
@@ -169,6 +176,7 @@ messageBook e m = record { day = e .day; temporary = registerOf (e .register) .t
 -- the posting line of a detail by its verdict
 unfoldable pub detailPosting : Register → Book → Detail → Verdict → List ℕ
 detailPosting r b d (credited i) = toAccount b (accountAt r i .iban) (d .amount)
+detailPosting r b d (creditedByCode i c) = toAccount b (accountAt r i .iban) (d .amount)
 detailPosting r b d (returned c) = toBank b (d .amount)
 
 -- "Posting lines come first, in the order of details"
@@ -188,7 +196,7 @@ hasVerdict (mt101 o) p = true
 
 -- how many parts it has
 unfoldable pub partsWritten : Engine → Message → ℕ
-partsWritten e m = cond (hasVerdict m (positionAfter e m)) (partsOf (length (returnedDetails e m))) 0
+partsWritten e m = cond (hasVerdict m (positionAfter e m)) (partsOf (length (listedDetails e m))) 0
 
 -- how many messages are written: its parts and the returns
 unfoldable pub messagesWritten : Engine → Message → ℕ
@@ -199,7 +207,7 @@ unfoldable pub messageText : Engine → Message → List ℕ
 messageText e m =
     let p = positionAfter e m in
     postings (registerOf (e .register)) (messageBook e m) m
-    ++ cond (hasVerdict m p) (verdicts (e .day) (e .count) p (returnedDetails e m)) []
+    ++ cond (hasVerdict m p) (verdicts (e .day) (e .count) p (listedDetails e m)) []
     ++ returns (messageBook e m) (e .count + partsWritten e m) (returnedDetails e m)
 
 -- the engine after the message

@@ -112,6 +112,10 @@ detail32B = 1
 abbrev pub detail50H : ℕ
 detail50H = 2
 
+-- 50H's second line behind the account
+abbrev pub detailCode : ℕ
+detailCode = 4
+
 -- 52D's BAE
 abbrev pub detail52D : ℕ
 detail52D = 7
@@ -135,11 +139,11 @@ headsOf rs ks = map (λ k. getD (map (λ r. r .head) rs) k []) ks
 -- each name is the row of its head
 pub named : headsOf transferRows (message20 ∷ transfer32A ∷ transfer59 ∷ transferBaeref ∷ [])
     ++ headsOf orderRows (message20 ∷ [])
-    ++ headsOf detailRows (detail21 ∷ detail32B ∷ detail50H ∷ detail52D ∷ detail59 ∷ detailCentrb ∷ detailBaeref ∷ [])
+    ++ headsOf detailRows (detail21 ∷ detail32B ∷ detail50H ∷ detailCode ∷ detail52D ∷ detail59 ∷ detailCentrb ∷ detailBaeref ∷ [])
     ≡ map ascii (
     ":20:" ∷ ":32A:nnnnnnaaa" ∷ ":59:/" ∷ "/BAEREF/nnnnnn"
     ∷ ":20:"
-    ∷ ":21:" ∷ ":32B:aaa" ∷ ":50H:/ccccccccccccccccccccccPAYnnnnnn" ∷ ":52D:aaaannnn" ∷ ":59:/" ∷ ":70:CENTRBnnnnnn" ∷ "BAEREFnnnnnn" ∷ [])
+    ∷ ":21:" ∷ ":32B:aaa" ∷ ":50H:/ccccccccccccccccccccccPAYnnnnnn" ∷ "" ∷ ":52D:aaaannnn" ∷ ":59:/" ∷ ":70:CENTRBnnnnnn" ∷ "BAEREFnnnnnn" ∷ [])
 named = refl
 
 -- lines by rows, an empty one for a row that is left out, and the bytes behind them

@@ -16,6 +16,7 @@ pub mod Ledger
 pub mod Demand3
 pub mod OnBankingDays
 pub mod SameMornings
+pub mod WithoutCodes
 pub mod Replay
 pub mod Cases
 pub mod Listing

@@ -9,7 +9,7 @@ use Rattle.rules.specs.Text.{ascii, equal, then, given, ended}
 use Rattle.rules.specs.Dates.{date}
 use Rattle.rules.specs.Amounts.{amount}
 use Rattle.rules.specs.Lines.{Line, isClosingLine, type, sender, body}
-use Rattle.rules.specs.Forms.{takeRows, transferRows, orderRows, detailRows, message20, transfer32A, transfer59, transferBaeref, detail21, detail32B, detail50H, detail52D, detail59, detailCentrb, detailBaeref}
+use Rattle.rules.specs.Forms.{takeRows, transferRows, orderRows, detailRows, message20, transfer32A, transfer59, transferBaeref, detail21, detail32B, detail50H, detailCode, detail52D, detail59, detailCentrb, detailBaeref}
 
 -- the line of a row
 abbrev pub lineOf : List Line → ℕ → Line
@@ -87,6 +87,10 @@ currency32B d = take 3 (past ":32B:" (lineOf (d .rows) detail32B))
 -- 50H's account, without its code
 abbrev pub payer : Detail → List ℕ
 payer d = take 22 (past ":50H:/" (lineOf (d .rows) detail50H))
+
+-- "the second line behind its 50H account", empty where there is none
+abbrev pub payerCode : Detail → List ℕ
+payerCode d = lineOf (d .rows) detailCode
 
 -- 52D's BAE code
 abbrev pub branch : Detail → List ℕ

@@ -82,6 +82,21 @@ unfoldable pub readEach : {A B : Type 0} → (A → Option B) → List A → Opt
 readEach f [] = some []
 readEach f (x ∷ xs) = then (f x) (λ y. Option·map (λ more. y ∷ more) (readEach f xs))
 
+-- what the first of a list are read as, as far as each is, and those behind them
+pub record Leading (A B : Type 0) : Type 0 where
+  pub read : List B
+  pub others : List A
+
+-- one of a list and those behind it: read, where it is, before what those lead with
+abbrev pub led : {A B : Type 0} → Option B → List A → Leading A B → Leading A B
+led none all r = record { read = []; others = all }
+led (some y) all r = record { read = y ∷ r .read; others = r .others }
+
+-- a list read as far as each of its elements is
+unfoldable pub readLeading : {A B : Type 0} → (A → Option B) → List A → Leading A B
+readLeading f [] = record { read = []; others = [] }
+readLeading f (x ∷ xs) = led (f x) (x ∷ xs) (readLeading f xs)
+
 -- one of a list passes a test
 unfoldable pub any : {A : Type 0} → (A → Bool) → List A → Bool
 any p [] = false

@@ -70,20 +70,20 @@ size a b = (a - b) + (b - a)
 
 -- ---- MT199
 
--- "two rows for each returned detail": "52D's BAE, `/`, BAEREF's date, `/`, its N; then field 59 behind its slash"
-unfoldable pub returnedRows : Detail → List ℕ
-returnedRows d = (branch d ++ ascii "/" ++ baerefDate d ++ ascii "/" ++ baerefName d ++ ascii "\r\n") ++ (account59 d ++ ascii "\r\n")
+-- "two rows for each returned detail", and "The MT199 still lists the detail" that its code credits: "52D's BAE, `/`, BAEREF's date, `/`, its N; then field 59 behind its slash"
+unfoldable pub listedRows : Detail → List ℕ
+listedRows d = (branch d ++ ascii "/" ++ baerefDate d ++ ascii "/" ++ baerefName d ++ ascii "\r\n") ++ (account59 d ++ ascii "\r\n")
 
--- the rows of some returned details
-unfoldable pub allReturned : List Detail → List ℕ
-allReturned [] = []
-allReturned (d ∷ ds) = returnedRows d ++ allReturned ds
+-- the rows of some details
+unfoldable pub allListed : List Detail → List ℕ
+allListed [] = []
+allListed (d ∷ ds) = listedRows d ++ allListed ds
 
 -- "From part 2 on, field 21 behind 20 holds part 1's reference.": n is the number before part 1's
 unfoldable pub linked : ℕ → ℕ → ℕ → List ℕ
 linked day n part = cond (leb 2 part) (field (ascii ":21:") (reference day (n + 1))) []
 
--- the rows of 79 before the returned details
+-- the rows of 79 before the listed details
 unfoldable pub position79 : ℕ → ℕ → ℕ → List ℕ
 position79 date transferred detailed =
     field (ascii ":79:/CENTRB/") (fixed 6 date)
@@ -101,19 +101,19 @@ unfoldable pub mt199 : ℕ → ℕ → Position → ℕ → ℕ → List Detail 
 mt199 day n p part parts ds =
     (firstLine (ascii "199") (p .key .bank) ++ field (ascii ":20:") (reference day (n + part)) ++ linked day n part)
     ++ position79 (p .key .date) (p .transferred) (p .detailed)
-    ++ allReturned ds
+    ++ allListed ds
     ++ closed79 part parts
 
 -- "Without returned details it is one part, 1/1. Each part but the last has 14 details"
 unfoldable pub partsOf : ℕ → ℕ
-partsOf returned = cond (eqb returned 0) 1 ((returned + 13) / 14)
+partsOf listed = cond (eqb listed 0) 1 ((listed + 13) / 14)
 
 -- the parts from part on, k of them
 unfoldable pub mt199s : ℕ → ℕ → ℕ → Position → ℕ → ℕ → List Detail → List ℕ
 mt199s zero day n p part parts ds = []
 mt199s (suc k) day n p part parts ds = mt199 day n p part parts (take 14 ds) ++ mt199s k day n p (part + 1) parts (drop 14 ds)
 
--- all parts for the returned details
+-- all parts for the listed details
 unfoldable pub verdicts : ℕ → ℕ → Position → List Detail → List ℕ
 verdicts day n p ds = let parts = partsOf (length ds) in mt199s parts day n p 1 parts ds
 

@@ -36,6 +36,33 @@ pub fn equal_parts(s: &[u8], a: usize, t: &[u8], b: usize, n: u32) -> bool
     alike(s, a, t, b, n) == n
 }
 
+// Where the n bytes from a and the n bytes of t from b differ last, counted from 1: 0 where they are the same.
+fn differ_at(s: &[u8], a: usize, t: &[u8], b: usize, n: u32) -> u32
+    requires { ⌜ a + n ≤ length (now s) ⌝ }
+    requires { ⌜ b + n ≤ length (now t) ⌝ }
+    ensures { λ r. ⌜ eqb r 0 ≡ equal (cut (now (s .entry)) a (a + n)) (cut (now (t .entry)) b (b + n)) ⌝ }
+{
+    let mut k = n;
+    while k > 0 {
+        let same = s[a + k as usize - 1] == t[b + k as usize - 1];
+        if same {
+            k -= 1;
+        } else {
+            return k;
+        }
+    }
+    k
+}
+
+// Are they equal? Compared from the last byte on.
+pub fn equal_from_end(s: &[u8], a: usize, t: &[u8], b: usize, n: u32) -> bool
+    requires { ⌜ a + n ≤ length (now s) ⌝ }
+    requires { ⌜ b + n ≤ length (now t) ⌝ }
+    ensures { λ r. ⌜ r ≡ equal (cut (now (s .entry)) a (a + n)) (cut (now (t .entry)) b (b + n)) ⌝ }
+{
+    differ_at(s, a, t, b, n) == 0
+}
+
 // Are the bytes from a up to e and the bytes of t from b up to f equal?
 pub fn same_parts(s: &[u8], a: usize, e: usize, t: &[u8], b: usize, f: usize) -> bool
     requires { ⌜ a ≤ e ⌝ }

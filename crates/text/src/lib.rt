@@ -3,6 +3,7 @@ mod against;
 mod classes;
 mod numbers;
 
+pub use against::equal_from_end;
 pub use against::equal_parts;
 pub use against::fits_pattern;
 pub use against::fits_sign;

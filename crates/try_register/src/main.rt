@@ -1,4 +1,4 @@
-// Reads registers, `#NAME` and the text, which passes or falls under 9, and fields 59, `@FIELD`, which are judged by the register before them.
+// Reads registers, `#NAME` and the text, which passes or falls under 9, and fields 59, `@FIELD` or `@FIELD|CODE`, which are judged by the register before them.
 use verdict::Cause;
 use verdict::Verdict;
 ghost use Prim.Native.Nat.{_≤_};
@@ -48,6 +48,12 @@ fn say_verdict(v: Verdict) {
             io::write_all(1, b"credited to line ");
             io::print_decimal(1, i as u64);
         }
+        Verdict::CreditedByCode(i, c) => {
+            io::write_all(1, b"credited by its code to line ");
+            io::print_decimal(1, i as u64);
+            io::write_all(1, b", not returned: ");
+            say_cause(c);
+        }
         Verdict::Returned(c) => {
             io::write_all(1, b"returned: ");
             say_cause(c);
@@ -55,13 +61,27 @@ fn say_verdict(v: Verdict) {
     }
 }
 
-// The verdict on the bytes from a up to b, where there is a register.
-fn try_field(text: &[u8], s: &[u8], a: usize, b: usize)
-    requires { ⌜ a ≤ b ⌝ }
-    requires { ⌜ b ≤ length (now s) ⌝ }
+// Where the code begins, behind the bar at m, on a line that ends at e; there is none where the line ends at m.
+fn code_place(m: usize, e: usize) -> usize
+    requires { ⌜ m ≤ e ⌝ }
+    ensures { λ r. ⌜ r ≤ e ⌝ }
 {
+    if m < e {
+        return m + 1;
+    }
+    e
+}
+
+// The verdict on the field from a on, and on the code behind its bar, where there is a register.
+fn try_field(text: &[u8], s: &[u8], a: usize)
+    requires { ⌜ a ≤ length (now s) ⌝ }
+{
+    let m = reach(s, a, b'|', b'\n');
+    let e = reach(s, m, b'\n', b'\n');
+    let code = code_place(m, e);
     if register::register_passes(text) {
-        say_verdict(verdict::judge(text, s, a, b));
+        let v = verdict::judge(text, s, a, m);
+        say_verdict(verdict::by_code(text, s, v, code, e));
     } else {
         io::write_all(1, b"no register");
     }
@@ -99,7 +119,7 @@ fn try_each(s: &[u8]) {
             try_text(&s[a..b]);
             i = b;
         } else {
-            try_field(&s[a..b], s, i + 1, e);
+            try_field(&s[a..b], s, i + 1);
             i = e + 1;
         }
     }

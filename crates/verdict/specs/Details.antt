@@ -8,11 +8,13 @@ use lib.ListN.{length, getD, set, length-set}
 use lib.Seq.{getD-set-same, getD-set-other}
 use Rattle.rules.specs.Text.{isSome}
 use Rattle.rules.specs.Messages as M
-use Rattle.rules.specs.Forms.{detail50H, detail52D, detail59, detailBaeref}
-use Rattle.rules.specs.Messages.{past, account59}
+use Rattle.rules.specs.Calls as C
+use Rattle.rules.specs.Forms.{detail50H, detailCode, detail52D, detail59, detailBaeref}
+use Rattle.rules.specs.Messages.{past}
 use Rattle.rules.specs.Register.{register, registerOf}
-use Rattle.rules.specs.Verdict.{verdict}
-use Rattle.register.specs.Passed.{text-count, accounts-count}
+use Rattle.rules.specs.Verdict as paper
+use Rattle.rules.specs.Verdict.{verdict, byCode}
+use Rattle.register.specs.Passed.{accounts-few}
 use Rattle.forms.specs.Spans.{spanOf, noSpan, SpanIn, span-line}
 use Rattle.forms.specs.Fields.{Behind, behind-in, behind-bytes}
 use Rattle.forms.specs.Details.{DetailAt, detailIn}
@@ -21,14 +23,15 @@ use Rattle.forms.specs.declared.detail.Detail.{Detail}
 use Rattle.details.specs.Lines.{lineAt}
 use Rattle.details.specs.Message.{detailsIn, detailAt}
 use Rattle.details.specs.Kept.{LineOf, RowsOf, LinesIn, AmountsIn, DetailRoom, KeptAt, Keeps, keeps-room, keeps-own, keeps-other}
-use Rattle.verdict.specs.Answers.{verdictOf, verdictBy, CodeOf, judgedIn, Listed, listed, listed-line, code-line, code-cause, by-cause, by-line}
+use Rattle.verdict.specs.Answers.{verdictOf, verdictBy, VerdictNumber, judgedIn, InRegister, in-register, line-credited, line-coded, number-line, number-cause, number-coded, by-cause, by-line, by-coded}
+use Rattle.verdict.specs.declared.Cause.{Cause}
 use Rattle.verdict.specs.declared.Verdict.{Verdict}
-use Rattle.verdict.specs.declared.Verdict.the-variants.{Credited}
+use Rattle.verdict.specs.declared.Verdict.the-variants.{Credited, CreditedByCode}
 use Rattle.verdict.specs.declared.detail.Judged.{Judged}
 
 -- the verdict kept at place i is detail d's
 abbrev pub verdictAt : List ℕ → List ℕ → M.Detail → ℕ → Type 0
-verdictAt text verdicts d i = verdictOf (verdictBy (getD verdicts i 0)) ≡ verdict (registerOf text) (account59 d)
+verdictAt text verdicts d i = verdictOf (verdictBy (getD verdicts i 0)) ≡ C.verdictOf (registerOf text) d
 
 -- those of a message's n details
 pub record VerdictsIn (text s verdicts : List ℕ) (n : ℕ) : Type 0 where
@@ -48,9 +51,9 @@ pub record JudgingRoom (text amounts places verdicts : List ℕ) : Type 0 where
   pub details : DetailRoom amounts places
   pub size : length verdicts ≡ 16
 
--- r is the number of the verdict on some bytes
-pub record VerdictOn (text cs : List ℕ) (r : ℕ) : Type 0 where
-  pub same : verdictOf (verdictBy r) ≡ verdict (registerOf text) cs
+-- r is the number of the verdict on some bytes, and on a code where they would be returned
+pub record VerdictOn (text code cs : List ℕ) (r : ℕ) : Type 0 where
+  pub same : verdictOf (verdictBy r) ≡ byCode (registerOf text) code (verdict (registerOf text) cs)
 
 -- what is kept of detail d at place i, and its verdict
 pub record JudgedAt (text s amounts places verdicts : List ℕ) (d : M.Detail) (i : ℕ) : Type 0 where
@@ -59,14 +62,14 @@ pub record JudgedAt (text s amounts places verdicts : List ℕ) (d : M.Detail) (
 
 -- detail n is d now, and its verdict's number c
 module _ (text s : List ℕ) {n : ℕ} {amounts places verdicts : List ℕ} (r : JudgingRoom text amounts places verdicts) (h : n < 16) (d : Detail) {at : ℕ} (w : DetailAt s at d) (g : d .ok ≡ true) {amounts' places' : List ℕ} (k : Keeps n d amounts places amounts' places')
-    {c : ℕ} (v : VerdictOn text (past ":59:/" (spanOf s (getD (d .spans) detail59 noSpan))) c) where
+    {c : ℕ} (v : VerdictOn text (spanOf s (getD (d .spans) detailCode noSpan)) (past ":59:/" (spanOf s (getD (d .spans) detail59 noSpan))) c) where
   pub judged-room : JudgingRoom text amounts' places' (set verdicts n c)
   judged-room = record { passes = r .passes; details = keeps-room s (r .details) h d w g k; size = length-set verdicts n c ∙ r .size }
 
   pub judged-own : JudgedAt text s amounts' places' (set verdicts n c) (detailIn s d) n
   judged-own = record {
     kept = keeps-own s (r .details) h d w g k;
-    verdict = ap (λ (x : ℕ). verdictOf (verdictBy x)) (getD-set-same verdicts n c 0 (omega (arith, r .size))) ∙ rw (span-line s (d .spans) 17 detail59 (omega arith)) (v .same);
+    verdict = ap (λ (x : ℕ). verdictOf (verdictBy x)) (getD-set-same verdicts n c 0 (omega (arith, r .size))) ∙ rw (span-line s (d .spans) 17 detail59 (omega arith), span-line s (d .spans) 17 detailCode (omega arith)) (v .same);
   }
 
   pub judged-other : (e : M.Detail) (i : ℕ) → i < n → JudgedAt text s amounts places verdicts e i → JudgedAt text s amounts' places' (set verdicts n c) e i
@@ -76,22 +79,36 @@ module _ (text s : List ℕ) {n : ℕ} {amounts places verdicts : List ℕ} (r :
   }
 
 -- a line number of a register that passed is small
-pub line-small : (text : List ℕ) (v : Verdict) (i : ℕ) → isSome (register text) ≡ true → Listed text v → v ≡ Credited i → i < 40
-line-small text v i h l e = let n : i < length (registerOf text .accounts) = l .line i e in omega (arith, accounts-count text h, text-count text h)
+module _ (text : List ℕ) (v : Verdict) (i : ℕ) (h : isSome (register text) ≡ true) (l : InRegister text v) where
+  pub credited-small : v ≡ Credited i → i < 40
+  credited-small e = omega (arith, line-credited text v i l e, accounts-few text h)
+
+  pub coded-small : {c : Cause} → v ≡ CreditedByCode i c → i < 40
+  coded-small e = omega (arith, line-coded text v i l e, accounts-few text h)
+
+-- ---- both lines
+
+-- the verdict u on some bytes, and v with the code
+module _ (text code cs : List ℕ) {u : paper.Verdict} (v : Verdict) (f : u ≡ verdict (registerOf text) cs) (g : verdictOf v ≡ byCode (registerOf text) code u) where
+  both-judged : verdictOf v ≡ byCode (registerOf text) code (verdict (registerOf text) cs)
+  both-judged = g ∙ ap (byCode (registerOf text) code) f
+
+  pub both-known : InRegister text v
+  both-known = in-register text code cs v both-judged
 
 -- the bytes behind 59's slash
 module _ (s : List ℕ) (p q : Span) (w : SpanIn s p) (b : Behind p 5 q) where
   pub account-in : SpanIn s q
   account-in = behind-in s p 5 w q b
 
-  pub verdict-on : (text : List ℕ) (v : Verdict) → verdictOf v ≡ verdict (registerOf text) (spanOf s q) → (c : ℕ) → CodeOf v c → VerdictOn text (past ":59:/" (spanOf s p)) c
-  verdict-on text v u c e = record { same = ap verdictOf (e .same) ∙ u ∙ ap (verdict (registerOf text)) (behind-bytes s p 5 w q b) }
+  pub verdict-on : (text code : List ℕ) {u : paper.Verdict} (v : Verdict) → u ≡ verdict (registerOf text) (spanOf s q) → verdictOf v ≡ byCode (registerOf text) code u → (c : ℕ) → VerdictNumber v c → VerdictOn text code (past ":59:/" (spanOf s p)) c
+  verdict-on text code v f g c e = record { same = ap verdictOf (e .same) ∙ both-judged text code (spanOf s q) v f g ∙ ap (λ (cs : List ℕ). byCode (registerOf text) code (verdict (registerOf text) cs)) (behind-bytes s p 5 w q b) }
 
 -- ---- a detail with its verdict
 
 pub record JudgedAs (text s : List ℕ) (d : M.Detail) (r : Judged) : Type 0 where
   pub amount : r .amount ≡ d .amount
-  pub verdict : verdictOf (r .verdict) ≡ verdict (registerOf text) (account59 d)
+  pub verdict : verdictOf (r .verdict) ≡ C.verdictOf (registerOf text) d
 
 -- what stands in the record of detail i
 module _ (amounts places verdicts : List ℕ) (i : ℕ) (r : Judged) (e : r ≡ judgedIn amounts places verdicts i) where
@@ -127,4 +144,4 @@ pub judged-made : (amounts places verdicts : List ℕ) (i : ℕ) {y b a p : Span
 unfolding judgedIn
 judged-made amounts places verdicts i c e f g h = rw (c, e, f, g, h)
 
-pub ruleset detailing = (listed, listed-line, line-small, code-line, code-cause, by-cause, by-line, account-in, verdict-on, judged-made)
+pub ruleset detailing = (credited-small, coded-small, number-line, number-coded, number-cause, by-cause, by-line, by-coded, account-in, both-known, verdict-on, judged-made)

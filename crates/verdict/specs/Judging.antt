@@ -11,17 +11,21 @@ use borrow.Author.Tests.{le-leb, lt-leb, not-false}
 use Rattle.rules.specs.Text.{ascii, equal, fits, between}
 use Rattle.rules.specs.Accounts.{ibanShape, control}
 use Rattle.rules.specs.Register.{Account, Register}
-use Rattle.rules.specs.Verdict.{found, accountAt, shaped, inBounds, judged, verdict, wrongShape, wrongControl, notInRegister, outOfBounds, credited, returned}
+use Rattle.rules.specs.Verdict.{found, accountAt, shaped, inBounds, judged, verdict, wrongShape, wrongControl, notInRegister, outOfBounds, credited, creditedByCode, returned, lineByCode, byLine, byCode}
 use Rattle.laws.specs.Parts.{cut, cut-take, cut-drop, cut-done, cut-length}
 use Rattle.laws.specs.Tests.{and-left, and-right, not-holds}
 use Rattle.laws.specs.Reading.{fits-length}
 use Rattle.laws.specs.Equal.{equal-true}
-use Rattle.rule_laws.specs.Verdicts.{AccountFound, account-found}
+use Rattle.rule_laws.specs.Verdicts.{found-listed}
 use Rattle.register.specs.Answers.{foundOf}
-use Rattle.register.specs.AccountLine.{bound}
-use Rattle.register.specs.Places.{boundAt}
+use Rattle.register_lines.specs.AccountLine.{bound}
+use Rattle.register_lines.specs.Places.{boundAt}
 use Rattle.register.specs.declared.search.Found.{Found}
 use Rattle.register.specs.declared.search.Found.the-variants.{At, Nothing}
+use Rattle.verdict.specs.Answers.{causeOf, verdictOf}
+use Rattle.verdict.specs.declared.Cause.{Cause}
+use Rattle.verdict.specs.declared.Verdict.{Verdict}
+use Rattle.verdict.specs.declared.Verdict.the-variants.{Credited, CreditedByCode, Returned}
 
 -- ---- shape
 
@@ -136,8 +140,8 @@ code-missing s a b k e x = rw (cut-drop s a b 22, cut-done s (a + 22) b (omega a
 
 -- ---- the search
 
-pub found-listed : (q : Found) (iban : List ℕ) (xs : List Account) → foundOf q ≡ found iban 0 xs → (i : ℕ) → q ≡ At i → i < length xs
-found-listed q iban xs e i w = let f : AccountFound iban 0 i xs = account-found iban 0 i xs (sym e ∙ ap foundOf w) in omega (arith, f .index, f .listed)
+pub found-known : (q : Found) (iban : List ℕ) (xs : List Account) → foundOf q ≡ found iban 0 xs → (i : ℕ) → q ≡ At i → i < length xs
+found-known q iban xs e i w = found-listed iban i xs (sym e ∙ ap foundOf w)
 
 -- ---- the verdict
 
@@ -182,4 +186,28 @@ module _ (g : Register) (s : List ℕ) (a b : ℕ) (h : a ≤ b) (k : b ≤ leng
           pub judge-outside : t₃ ≡ false → returned outOfBounds ≡ verdict g (cut s a b)
           judge-outside d₃ = rw d₃ at at-line
 
-pub ruleset judging = (shape-alone, shape-other, shape-coded, shape-none, code-within, code-low, code-high, code-missing, found-listed, judge-shape, judge-iban, judge-told, judge-control, judge-nothing, judge-credited, judge-outside, judge-shaped)
+-- ---- the line that may be a code, behind a verdict
+
+module _ (r : Register) (code : List ℕ) (v : Verdict) where
+  pub stays-credited : {i : ℕ} → v ≡ Credited i → verdictOf v ≡ byCode r code (verdictOf v)
+  unfolding byCode
+  stays-credited e = rw e
+
+  pub stays-coded : {i : ℕ} {c : Cause} → v ≡ CreditedByCode i c → verdictOf v ≡ byCode r code (verdictOf v)
+  unfolding byCode
+  stays-coded e = rw e
+
+  module _ {c : Cause} (e : v ≡ Returned c) (q : Found) (f : foundOf q ≡ lineByCode r code) where
+    by-found : byLine (causeOf c) (foundOf q) ≡ byCode r code (verdictOf v)
+    unfolding byCode
+    by-found = rw (e, f)
+
+    pub code-leads : {i : ℕ} → q ≡ At i → creditedByCode i (causeOf c) ≡ byCode r code (verdictOf v)
+    unfolding byLine
+    code-leads w = rw w at by-found
+
+    pub code-unknown : q ≡ Nothing → returned (causeOf c) ≡ byCode r code (verdictOf v)
+    unfolding byLine
+    code-unknown w = rw w at by-found
+
+pub ruleset judging = (shape-alone, shape-other, shape-coded, shape-none, code-within, code-low, code-high, code-missing, found-known, judge-shape, judge-iban, judge-told, judge-control, judge-nothing, judge-credited, judge-outside, judge-shaped, stays-credited, stays-coded, code-leads, code-unknown)

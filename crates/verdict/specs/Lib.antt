@@ -1,3 +1,3 @@
-pub mod Judging
 pub mod Answers
+pub mod Judging
 pub mod Details

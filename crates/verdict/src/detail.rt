@@ -1,6 +1,7 @@
 // The verdicts of a message's details, kept as a number each, and a detail with its verdict.
 use crate::Cause;
 use crate::Verdict;
+use crate::by_code;
 use crate::judge;
 use details::line_at;
 use forms::Span;
@@ -12,7 +13,7 @@ ghost use Rattle.rules.specs.Text.{isSome};
 ghost use Rattle.rules.specs.Messages.{past};
 ghost use Rattle.rules.specs.Register.{register};
 ghost use Rattle.forms.specs.Spans.{spanOf, SpanIn};
-ghost use Rattle.verdict.specs.Answers.{verdictBy, judgedIn, Listed, CodeOf};
+ghost use Rattle.verdict.specs.Answers.{causeBy, codedBy, verdictBy, judgedIn, InRegister, CauseNumber, VerdictNumber};
 ghost use Rattle.verdict.specs.Details.{VerdictOn};
 
 // A detail with its verdict.
@@ -31,51 +32,84 @@ pub struct Judged {
     pub verdict: Verdict,
 }
 
-// A verdict as one number: the causes in their order from 0, and the account lines from 4.
-fn code_of(text: &[u8], v: Verdict) -> u8
+// The number of a cause, in their order from 0.
+fn cause_number(c: Cause) -> u8
+    ensures { λ r. ⌜ CauseNumber c r ⌝ }
+{
+    match c {
+        Cause::WrongShape => 0,
+        Cause::WrongControl => 1,
+        Cause::NotInRegister => 2,
+        Cause::OutOfBounds => 3,
+    }
+}
+
+// The cause of a number.
+fn cause_by(k: u8) -> Cause
+    requires { ⌜ k < 4 ⌝ }
+    ensures { λ r. ⌜ r ≡ causeBy k ⌝ }
+{
+    match k {
+        0 => Cause::WrongShape,
+        1 => Cause::WrongControl,
+        2 => Cause::NotInRegister,
+        _ => Cause::OutOfBounds,
+    }
+}
+
+// A verdict as one number: the causes from 0, the account lines from 4, and from 44 on for each cause the 40 lines to which a code may lead.
+fn verdict_number(text: &[u8], v: Verdict) -> u8
     requires { ⌜ isSome (register (now text)) ≡ true ⌝ }
-    requires { ⌜ Listed (now text) v ⌝ }
-    ensures { λ r. ⌜ CodeOf v r ⌝ }
+    requires { ⌜ InRegister (now text) v ⌝ }
+    ensures { λ r. ⌜ VerdictNumber v r ⌝ }
 {
     match v {
         Verdict::Credited(i) => i as u8 + 4,
-        Verdict::Returned(c) => match c {
-            Cause::WrongShape => 0,
-            Cause::WrongControl => 1,
-            Cause::NotInRegister => 2,
-            Cause::OutOfBounds => 3,
-        },
+        Verdict::CreditedByCode(i, c) => 44 + 40 * cause_number(c) + i as u8,
+        Verdict::Returned(c) => cause_number(c),
     }
+}
+
+// The verdict of a number from 44 on, less 44.
+fn coded_by(k: u8) -> Verdict
+    ensures { λ r. ⌜ r ≡ codedBy k ⌝ }
+{
+    if k < 40 {
+        return Verdict::CreditedByCode(k as usize, Cause::WrongShape);
+    }
+    if k < 80 {
+        return Verdict::CreditedByCode((k - 40) as usize, Cause::WrongControl);
+    }
+    if k < 120 {
+        return Verdict::CreditedByCode((k - 80) as usize, Cause::NotInRegister);
+    }
+    Verdict::CreditedByCode((k - 120) as usize, Cause::OutOfBounds)
 }
 
 // The verdict of a number.
 pub fn verdict_by(k: u8) -> Verdict
     ensures { λ r. ⌜ r ≡ verdictBy k ⌝ }
 {
-    if k == 0 {
-        return Verdict::Returned(Cause::WrongShape);
+    if k < 4 {
+        return Verdict::Returned(cause_by(k));
     }
-    if k == 1 {
-        return Verdict::Returned(Cause::WrongControl);
+    if k < 44 {
+        return Verdict::Credited((k - 4) as usize);
     }
-    if k == 2 {
-        return Verdict::Returned(Cause::NotInRegister);
-    }
-    if k == 3 {
-        return Verdict::Returned(Cause::OutOfBounds);
-    }
-    Verdict::Credited((k - 4) as usize)
+    coded_by(k - 44)
 }
 
-// A detail judged by 59's line p: its verdict as one number.
-pub fn judge_line(text: &[u8], s: &[u8], p: Span) -> u8
+// A detail judged by 59's line, and by the second line behind 50H's account: its verdict as one number.
+pub fn judge_line(text: &[u8], s: &[u8], account: Span, code: Span) -> u8
     requires { ⌜ isSome (register (now text)) ≡ true ⌝ }
-    requires { ⌜ SpanIn (now s) p ⌝ }
-    ensures { λ r. ⌜ VerdictOn (now (text .entry)) (past ":59:/" (spanOf (now (s .entry)) p)) r ⌝ }
+    requires { ⌜ SpanIn (now s) account ⌝ }
+    requires { ⌜ SpanIn (now s) code ⌝ }
+    ensures { λ r. ⌜ VerdictOn (now (text .entry)) (spanOf (now (s .entry)) code) (past ":59:/" (spanOf (now (s .entry)) account)) r ⌝ }
 {
-    let account = behind(p, 5);
-    let v = judge(text, s, account.start as usize, account.end as usize);
-    code_of(text, v)
+    let p = behind(account, 5);
+    let v = judge(text, s, p.start as usize, p.end as usize);
+    let w = by_code(text, s, v, code.start as usize, code.end as usize);
+    verdict_number(text, w)
 }
 
 // Detail i with its verdict.

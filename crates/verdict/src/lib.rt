@@ -1,4 +1,4 @@
-// The judgement of a detail: field 59 behind its slash, credited or returned.
+// The judgement of a detail: field 59 behind its slash, credited or returned; where it would be returned, its code.
 mod detail;
 
 pub use detail::Judged;
@@ -12,7 +12,7 @@ ghost use Prim.Native.Nat.{_<_, _≤_};
 ghost use lib.ListN.{length};
 ghost use Rattle.rules.specs.Text.{isSome};
 ghost use Rattle.rules.specs.Register.{register, registerOf};
-ghost use Rattle.rules.specs.Verdict.{accountAt, shaped, inBounds, verdict};
+ghost use Rattle.rules.specs.Verdict.{accountAt, shaped, inBounds, verdict, byCode};
 ghost use Rattle.laws.specs.Parts.{cut};
 ghost use Rattle.verdict.specs.Answers.{verdictOf};
 
@@ -32,6 +32,8 @@ pub enum Cause {
 pub enum Verdict {
     // Credited: the account line found, counted from 0.
     Credited(usize),
+    // Credited by its code: the account line found, and the cause for which it would have been returned.
+    CreditedByCode(usize, Cause),
     // Returned: the cause.
     Returned(Cause),
 }
@@ -67,14 +69,14 @@ fn is_in_bounds(text: &[u8], i: usize, s: &[u8], a: usize, b: usize) -> bool
     if b - a == 22 {
         return true;
     }
-    let code = register::bound_at(s, a + 25);
+    let code = register_lines::bound_at(s, a + 25);
     if code < register::account_low(text, i) {
         return false;
     }
     code <= register::account_high(text, i)
 }
 
-// The verdict on the bytes from a up to b.
+// The verdict on the bytes from a up to b, without codes.
 pub fn judge(text: &[u8], s: &[u8], a: usize, b: usize) -> Verdict
     requires { ⌜ isSome (register (now text)) ≡ true ⌝ }
     requires { ⌜ a ≤ b ⌝ }
@@ -95,5 +97,22 @@ pub fn judge(text: &[u8], s: &[u8], a: usize, b: usize) -> Verdict
             Verdict::Returned(Cause::OutOfBounds)
         }
         Found::Nothing => Verdict::Returned(Cause::NotInRegister),
+    }
+}
+
+// The verdict v; where it returns the detail and the bytes from a up to b are a code of the register, credited by that.
+pub fn by_code(text: &[u8], s: &[u8], v: Verdict, a: usize, b: usize) -> Verdict
+    requires { ⌜ isSome (register (now text)) ≡ true ⌝ }
+    requires { ⌜ a ≤ b ⌝ }
+    requires { ⌜ b ≤ length (now s) ⌝ }
+    ensures { λ r. ⌜ verdictOf r ≡ byCode (registerOf (now (text .entry))) (cut (now (s .entry)) a b) (verdictOf v) ⌝ }
+{
+    match v {
+        Verdict::Returned(c) => match register::find_code(text, s, a, b) {
+            Found::At(i) => Verdict::CreditedByCode(i, c),
+            Found::Nothing => v,
+        },
+        Verdict::Credited(_) => v,
+        Verdict::CreditedByCode(_, _) => v,
     }
 }

@@ -1,6 +1,6 @@
 -- `verdict::judge` meets its contract: shape, control, register and bounds are asked in the order of the definition.
 use borrow.Author.Needs.{needs}
-use Rattle.verdict.specs.Judging.{found-listed, judge-shaped}
+use Rattle.verdict.specs.Judging.{found-known, judge-shaped}
 use Rattle.verdict.specs.Judging.{judging}
 use Rattle.verdict.proofs.judge.Statement.{statement}
 use Rattle.verdict.proofs.judge.Tie as tie
@@ -24,7 +24,7 @@ enum-known-i : tie.Need-enum-known-i
 enum-known-i c = search (judging, needs)
 
 is-in-bounds-requires : tie.Need-is-in-bounds-requires
-is-in-bounds-requires c κs = (search needs, (search (found-listed, needs), (search needs, (search needs, search (judge-shaped, needs)))))
+is-in-bounds-requires c κs = (search needs, (search (found-known, needs), (search needs, (search needs, search (judge-shaped, needs)))))
 
 returns-3 : tie.Need-returns-3
 returns-3 c = search (judging, needs)

@@ -6,11 +6,11 @@ use borrow.Author.Needs.{needs}
 use Rattle.card.proofs.message.send_message.Statement.{statement}
 use Rattle.card.proofs.message.send_message.Tie as tie
 
-cast-count-returned : tie.Need-cast-count-returned
-cast-count-returned c = search (sending, needs)
+cast-count-verdicts : tie.Need-cast-count-verdicts
+cast-count-verdicts c = search (sending, needs)
 
-count-returned-requires : tie.Need-count-returned-requires
-count-returned-requires c κs = search (sending, needs)
+count-verdicts-requires : tie.Need-count-verdicts-requires
+count-verdicts-requires c κs = search (sending, needs)
 
 due-for-requires : tie.Need-due-for-requires
 due-for-requires c κs = search (sending, needs)
@@ -18,8 +18,8 @@ due-for-requires c κs = search (sending, needs)
 message-size-requires : tie.Need-message-size-requires
 message-size-requires c κs =
     let at-due-for = c .before in
-    let at-count-returned = at-due-for .before in
-    let p = (at-count-returned .before .before .before .before .before .pre) in ready _ _ (p .0) _ (p .1 .0) _ (p .1 .1 .1) (p .1 .1 .0) (at-count-returned .count-returned .ensures) (at-due-for .due-for .ensures)
+    let at-count-verdicts = at-due-for .before in
+    let p = (at-count-verdicts .before .before .before .before .before .pre) in ready _ _ (p .0) _ (p .1 .0) _ (p .1 .1 .1) (p .1 .1 .0) (at-count-verdicts .count-verdicts .ensures) (at-due-for .due-for .ensures)
 
 same-length : tie.Need-same-length
 same-length c = search (sending, needs)
@@ -35,9 +35,9 @@ accept-message-requires c κs =
     let at-if1 = c .before .before .before .before in
     let at-message-size = at-if1 .before in
     let at-due-for = at-message-size .before .before in
-    let at-count-returned = at-due-for .before in
-    let entry = at-count-returned .before .before .before .before .before in
-    let p = (entry .pre) in (ready _ _ (p .0) _ (p .1 .0) _ (p .1 .1 .1) (p .1 .1 .0) (at-count-returned .count-returned .ensures) (at-due-for .due-for .ensures), text-fits (now ((entry .args .output))) (at-message-size .message-size .ensures) (at-if1 .if1 .left) (omega (arith, (entry .good))))
+    let at-count-verdicts = at-due-for .before in
+    let entry = at-count-verdicts .before .before .before .before .before in
+    let p = (entry .pre) in (ready _ _ (p .0) _ (p .1 .0) _ (p .1 .1 .1) (p .1 .1 .0) (at-count-verdicts .count-verdicts .ensures) (at-due-for .due-for .ensures), text-fits (now ((entry .args .output))) (at-message-size .message-size .ensures) (at-if1 .if1 .left) (omega (arith, (entry .good))))
 
 same-length-2 : tie.Need-same-length-2
 same-length-2 c = search (sending, needs)
@@ -57,8 +57,8 @@ pub send-message-spec : {M : Type 1} → statement M
 send-message-spec =
     tie.close
     (tie.spec
-    cast-count-returned
-    count-returned-requires
+    cast-count-verdicts
+    count-verdicts-requires
     due-for-requires
     message-size-requires
     same-length

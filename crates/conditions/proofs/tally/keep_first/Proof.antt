@@ -13,6 +13,9 @@ keep-requires c κs = search (keeping, needs)
 element-copy-out-judge-line : tie.Need-element-copy-out-judge-line
 element-copy-out-judge-line c = search (keeping, needs)
 
+element-copy-out-judge-line-2 : tie.Need-element-copy-out-judge-line-2
+element-copy-out-judge-line-2 c = search (keeping, needs)
+
 judge-line-requires : tie.Need-judge-line-requires
 judge-line-requires c κs = search (keeping, needs)
 
@@ -38,6 +41,7 @@ keep-first-spec =
     returns
     keep-requires
     element-copy-out-judge-line
+    element-copy-out-judge-line-2
     judge-line-requires
     element-write-verdicts
     element-copy-out-behind

@@ -1,4 +1,4 @@
--- As many parts as the returned details make, where a verdict follows.
+-- As many parts as the listed details make, where a verdict follows.
 use Rattle.message_text.specs.Message.{messages}
 use borrow.Author.Needs.{needs}
 use Rattle.message_text.proofs.message.parts_for.Statement.{statement}

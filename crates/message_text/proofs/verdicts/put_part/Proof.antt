@@ -20,8 +20,8 @@ put-opened199-requires c κs = search (parting, needs)
 put-position79-requires : tie.Need-put-position79-requires
 put-position79-requires c κs = search (parting, needs)
 
-put-returned-requires : tie.Need-put-returned-requires
-put-returned-requires c κs = search (parting, needs)
+put-listed-requires : tie.Need-put-listed-requires
+put-listed-requires c κs = search (parting, needs)
 
 put-closed79-requires : tie.Need-put-closed79-requires
 put-closed79-requires c κs = search (parting, needs)
@@ -35,12 +35,12 @@ same-length c = search (parting, needs)
 returns : tie.Need-returns
 returns c =
     let closed = c .before .before .before in
-    let returned = closed .before .before .before .before in
-    let position = returned .before .before .before .before in
+    let listed = closed .before .before .before .before in
+    let position = listed .before .before .before .before in
     let opened = position .before .before .before .before in
     let number = opened .before .before in
     let start = number .before .before .before .before .before in
-    part-wrote _ _ _ _ _ _ (start .pre) (number .first-number .ensures) (opened .put-opened199 .ensures) (position .put-position79 .ensures) (returned .put-returned .ensures) (closed .put-closed79 .ensures)
+    part-wrote _ _ _ _ _ _ (start .pre) (number .first-number .ensures) (opened .put-opened199 .ensures) (position .put-position79 .ensures) (listed .put-listed .ensures) (closed .put-closed79 .ensures)
 
 pub put-part-spec : {M : Type 1} → statement M
 put-part-spec =
@@ -51,7 +51,7 @@ put-part-spec =
     first-number-requires
     put-opened199-requires
     put-position79-requires
-    put-returned-requires
+    put-listed-requires
     put-closed79-requires
     sub-t17
     same-length

@@ -1,0 +1,4 @@
+pub mod Reading
+pub mod Message
+pub mod Unchanged
+pub mod Cases

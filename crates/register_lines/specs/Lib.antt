@@ -1,0 +1,9 @@
+pub mod Blocks
+pub mod AccountLine
+pub mod Places
+pub mod Formed
+pub mod Lines
+pub mod Forms
+pub mod Counts
+pub mod Marks
+pub mod Sets
