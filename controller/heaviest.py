@@ -13,12 +13,15 @@ MT103 of a return repeats. Where all details are returned, the card writes 16 po
   unframed      as `returned`, with a wrong end (1)
   over          as `returned`, then a second large message for the same position, which its sum takes over the limit (15)
   turn          a turn of the full book with 32 corrections, after the large message
+  newer         the register without `END`, moved to the newer form
+  older         the register, moved to the older form
 
 In these days references and IBANs differ in their last characters only, and the wrong end is another closing line. The same days with `first-` in
 front of their names have references and IBANs that differ in their first characters, the large message's before all others, and a lone LF near the end.
 
 Both kinds stand there with `codes-` in front of their names too: behind the account lines there are 40 code lines, each for the last account, and the
-second line behind 50H's account has ten digits, in a large message a code that is not listed. One day more has them only:
+second line behind 50H's account has ten digits, in a large message a code that is not listed. `newer` is not among them, and `older` is refused (19).
+One day more has them only:
 
   coded         as `returned`, with the last code in each detail, so that all are credited by it
 
@@ -65,8 +68,8 @@ def lines(rows):
     return "".join(row + "\r\n" for row in rows)
 
 
-def command(message):
-    return "M,%d\r\n%s" % (len(message), message)
+def command(text, letter="M"):
+    return "%s,%d\r\n%s" % (letter, len(text), text)
 
 
 class Kind:
@@ -77,7 +80,7 @@ class Kind:
 
     def register(self):
         return lines(self.accounts[:1] + [account + ",500000,500000" for account in self.accounts[1:]]
-                     + [code + "," + self.accounts[-1] for code in self.codes])
+                     + [code + "," + self.accounts[-1] for code in self.codes] + ["END"])
 
     def opening(self):
         return "O,%s,%d,%d\r\n%s%s" % (TODAY, len(self.register()), len(self.holidays), self.register(), self.holidays)
@@ -123,12 +126,18 @@ class Kind:
         more = [self.small(n, last, "0,01") for n in range(len(dates), messages)]
         return self.opening() + "".join(map(command, firsts + more))
 
+    def moves(self):
+        """Those of the register, by day; a register with code lines has no older form."""
+        older = {"older": command(self.register(), "P")}
+        return older if self.codes else older | {"newer": command(self.register().removesuffix(lines(["END"])), "N")}
+
     def days(self):
         late, early = DAYS[-32:], DAYS[-31:]
         full = self.book(late, late[-1])
         returned = self.large(LARGE, late[-1], "999999")
         coded = {"coded": full + command(self.large(LARGE, late[-1], "999999", self.codes[-1]))} if self.codes else {}
-        return coded | {
+        moves = self.moves() if self.holidays else {}
+        return coded | moves | {
             "opening": self.opening(),
             "returned": full + command(returned),
             "opened": self.book(early, early[-1]) + command(self.large(LARGE, DAYS[0], "999999")),

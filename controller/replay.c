@@ -40,8 +40,18 @@ static void call_turn(void) {
   call.number = card_turn(command.day, card_area, CARD_AREA, output, call.room, &call.written, &call.difference);
 }
 
-static void (*const calls[])(void) = {[COMMAND_OPEN] = call_open, [COMMAND_MESSAGE] = call_message, [COMMAND_TURN] = call_turn};
-static const char *const names[] = {[COMMAND_OPEN] = "open", [COMMAND_MESSAGE] = "message", [COMMAND_TURN] = "turn"};
+static void call_newer(void) {
+  call.number = card_newer(command.text, command.length, output, call.room, &call.written, &call.difference);
+}
+
+static void call_older(void) {
+  call.number = card_older(command.text, command.length, output, call.room, &call.written, &call.difference);
+}
+
+static void (*const calls[])(void) = {
+    [COMMAND_OPEN] = call_open, [COMMAND_MESSAGE] = call_message, [COMMAND_TURN] = call_turn, [COMMAND_NEWER] = call_newer, [COMMAND_OLDER] = call_older};
+static const char *const names[] = {
+    [COMMAND_OPEN] = "open", [COMMAND_MESSAGE] = "message", [COMMAND_TURN] = "turn", [COMMAND_NEWER] = "newer", [COMMAND_OLDER] = "older"};
 
 #define PAINT 0xa5
 

@@ -1,5 +1,5 @@
-/* A line card that hands the card anything: damaged messages, registers, days and areas, lengths of 0, short outputs, areas of
- * 6,143 to 6,145 bytes. It fails when a call touches a byte that it should not, or answers a number that its call does not have.
+/* A line card that hands the card anything: damaged messages, registers, days and areas, any text to the moves of a register, lengths of 0,
+ * short outputs, areas of 6,143 to 6,145 bytes. It fails when a call touches a byte that it should not, or answers a number that its call does not have.
  *
  *   bounds CALLS SEED FILE...      FILE: input of the replay program, from which commands are drawn
  */
@@ -70,8 +70,13 @@ static size_t damage(uint8_t *text, size_t length) {
   return draw(16) == 0 ? draw(length + 1) : length;
 }
 
+/* A move of a register is lent no area. */
+static int is_move(enum kind kind) { return kind == COMMAND_NEWER || kind == COMMAND_OLDER; }
+
 static int number_is_of(enum kind kind, uint32_t number) {
-  if (number == 0 || number == 10) return 1;
+  if (number == 0) return 1;
+  if (is_move(kind)) return number == 9 || number == 16 || (number == 19 && kind == COMMAND_OLDER);
+  if (number == 10) return 1;
   if (kind == COMMAND_OPEN) return number == 3 || number == 9 || number == 17 || number == 18;
   if (kind == COMMAND_TURN) return number == 3 || number == 11 || number == 16 || number == 17;
   return number <= 16 && number != 9;
@@ -80,8 +85,10 @@ static int number_is_of(enum kind kind, uint32_t number) {
 static void one_call(uint64_t call) {
   static const uint64_t area_lengths[] = {0, 1, 16, 6143, 6145, 7000};
   static size_t place;
-  place = draw(32) == 0 ? draw(command_count) : (place + 1) % command_count;
+  int moved = draw(16) == 0; /* the text of the last call, whatever it is, handed to a move */
+  if (!moved) place = draw(32) == 0 ? draw(command_count) : (place + 1) % command_count;
   const struct command *command = &commands[place];
+  enum kind kind = !moved ? command->kind : draw(2) == 0 ? COMMAND_NEWER : COMMAND_OLDER;
   uint8_t *text = lend(&text_memory), *list = lend(&list_memory), *area = lend(&area_memory), *output = lend(&output_memory);
   size_t length = command->length, list_length = command->list_length;
   uint32_t day = command->day;
@@ -92,6 +99,7 @@ static void one_call(uint64_t call) {
   if (draw(40) == 0) day = (uint32_t)draw(1u << 31);
   uint64_t area_length = draw(64) == 0 ? area_lengths[draw(6)] : CARD_AREA;
   uint64_t room = draw(16) == 0 ? draw(1200) : CARD_OUTPUT;
+  if (is_move(kind) && draw(2) == 0) room = draw(2 * length + 8);
   if (draw(256) == 0) {
     for (uint64_t n = 1 + draw(4); n > 0; n--) area[draw(CARD_AREA)] = (uint8_t)draw(256);
   }
@@ -105,7 +113,7 @@ static void one_call(uint64_t call) {
   uint64_t written = 77;
   int64_t difference = 77;
   uint32_t number = 0;
-  switch (command->kind) {
+  switch (kind) {
     case COMMAND_OPEN:
       number = card_open(text, length, list, list_length, day, area, area_length, &written, &difference);
       break;
@@ -115,8 +123,14 @@ static void one_call(uint64_t call) {
     case COMMAND_TURN:
       number = card_turn(day, area, area_length, output, room, &written, &difference);
       break;
+    case COMMAND_NEWER:
+      number = card_newer(text, length, output, room, &written, &difference);
+      break;
+    case COMMAND_OLDER:
+      number = card_older(text, length, output, room, &written, &difference);
+      break;
   }
-  if (!number_is_of(command->kind, number)) fail("a number that the call does not have", call);
+  if (!number_is_of(kind, number)) fail("a number that the call does not have", call);
   unchanged_outside(&text_memory, 0, 0, "the text was changed", call);
   unchanged_outside(&list_memory, 0, 0, "the holiday list was changed", call);
   if (number != 0) {
@@ -124,9 +138,9 @@ static void one_call(uint64_t call) {
     unchanged_outside(&area_memory, 0, 0, "a refusal changed the area", call);
     unchanged_outside(&output_memory, 0, 0, "a refusal changed the output", call);
   } else {
-    if (area_length < CARD_AREA) fail("accepted with a short area", call);
+    if (area_length < CARD_AREA && !is_move(kind)) fail("accepted with a short area", call);
     if (written > room) fail("more bytes than the room", call);
-    unchanged_outside(&area_memory, 0, CARD_AREA, "bytes behind the engine were changed", call);
+    unchanged_outside(&area_memory, 0, is_move(kind) ? 0 : CARD_AREA, "bytes that are not the engine's were changed", call);
     unchanged_outside(&output_memory, 0, written, "bytes behind the output were changed", call);
   }
   answered[number]++;

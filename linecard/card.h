@@ -14,9 +14,11 @@
 /* The engine stands in the first CARD_AREA bytes of the area between calls. */
 #define CARD_AREA 6144
 
-/* A message has at most CARD_MESSAGE bytes, and a call writes fewer than CARD_OUTPUT. A holiday list has at most CARD_HOLIDAYS: 60 dates. */
+/* A message has at most CARD_MESSAGE bytes, and a call writes fewer than CARD_OUTPUT. A register has at most CARD_TEXT: 40 account lines and
+ * 40 code lines. A holiday list has at most CARD_HOLIDAYS: 60 dates. */
 #define CARD_MESSAGE 4096
 #define CARD_OUTPUT 32768
+#define CARD_TEXT 2949
 #define CARD_HOLIDAYS 419
 
 enum {
@@ -41,12 +43,15 @@ enum {
   CARD_ROOM = 16,        /* the output is shorter than this call's bytes */
   /* of an opening or a turn */
   CARD_CLOSED = 17,      /* the day is a Saturday, a Sunday or a listed holiday */
-  CARD_LIST = 18         /* the holiday list */
+  CARD_LIST = 18,        /* the holiday list */
+  /* of a register that is moved to the older form */
+  CARD_CODES = 19        /* code lines stand in the way */
 };
 
 /* Opens an engine with a register, a holiday list and a day (six digits as a number: 060302 is 60302). The register has a line with the temporary
- * account, up to 40 lines `IBAN,low,high` and behind them up to 40 lines `code,IBAN`, each ended by CR LF. The list has dates of six digits, each later
- * than the last, with a comma between two and nothing else; no holidays are a length of 0. The engine keeps both until the next accepted opening. */
+ * account, up to 40 lines `IBAN,low,high`, behind them up to 40 lines `code,IBAN`, and a last line `END`, each ended by CR LF. The list has dates of six
+ * digits, each later than the last, with a comma between two and nothing else; no holidays are a length of 0. The engine keeps both until the next
+ * accepted opening. */
 uint32_t card_open(const uint8_t *text, uint64_t text_length, const uint8_t *list, uint64_t list_length, uint32_t day,
                    uint8_t *area, uint64_t area_length, uint64_t *written, int64_t *difference);
 
@@ -57,5 +62,11 @@ uint32_t card_message(const uint8_t *message, uint64_t message_length, uint8_t *
 /* Turns to a later banking day; the difference is refunded minus collected. */
 uint32_t card_turn(uint32_t day, uint8_t *area, uint64_t area_length, uint8_t *output, uint64_t output_length,
                    uint64_t *written, int64_t *difference);
+
+/* Writes a register of the older form, which has no code lines and no `END`, in the form that an opening takes: the same bytes and `END`. */
+uint32_t card_newer(const uint8_t *text, uint64_t text_length, uint8_t *output, uint64_t output_length, uint64_t *written, int64_t *difference);
+
+/* Writes a register that an opening takes in the older form: the same bytes without `END`. It must have no code lines. */
+uint32_t card_older(const uint8_t *text, uint64_t text_length, uint8_t *output, uint64_t output_length, uint64_t *written, int64_t *difference);
 
 #endif

@@ -45,6 +45,16 @@ static int two_lengths(const uint8_t *s, size_t n, size_t *first, size_t *second
   return read_number(s, k, LONGEST, first) && read_number(s + k + 1, n - k - 1, LONGEST, second);
 }
 
+/* The kind of a command that has one text, by its letter. */
+static int kind_of(uint8_t letter, enum kind *kind) {
+  switch (letter) {
+    case 'M': *kind = COMMAND_MESSAGE; return 1;
+    case 'N': *kind = COMMAND_NEWER; return 1;
+    case 'P': *kind = COMMAND_OLDER; return 1;
+  }
+  return 0;
+}
+
 int next_command(const uint8_t *input, size_t size, size_t *at, struct command *command) {
   const uint8_t *s = input + *at;
   size_t left = size - *at, n, length = 0, list_length = 0;
@@ -52,9 +62,8 @@ int next_command(const uint8_t *input, size_t size, size_t *at, struct command *
   if (n >= 2 && memcmp(s, "T,", 2) == 0) {
     if (n != 8 || !six_digits(s + 2, &command->day)) return 0;
     command->kind = COMMAND_TURN;
-  } else if (n >= 2 && memcmp(s, "M,", 2) == 0) {
+  } else if (n >= 2 && s[1] == ',' && kind_of(s[0], &command->kind)) {
     if (!read_number(s + 2, n - 2, LONGEST, &length)) return 0;
-    command->kind = COMMAND_MESSAGE;
   } else if (n >= 9 && memcmp(s, "O,", 2) == 0 && s[8] == ',') {
     if (!six_digits(s + 2, &command->day) || !two_lengths(s + 9, n - 9, &length, &list_length)) return 0;
     command->kind = COMMAND_OPEN;

@@ -5,7 +5,7 @@
 #include <stddef.h>
 #include <stdint.h>
 
-enum kind { COMMAND_OPEN, COMMAND_MESSAGE, COMMAND_TURN };
+enum kind { COMMAND_OPEN, COMMAND_MESSAGE, COMMAND_TURN, COMMAND_NEWER, COMMAND_OLDER };
 
 struct command {
   enum kind kind;

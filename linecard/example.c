@@ -11,7 +11,8 @@ static int64_t difference;
 
 static const char accounts[] =
     "BG80BNBG96611020345678\r\n"
-    "BG56BNBG96613000000001,000000,999999\r\n";
+    "BG56BNBG96613000000001,000000,999999\r\n"
+    "END\r\n";
 
 static const char holidays[] = "060101,060306,060501";
 

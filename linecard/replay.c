@@ -59,6 +59,12 @@ static void replay(const uint8_t *input, size_t size, uint8_t *output, size_t ro
       case COMMAND_TURN:
         number = card_turn(command.day, area, sizeof area, output, room, &written, &difference);
         break;
+      case COMMAND_NEWER:
+        number = card_newer(command.text, command.length, output, room, &written, &difference);
+        break;
+      case COMMAND_OLDER:
+        number = card_older(command.text, command.length, output, room, &written, &difference);
+        break;
     }
     printf("%" PRIu32 ",%" PRId64 "\r\n", number, difference);
     fwrite(output, 1, written, stdout);

@@ -1,4 +1,4 @@
--- Demand 3, over any list of message and turn calls behind an accepted opening: by induction on the list, since each call leaves a running card and settles.
+-- Demand 3, over any list of calls behind an accepted opening: by induction on the list, since each call leaves a running card and settles.
 use mathlib.Core.Path.{_≡_, refl, sym, ap, _∙_}
 use mathlib.Core.Bool.{Bool, true, false, _&&_, not, cond}
 use mathlib.Core.List.{List, [], _∷_, _++_, append-nil, append-assoc}
@@ -12,7 +12,7 @@ use Rattle.rules.specs.Register.{registerOf}
 use Rattle.rules.specs.Engine.{Position, hasDetails}
 use Rattle.rules.specs.Calls.{opened}
 use Rattle.rules.specs.Area.{Result, cardOpen}
-use Rattle.rules.specs.Ledger.{Kind, Event, applied, isTurn, messageOf, ledgerFrom, ledgerOf, transferredOf, detailedOf, held, sumOf, sinceTurn, accepted, untouchedOf}
+use Rattle.rules.specs.Ledger.{Kind, Event, applied, messageOf, ledgerFrom, ledgerOf, transferredOf, detailedOf, held, sumOf, turnedBy, sinceTurn, accepted, untouchedOf}
 use Rattle.rules.specs.Demand3.{Call, result, Ran, ran, Demand3}
 use Rattle.laws.specs.Tests.{never}
 use Rattle.engine_laws.specs.Calls.{Opens, open-accepted, done-holds}
@@ -35,7 +35,7 @@ module _ (e : Event) (es : List Event) where
 
   turned-next : (b : Bool) → sinceTurn b (e ∷ es) ≡ sinceTurn (sinceTurn b (e ∷ [])) es
   unfolding sinceTurn
-  turned-next b = picked (λ (t : Bool). sinceTurn t es) (eqb (e .number) 0) (isTurn (e .request)) b
+  turned-next b = picked (λ (t : Bool). sinceTurn t es) (eqb (e .number) 0) (turnedBy b (e .request)) b
 
   accepted-next : (sent : List Message) → sent ++ accepted (e ∷ es) ≡ sent ++ accepted (e ∷ []) ++ accepted es
   unfolding accepted

@@ -13,5 +13,6 @@ pub mod Booking
 pub mod Settled
 pub mod Untouched
 pub mod Admission
+pub mod Services
 pub mod Running
 pub mod Demand

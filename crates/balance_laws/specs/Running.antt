@@ -1,10 +1,11 @@
 -- One call of the list: the card that runs stays as the ledger and the messages accepted so far say, and what the call wrote settles with what it changed of the ledger.
 use mathlib.Core.Path.{_≡_, refl, _∙_}
-use mathlib.Core.Bool.{Bool, true, and-false}
+use mathlib.Core.Bool.{Bool, true, false, and-false}
 use mathlib.Core.List.{List, [], _∷_, _++_, append-nil}
 use mathlib.Core.Option.{none, some}
 use Prim.Native.Nat.{ℕ, _^_, _≤_, _<_}
 use native.Mathlib.Omega.{arith}
+use lib.Dec.{eqb}
 use lib.ListN.{length, take}
 use borrow.Author.Tests.{ne-eqb}
 use Rattle.rules.specs.Messages.{Message, dateOf, transferredBy, detailedBy}
@@ -13,7 +14,8 @@ use Rattle.rules.specs.Text.{ordered}
 use Rattle.rules.specs.Engine.{Position, Engine, earlier, sameKey}
 use Rattle.rules.specs.Calls.{bankOf, addition, afterMessage, afterTurn}
 use Rattle.rules.specs.Area.{Result, cardMessage, cardTurn, holds}
-use Rattle.rules.specs.Ledger.{Request, message, turn, Event, applied, enteredBy, ledgerFrom, isTurn, sinceTurn, listed, messageOf, accepted, sumOf}
+use Rattle.rules.specs.Ledger.{Request, message, turn, service, Event, applied, enteredBy, ledgerFrom, turnedBy, sinceTurn, listed, messageOf, accepted, sumOf}
+use Rattle.rules.specs.Services.{Service, serviceResult}
 use Rattle.rules.specs.Demand3.{result}
 use Rattle.laws.specs.Tests.{never}
 use Rattle.laws.specs.All.{All, All.none, All.more}
@@ -22,8 +24,8 @@ use Rattle.engine_laws.specs.Limits.{Limits, limits}
 use Rattle.engine_laws.specs.EngineIn.{engine-in}
 use Rattle.engine_laws.specs.Positions.{Good, all-good, position-order}
 use Rattle.engine_laws.specs.Calls.{Stays, by-number, done-holds, done-text, Takes, message-accepted, message-ends, Turns, turn-accepted, turn-ends}
-use Rattle.balance_laws.specs.Told.{Tells, tells-none, told}
-use Rattle.balance_laws.specs.Tally.{Measure, tally, SameEntries, only, like, bare, one, kept-bare, same-kept}
+use Rattle.balance_laws.specs.Told.{mute-none, Tells, tells-mute, told}
+use Rattle.balance_laws.specs.Tally.{Measure, tally, SameEntries, either-way, only, like, bare, one, kept-bare, same-kept}
 use Rattle.balance_laws.specs.Booking.{many, many-past, keyed, sorted-many, entered-same}
 use Rattle.rule_laws.specs.Messages.{read-as}
 use Rattle.balance_laws.specs.Kinds.{comesIn, goesOut, mine}
@@ -31,6 +33,7 @@ use Rattle.balance_laws.specs.Message.{Postable, message-in, message-out
 use Rattle.balance_laws.specs.Turn.{closed, nothing, turn-in, turn-out}
 use Rattle.balance_laws.specs.Admission.{postable, admitted}
 use Rattle.balance_laws.specs.Settled.{Settles, settles-none, message-settles, settles-turn}
+use Rattle.balance_laws.specs.Services.{Uncounted, uncounted}
 use Rattle.balance_laws.specs.Untouched.{History, history-message, history-turn}
 
 -- ---- the card between calls
@@ -82,20 +85,32 @@ module _ (temporary area : List ℕ) (ledger : List Position) (sent : List Messa
   l : Limits e
   l = limits e (engine-in area e h .good)
 
+  -- one that counts for nothing
+  step-uncounted : (f : Request) (r : Result) → Uncounted r area → ledgerFrom ledger (event f r ∷ []) ≡ ledger → accepted (event f r ∷ []) ≡ [] → sinceTurn turned (event f r ∷ []) ≡ turned
+      → Stepped temporary ledger sent turned (event f r) (r .area)
+  unfolding event
+  step-uncounted f r u same unsent still = record {
+    next = rw (same, unsent, append-nil, still, u .area) record { engine = e; holding = h; agrees = g };
+    settles = λ bank k. told-settles bank temporary (event f r) (tells-mute (u .mute)) (tells-mute (u .mute)) (rw same (settles-none bank ledger));
+  }
+
   -- refused
   step-refused : (f : Request) (out : List ℕ) (r : Result) → (r .number ≡ 0 → ⊥) → Stays r area out → Stepped temporary ledger sent turned (event f r) (r .area)
   unfolding event ledgerFrom accepted sinceTurn
-  step-refused f out r n s = record {
-    next = rw (ne-eqb (r .number) 0 n, append-nil, s .area) record { engine = e; holding = h; agrees = g };
-    settles = λ bank l.
-        let i : Tells (comesIn bank) f (take (r .written) (r .output)) 0 = rw (s .written) tells-none in
-        let o : Tells (goesOut temporary bank) f (take (r .written) (r .output)) 0 = rw (s .written) tells-none in
-        told-settles bank temporary (event f r) i o (rw (ne-eqb (r .number) 0 n) (settles-none bank ledger));
-  }
+  step-refused f out r n s =
+      let e : eqb (r .number) 0 ≡ false = ne-eqb (r .number) 0 n in
+      step-uncounted f r record { area = s .area; mute = rw (s .written) mute-none } (rw e) (rw e) (rw e)
+
+  -- a call that changes no engine, accepted or refused
+  step-service : (v : Service) (out : List ℕ) → Stepped temporary ledger sent turned (event (service v) (serviceResult v area out)) (serviceResult v area out .area)
+  unfolding event ledgerFrom applied accepted messageOf sinceTurn turnedBy
+  step-service v out =
+      let r : Result = serviceResult v area out in
+      step-uncounted (service v) r (uncounted v area out) (either-way (eqb (r .number) 0) ledger) (either-way (eqb (r .number) 0) []) (either-way (eqb (r .number) 0) turned)
 
   -- an accepted message
   step-message : (s out : List ℕ) → cardMessage s area out .number ≡ 0 → Stepped temporary ledger sent turned (event (message s) (cardMessage s area out)) (cardMessage s area out .area)
-  unfolding event ledgerFrom accepted sinceTurn applied enteredBy messageOf listed isTurn afterMessage
+  unfolding event ledgerFrom accepted sinceTurn applied enteredBy messageOf listed turnedBy afterMessage
   step-message s out a =
       let t : Takes s area out e = message-accepted s area out e h a in
       let m : Message = t .message in
@@ -121,7 +136,7 @@ module _ (temporary area : List ℕ) (ledger : List Position) (sent : List Messa
 
   -- an accepted turn
   step-turn : (day : ℕ) (out : List ℕ) → cardTurn day area out .number ≡ 0 → Stepped temporary ledger sent turned (event (turn day) (cardTurn day area out)) (cardTurn day area out .area)
-  unfolding event ledgerFrom accepted sinceTurn applied messageOf isTurn afterTurn
+  unfolding event ledgerFrom accepted sinceTurn applied messageOf turnedBy afterTurn
   step-turn day out a =
       let t : Turns day area out e = turn-accepted day area out e h a in
       record {
@@ -148,3 +163,4 @@ module _ (temporary area : List ℕ) (ledger : List Position) (sent : List Messa
   unfolding result
   stepped (message s) out = by-number (message-ends s area out) (step-message s out) (step-refused (message s) out _)
   stepped (turn day) out = by-number (turn-ends day area out) (step-turn day out) (step-refused (turn day) out _)
+  stepped (service v) out = step-service v out

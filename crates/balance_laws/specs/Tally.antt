@@ -56,10 +56,13 @@ bare p = not (hasDetails p)
 unfoldable pub equalTo : Position → Test
 equalTo q p = sameEntry p q
 
--- nothing either way
+-- the same either way
+pub either-way : {A : Type 0} (t : Bool) (x : A) → cond t x x ≡ x
+either-way true x = refl
+either-way false x = refl
+
 pub nought : (t : Bool) → cond {A = ℕ} t 0 0 ≡ 0
-nought true = refl
-nought false = refl
+nought t = either-way t 0
 
 -- ---- the ledger's sums as tallies
 

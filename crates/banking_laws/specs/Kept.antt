@@ -1,4 +1,4 @@
--- Banking days, over any list of message and turn calls behind an accepted opening: by induction on the list, since 17 lets no other day pass.
+-- Banking days, over any list of calls behind an accepted opening: by induction on the list, since 17 lets no other day pass.
 use mathlib.Core.Path.{_≡_, refl}
 use mathlib.Core.Bool.{Bool, true, false, cond}
 use mathlib.Core.List.{List, [], _∷_, _++_, append-nil}
@@ -11,7 +11,8 @@ use Rattle.rules.specs.BankingDays.{holidaysOf, isBankingDay}
 use Rattle.rules.specs.Engine.{Engine}
 use Rattle.rules.specs.Calls.{holdsOf, opened, afterMessage, afterTurn, turnText}
 use Rattle.rules.specs.Area.{Result, cardOpen, cardMessage, cardTurn, holds}
-use Rattle.rules.specs.Ledger.{Request, message, turn, Event, isTurn}
+use Rattle.rules.specs.Services.{Service, serviceResult}
+use Rattle.rules.specs.Ledger.{Request, message, turn, service, Event, isTurn}
 use Rattle.rules.specs.Demand3.{Call, result, Ran, ran}
 use Rattle.rules.specs.OnBankingDays.{lineDates, turnDates, isClosed, BankingDaysKept}
 use Rattle.laws.specs.Digits.{places-length}
@@ -22,6 +23,7 @@ use Rattle.rule_laws.specs.Lines.{lined-lines}
 use Rattle.engine_laws.specs.Limits.{limits}
 use Rattle.engine_laws.specs.EngineIn.{engine-in}
 use Rattle.engine_laws.specs.Calls.{Stays, by-number, Opens, open-accepted, done-holds, done-text, Takes, message-accepted, message-ends, Turns, turn-accepted, turn-ends}
+use Rattle.balance_laws.specs.Services.{uncounted}
 use Rattle.balance_laws.specs.Running.{event}
 use Rattle.balance_laws.specs.Corrections.{AllOf, Dated}
 use Rattle.banking_laws.specs.Turns.{turn-dated}
@@ -95,11 +97,17 @@ module _ (list area : List ℕ) (w : Open list area) where
         written = rw (done-text (t .done), lined-lines (d .reading)) (none-join (isClosed (holidaysOf list)) (lineDates (d .all)) [] (none-closed (holidaysOf list) day (t .clear .date) b (d .dates)) refl);
       }
 
+  -- a call that changes no engine writes for no turn
+  step-service : (v : Service) (out : List ℕ) → Stepped list (event (service v) (serviceResult v area out)) (serviceResult v area out .area)
+  unfolding event turnDates isTurn any
+  step-service v out = record { next = rw (uncounted v area out .area) w; written = refl }
+
   -- any call
   stepped : (f : Request) (out : List ℕ) → Stepped list (event f (result f area out)) (result f area out .area)
   unfolding result
   stepped (message s) out = by-number (message-ends s area out) (step-message s out) (λ n. step-refused (message s) out _)
   stepped (turn day) out = by-number (turn-ends day area out) (step-turn day out) (λ n. step-refused (turn day) out _)
+  stepped (service v) out = step-service v out
 
 -- ---- any list of calls
 

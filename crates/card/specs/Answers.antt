@@ -2,7 +2,7 @@
 use mathlib.Core.Path.{_≡_, refl}
 use mathlib.Core.Bool.{false}
 use mathlib.Core.List.{List, _++_}
-use mathlib.Core.Option.{Option, some}
+use mathlib.Core.Option.{Option, none, some}
 use Prim.Native.Nat.{ℕ, _<_, _^_}
 use lib.Dec.{eqb, lit<}
 use lib.IntN.{ℤ, pos}
@@ -11,6 +11,7 @@ use lib.Signed.{mag}
 use Rattle.rules.specs.Text.{over}
 use Rattle.rules.specs.Engine.{Engine}
 use Rattle.rules.specs.Calls.{Stop, firstOf, Answer, answered}
+use Rattle.rules.specs.Moves.{writing}
 use Rattle.rules.specs.Area.{Result, encode, stored, onAreas, areaSize}
 use Rattle.rule_laws.specs.Conditions.{answered-refused, answered-accepted}
 
@@ -33,3 +34,8 @@ module _ (ss : List Stop) (engine : Option Engine) (a : Answer) (area out : List
       → n ≡ length text → z ≡ d → area' ≡ encode next ++ drop areaSize area → out' ≡ over text out → mag z < 2 ^ 63 → Answers (onAreas (answered ss engine a) area out) 0 n z area' out'
   unfolding onAreas stored
   answers-accepted e f w d r o m = rw (answered-accepted ss engine a e, f) record { number = refl; written = w; difference = d; area = r; output = o; small = m }
+
+  -- a call that changes no engine
+  pub answers-written : {text : List ℕ} → firstOf ss ≡ 0 → engine ≡ none → a ≡ writing engine text → {n : ℕ} {out' : List ℕ} → n ≡ length text → out' ≡ over text out → Answers (onAreas (answered ss engine a) area out) 0 n (pos 0) area out'
+  unfolding onAreas stored
+  answers-written e f g w o = rw (answered-accepted ss engine a e, g, f) record { number = refl; written = w; difference = refl; area = refl; output = o; small = lit< tt }

@@ -1,4 +1,4 @@
--- Codes, two tables: registers with code lines, and details judged by one of them.
+-- Codes, two tables: registers with code lines and a last line, and details judged by one of them.
 use mathlib.Core.Path.{_≡_, refl}
 use mathlib.Core.Bool.{Bool, true, false}
 use mathlib.Core.List.{List, [], _∷_, _++_, map}
@@ -7,7 +7,7 @@ use Prim.Native.String.{String}
 use Rattle.rules.specs.Text.{ascii, isDigit, isLetter, isAlnum, equal, fitsSign, fits, isSome, readEach, readLeading, any, twice, digitsFrom}
 use Rattle.rules.specs.Accounts.{ibanShape, withSign, numeral, remainder, control, passes}
 use Rattle.rules.specs.Lines.{lines}
-use Rattle.rules.specs.Register.{accountLine, codeLine, soundAccounts, sameCode, isForeign, soundCodes, sound, ofLines, register, registerOf}
+use Rattle.rules.specs.Register.{accountLine, codeLine, soundAccounts, sameCode, isForeign, soundCodes, sound, ofLines, beforeEnd, register, registerOf}
 use Rattle.rules.specs.Verdict.{Verdict, credited, creditedByCode, returned, wrongShape, wrongControl, notInRegister, outOfBounds, found, shaped, inBounds, judged, verdict, ibanBeside, lineByCode, byLine, byCode}
 use Rattle.rules.specs.Listing.{lined}
 
@@ -17,7 +17,7 @@ use Rattle.rules.specs.Listing.{lined}
 abbrev accountLines : List String
 accountLines = "BG80BNBG96611020345678" ∷ "BG56BNBG96613000000001,000100,000200" ∷ "BG33AAAA12311012345678,000000,000000" ∷ []
 
--- code lines behind them, and whether such a register passes 9
+-- code lines and the last line behind them, and whether such a register passes 9
 pub record Registered : Type 0 where
   pub lines : List String
   pub passes : Bool
@@ -27,23 +27,30 @@ row ls b = record { lines = ls; passes = b }
 
 abbrev pub registers : List Registered
 registers =
-    row [] true
-    ∷ row ("0000000000,BG56BNBG96613000000001" ∷ "1234567890,BG33AAAA12311012345678" ∷ []) true
+    row ("END" ∷ []) true
+    ∷ row ("0000000000,BG56BNBG96613000000001" ∷ "1234567890,BG33AAAA12311012345678" ∷ "END" ∷ []) true
     -- "such an IBAN as often as wanted"
-    ∷ row ("0000000000,BG56BNBG96613000000001" ∷ "1234567890,BG56BNBG96613000000001" ∷ []) true
+    ∷ row ("0000000000,BG56BNBG96613000000001" ∷ "1234567890,BG56BNBG96613000000001" ∷ "END" ∷ []) true
     -- "a code twice"
-    ∷ row ("1234567890,BG56BNBG96613000000001" ∷ "1234567890,BG33AAAA12311012345678" ∷ []) false
+    ∷ row ("1234567890,BG56BNBG96613000000001" ∷ "1234567890,BG33AAAA12311012345678" ∷ "END" ∷ []) false
     -- "a foreign account": on no line, and the temporary one
-    ∷ row ("1234567890,BG57BNBG96613000000001" ∷ []) false
-    ∷ row ("1234567890,BG80BNBG96611020345678" ∷ []) false
+    ∷ row ("1234567890,BG57BNBG96613000000001" ∷ "END" ∷ []) false
+    ∷ row ("1234567890,BG80BNBG96611020345678" ∷ "END" ∷ []) false
     -- nine and eleven digits, and no digits
-    ∷ row ("123456789,BG56BNBG96613000000001" ∷ []) false
-    ∷ row ("12345678901,BG56BNBG96613000000001" ∷ []) false
-    ∷ row ("12345678 0,BG56BNBG96613000000001" ∷ []) false
+    ∷ row ("123456789,BG56BNBG96613000000001" ∷ "END" ∷ []) false
+    ∷ row ("12345678901,BG56BNBG96613000000001" ∷ "END" ∷ []) false
+    ∷ row ("12345678 0,BG56BNBG96613000000001" ∷ "END" ∷ []) false
+    -- `END` missing, doubled, with something behind it on its line, and with a line behind it
+    ∷ row [] false
+    ∷ row ("1234567890,BG56BNBG96613000000001" ∷ []) false
+    ∷ row ("END" ∷ "END" ∷ []) false
+    ∷ row ("END " ∷ []) false
+    ∷ row ("END" ∷ "1234567890,BG56BNBG96613000000001" ∷ []) false
+    ∷ row ("END" ∷ "" ∷ []) false
     ∷ []
 
 pub registered : map (λ (c : Registered). isSome (register (lined (accountLines ++ c .lines)))) registers ≡ map (λ (c : Registered). c .passes) registers
-unfolding isDigit isLetter isAlnum equal fitsSign fits readEach readLeading any twice digitsFrom ibanShape withSign numeral remainder control passes lines accountLine codeLine soundAccounts sameCode isForeign soundCodes sound ofLines register
+unfolding isDigit isLetter isAlnum equal fitsSign fits readEach readLeading any twice digitsFrom ibanShape withSign numeral remainder control passes lines accountLine codeLine soundAccounts sameCode isForeign soundCodes sound ofLines beforeEnd register
 registered = refl
 
 -- ---- details
@@ -59,7 +66,7 @@ case a s v = record { account = a; second = s; means = v }
 
 -- the second register of the table
 abbrev text : List ℕ
-text = lined (accountLines ++ ("0000000000,BG56BNBG96613000000001" ∷ "1234567890,BG33AAAA12311012345678" ∷ []))
+text = lined (accountLines ++ ("0000000000,BG56BNBG96613000000001" ∷ "1234567890,BG33AAAA12311012345678" ∷ "END" ∷ []))
 
 abbrev pub details : List Judged
 details =
@@ -80,5 +87,5 @@ details =
     ∷ []
 
 pub judgements : map (λ (c : Judged). byCode (registerOf text) (ascii (c .second)) (verdict (registerOf text) (ascii (c .account)))) details ≡ map (λ (c : Judged). c .means) details
-unfolding isDigit isLetter isAlnum equal fitsSign fits readEach readLeading any twice digitsFrom ibanShape withSign numeral remainder control passes lines accountLine codeLine soundAccounts sameCode isForeign soundCodes sound ofLines register registerOf found shaped inBounds judged verdict ibanBeside lineByCode byLine byCode
+unfolding isDigit isLetter isAlnum equal fitsSign fits readEach readLeading any twice digitsFrom ibanShape withSign numeral remainder control passes lines accountLine codeLine soundAccounts sameCode isForeign soundCodes sound ofLines beforeEnd register registerOf found shaped inBounds judged verdict ibanBeside lineByCode byLine byCode
 judgements = refl

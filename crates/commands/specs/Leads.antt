@@ -8,7 +8,7 @@ use native.Mathlib.Omega.{arith}
 use lib.ListN.{length, take, drop, length-append, take-append-drop}
 use lib.Seq.{take-at, drop-at, drop-drop}
 use Rattle.rules.specs.Text.{ascii, isDigit, isAlnum, digits, every, equal, fits}
-use Rattle.rules.specs.Replay.{turns, sixDigits, textsBehind, sending, commandOf}
+use Rattle.rules.specs.Replay.{turns, sixDigits, textsBehind, single, commandOf}
 use Rattle.laws.specs.Tests.{and-left, and-right}
 use Rattle.laws.specs.Equal.{equal-true}
 use Rattle.laws.specs.Every.{every-join, every-wider}
@@ -16,13 +16,19 @@ use Rattle.laws.specs.Reading.{fits-length}
 use Rattle.rule_laws.specs.Signs.{isSign, digit-alnum, fits-alnum}
 use Rattle.rule_laws.specs.Lines.{inLine, plain-alnum}
 use Rattle.rule_laws.specs.Options.{There}
+use Rattle.commands.specs.declared.letter.Handed.{Handed}
+use Rattle.commands.specs.declared.letter.Handed.the-variants.{Message, Newer, Older}
+use Rattle.commands.specs.declared.letter.Letter.{Letter}
+use Rattle.commands.specs.declared.letter.Letter.the-variants.{Text, Other}
+use Rattle.commands.specs.Answers.{making}
+use Rattle.commands.specs.Letters.{letterOf, beginsWith, begun-with, letterIn, text-letter, other-letter, text-read, other-read}
 use Rattle.commands.specs.Numbers.{digits-there}
 
 -- ---- before a length
 
--- before the first: `M,`, or `O,`, a day and a comma
+-- before the first: the letter of one text and a comma, or `O,`, a day and a comma
 pub data Starts : List ℕ → Type 0 where
-  message : Starts (77 ∷ 44 ∷ [])
+  handing : (h : Handed) → Starts (letterOf h ∷ 44 ∷ [])
   opening : (d : List ℕ) → fits (ascii "nnnnnn") d ≡ true → Starts (79 ∷ 44 ∷ (d ++ 44 ∷ []))
 
 pub day-comma : (d : List ℕ) → fits (ascii "nnnnnn") d ≡ true → length (d ++ 44 ∷ []) ≡ 7
@@ -57,7 +63,9 @@ leads-on {q} es h l = record {
 -- no CR or LF stands there
 starts-plain : {q : List ℕ} → Starts q → every inLine q ≡ true
 unfolding every inLine isSign
-starts-plain message = refl
+starts-plain (handing Message) = refl
+starts-plain (handing Newer) = refl
+starts-plain (handing Older) = refl
 starts-plain (opening d h) = every-join inLine d (44 ∷ []) (plain-alnum d (fits-alnum (ascii "nnnnnn") d refl h)) refl
 
 earlier-plain : {ps : List ℕ} → Earlier ps → every inLine ps ≡ true
@@ -80,7 +88,7 @@ pub record Bears (q : List ℕ) : Type 0 where
 
 pub starts-bears : {q : List ℕ} → Starts q → Bears q
 unfolding commandOf equal sixDigits
-starts-bears message = record { made = sending; many = 1; line = λ u cs. refl; line-room = omega arith; text-room = omega arith }
+starts-bears (handing h) = record { made = single (making h); many = 1; line = text-read h; line-room = omega arith; text-room = omega arith }
 starts-bears (opening d h) =
     let t : There (digits d) = digits-there 6 0 d h in
     let k : length d ≡ 6 = sym (fits-length (ascii "nnnnnn") d h) in record {
@@ -101,32 +109,36 @@ pub data ReadAs (l : List ℕ) : Type 0 where
   turn-read : (d : ℕ) → length l ≡ 8 → ((cs : List ℕ) → commandOf l cs ≡ some record { command = turns d; others = cs }) → ReadAs l
   texts-read : (q u : List ℕ) → Starts q → l ≡ q ++ u → ReadAs l
 
+-- of no text's command
+module _ (l : List ℕ) (n : (h : Handed) → beginsWith (letterOf h) l ≡ false) where
+  turned : beginsWith 84 l ≡ true → (b : Bool) → fits (ascii "nnnnnn") (drop 2 l) ≡ b → ReadAs l
+  unfolding commandOf sixDigits
+  turned f false g = none-read (λ cs. other-read l n _ _ _ _ ∙ rw (f, g))
+  turned f true g =
+      let t : There (digits (drop 2 l)) = digits-there 6 0 (drop 2 l) g in
+      turn-read (t .value) (ap length (begun-with 84 l f) ∙ omega (arith, fits-length (ascii "nnnnnn") (drop 2 l) g)) (λ cs. other-read l n _ _ _ _ ∙ rw (f, g, t .is))
+
+  opened : beginsWith 84 l ≡ false → (beginsWith 79 l && equal (take 1 (drop 8 l)) (ascii ",")) ≡ true → (b : Bool) → fits (ascii "nnnnnn") (take 6 (drop 2 l)) ≡ b → ReadAs l
+  unfolding commandOf sixDigits
+  opened f o false g = none-read (λ cs. other-read l n _ _ _ _ ∙ rw (f, o, g))
+  opened f o true g =
+      let d : List ℕ = take 6 (drop 2 l) in
+      let x : drop 8 l ≡ 44 ∷ drop 9 l = sym (take-append-drop 1 (drop 8 l)) ∙ rw (equal-true _ _ (and-right (beginsWith 79 l) _ o), drop-drop 1 8 l) in
+      let y : drop 2 l ≡ d ++ 44 ∷ drop 9 l = sym (take-append-drop 6 (drop 2 l)) ∙ ap (λ (z : List ℕ). d ++ z) (drop-drop 6 2 l ∙ x) in
+      texts-read _ (drop 9 l) (opening d g) (begun-with 79 l (and-left _ _ o) ∙ ap (λ (z : List ℕ). 79 ∷ 44 ∷ z) (y ∙ sym (append-assoc d (44 ∷ []) (drop 9 l))))
+
+  other : (b : Bool) → beginsWith 84 l ≡ b → (c : Bool) → (beginsWith 79 l && equal (take 1 (drop 8 l)) (ascii ",")) ≡ c → ReadAs l
+  unfolding commandOf
+  other true f c o = turned f (fits (ascii "nnnnnn") (drop 2 l)) refl
+  other false f true o = opened f o (fits (ascii "nnnnnn") (take 6 (drop 2 l))) refl
+  other false f false o = none-read (λ cs. other-read l n _ _ _ _ ∙ rw (f, o))
+
 pub read-as : (l : List ℕ) → ReadAs l
-unfolding commandOf sixDigits
-read-as l = go (equal (take 2 l) (ascii "M,")) refl (equal (take 2 l) (ascii "T,")) refl (equal (take 2 l) (ascii "O,") && equal (take 1 (drop 8 l)) (ascii ",")) refl
+read-as l = go (letterIn l) refl
   where
-    whole : (x : List ℕ) → equal (take 2 l) x ≡ true → l ≡ x ++ drop 2 l
-    whole x e = sym (take-append-drop 2 l) ∙ ap (λ (y : List ℕ). y ++ drop 2 l) (equal-true _ _ e)
-
-    turned : equal (take 2 l) (ascii "M,") ≡ false → equal (take 2 l) (ascii "T,") ≡ true → (b : Bool) → fits (ascii "nnnnnn") (drop 2 l) ≡ b → ReadAs l
-    turned e f false g = none-read (λ cs. rw (e, f, g))
-    turned e f true g =
-        let t : There (digits (drop 2 l)) = digits-there 6 0 (drop 2 l) g in
-        turn-read (t .value) (ap length (whole (ascii "T,") f) ∙ omega (arith, fits-length (ascii "nnnnnn") (drop 2 l) g)) (λ cs. rw (e, f, g, t .is))
-
-    opened : equal (take 2 l) (ascii "M,") ≡ false → equal (take 2 l) (ascii "T,") ≡ false → (equal (take 2 l) (ascii "O,") && equal (take 1 (drop 8 l)) (ascii ",")) ≡ true → (b : Bool) → fits (ascii "nnnnnn") (take 6 (drop 2 l)) ≡ b → ReadAs l
-    opened e f o false g = none-read (λ cs. rw (e, f, o, g))
-    opened e f o true g =
-        let d : List ℕ = take 6 (drop 2 l) in
-        let x : drop 8 l ≡ 44 ∷ drop 9 l = sym (take-append-drop 1 (drop 8 l)) ∙ rw (equal-true _ _ (and-right (equal (take 2 l) (ascii "O,")) _ o), drop-drop 1 8 l) in
-        let y : drop 2 l ≡ d ++ 44 ∷ drop 9 l = sym (take-append-drop 6 (drop 2 l)) ∙ ap (λ (z : List ℕ). d ++ z) (drop-drop 6 2 l ∙ x) in
-        texts-read _ (drop 9 l) (opening d g) (whole (ascii "O,") (and-left _ _ o) ∙ ap (λ (z : List ℕ). 79 ∷ 44 ∷ z) (y ∙ sym (append-assoc d (44 ∷ []) (drop 9 l))))
-
-    go : (a : Bool) → equal (take 2 l) (ascii "M,") ≡ a → (b : Bool) → equal (take 2 l) (ascii "T,") ≡ b → (c : Bool) → (equal (take 2 l) (ascii "O,") && equal (take 1 (drop 8 l)) (ascii ",")) ≡ c → ReadAs l
-    go true e b f c o = texts-read _ (drop 2 l) message (whole (ascii "M,") e)
-    go false e true f c o = turned e f (fits (ascii "nnnnnn") (drop 2 l)) refl
-    go false e false f true o = opened e f o (fits (ascii "nnnnnn") (take 6 (drop 2 l))) refl
-    go false e false f false o = none-read (λ cs. rw (e, f, o))
+    go : (r : Letter) → letterIn l ≡ r → ReadAs l
+    go (Text h) e = texts-read _ (drop 2 l) (handing h) (text-letter l (letterIn l) refl h e)
+    go Other e = other l (other-letter l (letterIn l) refl e) (beginsWith 84 l) refl (beginsWith 79 l && equal (take 1 (drop 8 l)) (ascii ",")) refl
 
 -- ---- idle zeros
 

@@ -1,5 +1,6 @@
 pub mod Numbers
 pub mod Answers
+pub mod Letters
 pub mod Lines
 pub mod Print
 pub mod Leads

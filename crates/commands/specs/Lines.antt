@@ -6,10 +6,10 @@ use mathlib.Core.Option.{none, some}
 use Prim.Native.Nat.{ℕ, _+_, _-_, _≤_, _<_}
 use native.Mathlib.Omega.{arith}
 use lib.Dec.{leb, eqb}
-use lib.ListN.{length, getD, take}
+use lib.ListN.{length, getD, take, drop}
 use borrow.Author.Tests.{le-leb, lt-leb, eq-eqb, ne-eqb}
 use Rattle.rules.specs.Text.{ascii, equal, then, addedUp}
-use Rattle.rules.specs.Replay.{lengthOf, partedLengths, sixDigits, textsIn, withTexts, textsBehind, sending, opening, commandOf, command}
+use Rattle.rules.specs.Replay.{lengthOf, partedLengths, sixDigits, textsIn, withTexts, textsBehind, single, opening, commandOf, command}
 use Rattle.laws.specs.Parts.{cut, from, cut-step, cut-length, cut-take, cut-drop, from-take, from-drop, from-length}
 use Rattle.laws.specs.Tests.{never}
 use Rattle.lines.specs.Answers.{LineAt, line-told, no-line-told}
@@ -21,13 +21,17 @@ use Rattle.text.specs.declared.numbers.Num.the-variants.{Value, Bad}
 use Rattle.commands.specs.declared.number.Lengths.{Lengths}
 use Rattle.commands.specs.declared.number.Lengths.the-variants.{Two, Bad as NoLengths}
 use Rattle.commands.specs.declared.command.Command.{Command}
-use Rattle.commands.specs.declared.command.Command.the-variants.{Opens, Sends, Turns, End}
-use Rattle.commands.specs.Answers.{commandedOf, Placed, Commanding, messageLine, turnLine, openLine}
+use Rattle.commands.specs.declared.command.Command.the-variants.{Opens, Hands, Turns, End}
+use Rattle.commands.specs.declared.letter.Handed.{Handed}
+use Rattle.commands.specs.declared.letter.Letter.{Letter}
+use Rattle.commands.specs.declared.letter.Letter.the-variants.{Text, Other}
+use Rattle.commands.specs.Answers.{making, commandedOf, Placed, Commanding, textLine, turnLine, openLine}
+use Rattle.commands.specs.Letters.{letterOf, beginsWith, letterIn, letter-one, letter-none, text-letter, other-letter, text-read, other-read}
 use Rattle.commands.specs.Numbers.{lengthsIn, lengths-last, six-small, two-small}
 
 -- ---- a letter and a comma
 
-few : (l : List ℕ) (c : ℕ) → length l < 2 → false ≡ equal (take 2 l) (c ∷ 44 ∷ [])
+few : (l : List ℕ) (c : ℕ) → length l < 2 → false ≡ beginsWith c l
 unfolding equal
 few [] c h = refl
 few (x ∷ []) c h = go (eqb x c)
@@ -38,18 +42,18 @@ few (x ∷ []) c h = go (eqb x c)
 few (x ∷ y ∷ l) c h = absurd (omega arith)
 
 module _ (s : List ℕ) (at e c : ℕ) where
-  pub begins-short : at ≤ e → e ≤ length s → e - at < 2 → false ≡ equal (take 2 (cut s at e)) (c ∷ 44 ∷ [])
+  pub begins-short : at ≤ e → e ≤ length s → e - at < 2 → false ≡ beginsWith c (cut s at e)
   begins-short h k l = few (cut s at e) c (rw (cut-length s at e k) l)
 
   module _ (k : e ≤ length s) (l : 2 ≤ e - at) where
     two : take 2 (cut s at e) ≡ getD s at 0 ∷ getD s (at + 1) 0 ∷ []
     two = rw (cut-step s at e (omega arith) k, cut-step s (at + 1) e (omega arith) k) refl
 
-    pub begins-other : (getD s at 0 ≡ c → ⊥) → false ≡ equal (take 2 (cut s at e)) (c ∷ 44 ∷ [])
+    pub begins-other : (getD s at 0 ≡ c → ⊥) → false ≡ beginsWith c (cut s at e)
     unfolding equal
     begins-other n = rw (two, ne-eqb _ _ n) refl
 
-    pub begins-comma : getD s at 0 ≡ c → eqb (getD s (at + 1) 0) 44 ≡ equal (take 2 (cut s at e)) (c ∷ 44 ∷ [])
+    pub begins-comma : getD s at 0 ≡ c → eqb (getD s (at + 1) 0) 44 ≡ beginsWith c (cut s at e)
     unfolding equal
     begins-comma n = rw (two, eq-eqb _ _ n) (go (eqb (getD s (at + 1) 0) 44))
       where
@@ -57,7 +61,7 @@ module _ (s : List ℕ) (at e c : ℕ) where
         go true = refl
         go false = refl
 
-  pub begins-long : (t : Bool) → t ≡ equal (take 2 (cut s at e)) (c ∷ 44 ∷ []) → t ≡ true → at ≤ e → e + 2 ≤ length s → at + 2 ≤ e
+  pub begins-long : (t : Bool) → t ≡ beginsWith c (cut s at e) → t ≡ true → at ≤ e → e + 2 ≤ length s → at + 2 ≤ e
   begins-long t u d h k = go (leb 2 (e - at)) refl
     where
       go : (b : Bool) → leb 2 (e - at) ≡ b → at + 2 ≤ e
@@ -75,26 +79,26 @@ module _ (s : List ℕ) (at : ℕ) (f : List (List ℕ) → Rattle.rules.specs.
   unfolding withTexts
   texts-whole h = rw (from-length s at, le-leb _ _ h, from-drop) refl
 
--- ---- `M,length`
+-- ---- one length and its text
 
-module _ (s : List ℕ) (at e : ℕ) (q : Num) (u : numOf q ≡ lengthOf (cut s (at + 2) e)) where
-  pub message-none : q ≡ Bad → Commanding s (messageLine s at e) End
-  unfolding messageLine textsBehind commandedOf Placed
-  message-none w = record { same = let z : lengthOf (cut s (at + 2) e) ≡ none = sym u ∙ ap numOf w in rw (lengths-last (cut s (at + 2) e), z) refl; places = tt }
+module _ (h : Handed) (s : List ℕ) (at e : ℕ) (q : Num) (u : numOf q ≡ lengthOf (cut s (at + 2) e)) where
+  pub text-none : q ≡ Bad → Commanding s (textLine h s at e) End
+  unfolding textLine textsBehind commandedOf Placed
+  text-none w = record { same = let z : lengthOf (cut s (at + 2) e) ≡ none = sym u ∙ ap numOf w in rw (lengths-last (cut s (at + 2) e), z) refl; places = tt }
 
   module _ (n : ℕ) (w : q ≡ Value n) where
-    message-is : messageLine s at e ≡ withTexts sending (n ∷ []) (from s (e + 2))
-    unfolding messageLine textsBehind
-    message-is = let z : lengthOf (cut s (at + 2) e) ≡ some n = sym u ∙ ap numOf w in rw (lengths-last (cut s (at + 2) e), z) refl
+    text-is : textLine h s at e ≡ withTexts (single (making h)) (n ∷ []) (from s (e + 2))
+    unfolding textLine textsBehind
+    text-is = let z : lengthOf (cut s (at + 2) e) ≡ some n = sym u ∙ ap numOf w in rw (lengths-last (cut s (at + 2) e), z) refl
 
-    pub message-short : length s - (e + 2) < n → Commanding s (messageLine s at e) End
+    pub text-short : length s - (e + 2) < n → Commanding s (textLine h s at e) End
     unfolding commandedOf Placed addedUp
-    message-short h = record { same = sym (message-is ∙ texts-short s (e + 2) sending (n ∷ []) (omega arith)); places = tt }
+    text-short l = record { same = sym (text-is ∙ texts-short s (e + 2) (single (making h)) (n ∷ []) (omega arith)); places = tt }
 
-    pub message-whole : e + 2 ≤ length s → n ≤ length s - (e + 2) → Commanding s (messageLine s at e) (Sends (e + 2) (e + 2 + n))
-    unfolding commandedOf Placed addedUp textsIn sending
-    message-whole k h = record {
-      same = let z : e + 2 + addedUp (n ∷ []) ≡ e + 2 + n = omega arith in sym (message-is ∙ texts-whole s (e + 2) sending (n ∷ []) (omega arith) ∙ rw (z, from-take));
+    pub text-whole : e + 2 ≤ length s → n ≤ length s - (e + 2) → Commanding s (textLine h s at e) (Hands h (e + 2) (e + 2 + n))
+    unfolding commandedOf Placed addedUp textsIn single
+    text-whole k l = record {
+      same = let z : e + 2 + addedUp (n ∷ []) ≡ e + 2 + n = omega arith in sym (text-is ∙ texts-whole s (e + 2) (single (making h)) (n ∷ []) (omega arith) ∙ rw (z, from-take));
       places = (omega arith, omega arith);
     }
 
@@ -165,27 +169,35 @@ module _ (s : List ℕ) (at e : ℕ) where
 
 -- ---- by its letter
 
-module _ (s : List ℕ) (at e : ℕ) where
-  pub by-message : {r : Command} (t : Bool) → t ≡ equal (take 2 (cut s at e)) (77 ∷ 44 ∷ []) → t ≡ true → Commanding s (messageLine s at e) r
-      → Commanding s (commandOf (cut s at e) (from s (e + 2))) r
-  unfolding commandOf messageLine
-  by-message t u d c = record { same = rw (← u, d, cut-drop) (c .same); places = c .places }
+module _ (s : List ℕ) (at e : ℕ) (q : Letter) (w : q ≡ letterIn (cut s at e)) where
+  pub text-long : (h : Handed) → q ≡ Text h → at ≤ e → e + 2 ≤ length s → at + 2 ≤ e
+  text-long h d a k = omega (arith, ap length (text-letter (cut s at e) q w h d), cut-length s at e (omega arith))
 
-  module _ (t : Bool) (u : t ≡ equal (take 2 (cut s at e)) (77 ∷ 44 ∷ [])) (d : t ≡ false) where
-    pub by-turn : {r : Command} (t₂ : Bool) → t₂ ≡ equal (take 2 (cut s at e)) (84 ∷ 44 ∷ []) → t₂ ≡ true → Commanding s (turnLine s at e) r
-        → Commanding s (commandOf (cut s at e) (from s (e + 2))) r
+  pub by-text : (h : Handed) → q ≡ Text h → {r : Command} → Commanding s (textLine h s at e) r → Commanding s (commandOf (cut s at e) (from s (e + 2))) r
+  unfolding textLine
+  by-text h d c = record {
+    same = c .same ∙ sym (ap (λ (x : List ℕ). commandOf x (from s (e + 2))) (text-letter (cut s at e) q w h d) ∙ text-read h (drop 2 (cut s at e)) (from s (e + 2)) ∙ rw cut-drop);
+    places = c .places;
+  }
+
+  -- of no text's command
+  module _ (d : q ≡ Other) where
+    no-text : (h : Handed) → beginsWith (letterOf h) (cut s at e) ≡ false
+    no-text = other-letter (cut s at e) q w d
+
+    pub by-turn : {r : Command} (t : Bool) → t ≡ beginsWith 84 (cut s at e) → t ≡ true → Commanding s (turnLine s at e) r → Commanding s (commandOf (cut s at e) (from s (e + 2))) r
     unfolding commandOf turnLine
-    by-turn t₂ u₂ d₂ c = record { same = rw (← u, d, ← u₂, d₂, cut-drop) (c .same); places = c .places }
+    by-turn t u f c = record { same = c .same ∙ sym (other-read (cut s at e) no-text _ _ _ _ ∙ rw (← u, f, cut-drop)); places = c .places }
 
-    module _ (t₂ : Bool) (u₂ : t₂ ≡ equal (take 2 (cut s at e)) (84 ∷ 44 ∷ [])) (d₂ : t₂ ≡ false) where
-      pub by-open : {r : Command} (t₃ : Bool) → t₃ ≡ equal (take 2 (cut s at e)) (79 ∷ 44 ∷ []) → t₃ ≡ true → Commanding s (openLine s at e) r
+    module _ (t : Bool) (u : t ≡ beginsWith 84 (cut s at e)) (f : t ≡ false) where
+      pub by-open : {r : Command} (t₂ : Bool) → t₂ ≡ beginsWith 79 (cut s at e) → t₂ ≡ true → Commanding s (openLine s at e) r
           → Commanding s (commandOf (cut s at e) (from s (e + 2))) r
       unfolding commandOf openLine
-      by-open t₃ u₃ d₃ c = record { same = rw (← u, d, ← u₂, d₂, ← u₃, d₃, cut-drop, cut-drop, cut-drop) (c .same); places = c .places }
+      by-open t₂ u₂ f₂ c = record { same = c .same ∙ sym (other-read (cut s at e) no-text _ _ _ _ ∙ rw (← u, f, ← u₂, f₂, cut-drop, cut-drop, cut-drop)); places = c .places }
 
-      pub by-none : (t₃ : Bool) → t₃ ≡ equal (take 2 (cut s at e)) (79 ∷ 44 ∷ []) → t₃ ≡ false → Commanding s (commandOf (cut s at e) (from s (e + 2))) End
+      pub by-none : (t₂ : Bool) → t₂ ≡ beginsWith 79 (cut s at e) → t₂ ≡ false → Commanding s (commandOf (cut s at e) (from s (e + 2))) End
       unfolding commandOf commandedOf Placed
-      by-none t₃ u₃ d₃ = record { same = rw (← u, d, ← u₂, d₂, ← u₃, d₃) refl; places = tt }
+      by-none t₂ u₂ f₂ = record { same = sym (other-read (cut s at e) no-text _ _ _ _ ∙ rw (← u, f, ← u₂, f₂)); places = tt }
 
 -- ---- by its line
 
@@ -204,4 +216,4 @@ module _ (s : List ℕ) (at : ℕ) (l : Next) (h : LineAt s at l) where
   unfolding command commandedOf Placed
   command-none k = record { same = rw (no-line-told s at l h k .same) refl; places = tt }
 
-pub ruleset commanded = (begins-short, begins-other, begins-comma, begins-long, message-none, message-short, message-whole, turn-none, turn-day, open-short, open-other, open-no-day, open-no-lengths, open-cut, open-whole, by-message, by-turn, by-open, by-none, line-start, line-room, command-line, command-none, six-small, two-small)
+pub ruleset commanded = (begins-short, begins-other, begins-comma, begins-long, letter-one, letter-none, text-long, text-none, text-short, text-whole, turn-none, turn-day, open-short, open-other, open-no-day, open-no-lengths, open-cut, open-whole, by-text, by-turn, by-open, by-none, line-start, line-room, command-line, command-none, six-small, two-small)

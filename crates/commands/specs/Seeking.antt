@@ -12,9 +12,15 @@ use Rattle.rules.specs.Text.{ascii, isDigit, every, fits, fitsSign}
 use Rattle.laws.specs.Parts.{cut, from, from-take, from-cut, from-step, from-done, cut-join, cut-length}
 use Rattle.laws.specs.Places.{Passed}
 use Rattle.laws.specs.Tests.{and-left, and-right, cond-left, cond-right, never}
+use Rattle.laws.specs.Equal.{equal-same}
 use Rattle.laws.specs.Every.{every-append}
 use Rattle.laws.specs.Reading.{fits-length, fits-front, fits-behind}
-use Rattle.commands.specs.Leads.{Starts, Starts.message, Starts.opening, day-comma, Earlier, Earlier.nothing, Earlier.lengths, Leads, leads-on, NoIdleIn, NoIdle}
+use Rattle.commands.specs.declared.letter.Handed.{Handed}
+use Rattle.commands.specs.declared.letter.Handed.the-variants.{Message, Newer, Older}
+use Rattle.commands.specs.declared.letter.Letter.{Letter}
+use Rattle.commands.specs.declared.letter.Letter.the-variants.{Text, Other}
+use Rattle.commands.specs.Letters.{letterOf, beginsWith, letterIn, text-letter, other-letter}
+use Rattle.commands.specs.Leads.{Starts, Starts.handing, Starts.opening, day-comma, Earlier, Earlier.nothing, Earlier.lengths, Leads, leads-on, NoIdleIn, NoIdle}
 
 -- ---- patterns
 
@@ -51,10 +57,15 @@ pub record Seeking (w : List ℕ) (p : ℕ) : Type 0 where
   pub rest : NoIdleIn (from w p) → NoIdle w
 
 -- a line has one start
+not-opening : (h : Handed) → letterOf h ≡ 79 → ⊥
+not-opening Message e = omega arith
+not-opening Newer e = omega arith
+not-opening Older e = omega arith
+
 starts-one : {q r : List ℕ} (x y : List ℕ) → Starts q → Starts r → q ++ x ≡ r ++ y → x ≡ y
-starts-one x y message message e = cc
-starts-one x y message (opening d h) e = let z : _≡_ {A = ℕ} 77 79 = cc in absurd (omega arith)
-starts-one x y (opening d h) message e = let z : _≡_ {A = ℕ} 79 77 = cc in absurd (omega arith)
+starts-one x y (handing g) (handing h) e = ap (drop 2) e
+starts-one x y (handing g) (opening d h) e = absurd (not-opening g cc)
+starts-one x y (opening d h) (handing g) e = absurd (not-opening g cc)
 starts-one x y (opening c h) (opening d k) e =
     sym (drop-at (c ++ 44 ∷ []) x 7 (day-comma c h)) ∙ ap (drop 9) e ∙ drop-at (d ++ 44 ∷ []) y 7 (day-comma d k)
 
@@ -78,24 +89,27 @@ opening-of x h =
     subst Starts (sym z) (opening d b)
 
 -- the first, by the tests of the code
-module _ (w : List ℕ) (t : Bool) (u : t ≡ fits (ascii "M,") (cut w 0 2)) where
-  pub first-message : t ≡ true → Seeking w 2
-  unfolding cut every itself
-  first-message h = seek-start w (ascii "M,") 2 message refl (fits-itself (ascii "M,") (take 2 w) refl (sym u ∙ h))
+module _ (w : List ℕ) (l : Letter) (u : l ≡ letterIn (cut w 0 (length w))) where
+  letter-is : l ≡ letterIn w
+  unfolding from
+  letter-is = u ∙ ap letterIn (from-cut w 0 (length w) (omega arith))
 
-  module _ (f : t ≡ false) (t₂ : Bool) (u₂ : t₂ ≡ fits (ascii "O,nnnnnn,") (cut w 0 9)) where
-    pub first-opening : t₂ ≡ true → Seeking w 9
+  pub first-text : (h : Handed) → l ≡ Text h → Seeking w 2
+  first-text h e = seek-start w (letterOf h ∷ 44 ∷ []) 2 (handing h) refl (ap (take 2) (text-letter w l letter-is h e))
+
+  module _ (f : l ≡ Other) (t : Bool) (v : t ≡ fits (ascii "O,nnnnnn,") (cut w 0 9)) where
+    pub first-opening : t ≡ true → Seeking w 9
     unfolding cut
-    first-opening h = let k : fits (ascii "O,nnnnnn,") (take 9 w) ≡ true = sym u₂ ∙ h in seek-start w (take 9 w) 9 (opening-of (take 9 w) k) (sym (fits-length (ascii "O,nnnnnn,") (take 9 w) k)) refl
+    first-opening h = let k : fits (ascii "O,nnnnnn,") (take 9 w) ≡ true = sym v ∙ h in seek-start w (take 9 w) 9 (opening-of (take 9 w) k) (sym (fits-length (ascii "O,nnnnnn,") (take 9 w) k)) refl
 
-    pub first-none : t₂ ≡ false → Seeking w (length w)
+    pub first-none : t ≡ false → Seeking w (length w)
     unfolding cut fits fitsSign
     first-none h = record { within = omega arith; leads = λ (l : length w < length w). absurd (omega arith); rest = λ _. record { none = λ q x s e. absurd (no q x s e) } }
       where
         no : (q x : List ℕ) → Starts q → w ≡ q ++ x → ⊥
-        no q x message e = never (sym f ∙ u ∙ ap (λ (y : List ℕ). fits (ascii "M,") (cut y 0 2)) e)
+        no q x (handing g) e = never (sym (other-letter w l letter-is f g) ∙ ap (beginsWith (letterOf g)) e ∙ equal-same (letterOf g ∷ 44 ∷ []))
         no q x (opening d k) e =
-            never (sym h ∙ u₂ ∙ ap (λ (y : List ℕ). fits (ascii "O,nnnnnn,") (cut y 0 9)) e ∙ ap (fits (ascii "nnnnnn,")) (take-at (d ++ 44 ∷ []) x 7 (day-comma d k)) ∙ fits-join (ascii "nnnnnn") d (ascii ",") (44 ∷ []) k)
+            never (sym h ∙ v ∙ ap (λ (y : List ℕ). fits (ascii "O,nnnnnn,") (cut y 0 9)) e ∙ ap (fits (ascii "nnnnnn,")) (take-at (d ++ 44 ∷ []) x 7 (day-comma d k)) ∙ fits-join (ascii "nnnnnn") d (ascii ",") (44 ∷ []) k)
 
 -- the place r behind p
 pub record NextLength (w : List ℕ) (p r : ℕ) : Type 0 where
@@ -214,4 +228,4 @@ module _ (w : List ℕ) (p : ℕ) (s : Seeking w p) where
   pub idle-none : length w ≤ p → IdleAt w p
   idle-none l = record { within = s .within; here = λ (k : p < length w). absurd (omega arith); none = λ _. s .rest (subst NoIdleIn (sym (from-done w p l)) idle-end) }
 
-pub ruleset seeking = (first-message, first-opening, first-none, next-end, next-none, next-comma, idle-found, seek-on, idle-none)
+pub ruleset seeking = (first-text, first-opening, first-none, next-end, next-none, next-comma, idle-found, seek-on, idle-none)

@@ -1,49 +1,36 @@
 // Commands.
+use crate::letter::Handed;
+use crate::letter::Letter;
+use crate::letter::begins;
+use crate::letter::letter_at;
 use crate::number::Lengths;
 use crate::number::read_length;
 use crate::number::six_digits;
 use crate::number::two_lengths;
 use lines::Next;
 use text::Num;
-ghost use mathlib.Core.Path.{_≡_};
-ghost use mathlib.Core.List.{[], _∷_};
 ghost use Prim.Native.Nat.{_+_, _≤_};
-ghost use lib.ListN.{length, take};
-ghost use Rattle.rules.specs.Text.{equal};
+ghost use lib.ListN.{length};
 ghost use Rattle.rules.specs.Replay.{commandOf, command};
 ghost use Rattle.laws.specs.Parts.{cut, from};
-ghost use Rattle.commands.specs.Answers.{Commanding, messageLine, turnLine, openLine};
+ghost use Rattle.commands.specs.Answers.{Commanding, textLine, turnLine, openLine};
 
 // A command, by its places in the input.
 pub enum Command {
     // An opening: its day, and where its register begins, where that ends and its holiday list begins, and where that ends.
     Opens(u32, usize, usize, usize),
-    // Where a message begins and ends.
-    Sends(usize, usize),
+    // One text: what it is, where it begins and where it ends.
+    Hands(Handed, usize, usize),
     // A turn: its day, and the place behind it.
     Turns(u32, usize),
     // There is no command.
     End,
 }
 
-// Does the line begin with the letter and a comma?
-fn begins(s: &[u8], at: usize, e: usize, c: u8) -> bool
-    requires { ⌜ (at ≤ e) × (e ≤ length (now s)) ⌝ }
-    ensures { λ r. ⌜ r ≡ equal (take 2 (cut (now (s .entry)) at e)) (c ∷ 44 ∷ []) ⌝ }
-{
-    if e - at < 2 {
-        return false;
-    }
-    if s[at] != c {
-        return false;
-    }
-    s[at + 1] == 44
-}
-
-// `M,length` and a message.
-fn message_command(s: &[u8], at: usize, e: usize) -> Command
+// `M,length`, `N,length` or `P,length`, and the text.
+fn text_command(s: &[u8], at: usize, e: usize, h: Handed) -> Command
     requires { ⌜ (at + 2 ≤ e) × (e + 2 ≤ length (now s)) ⌝ }
-    ensures { λ r. ⌜ Commanding (now (s .entry)) (messageLine (now (s .entry)) at e) r ⌝ }
+    ensures { λ r. ⌜ Commanding (now (s .entry)) (textLine h (now (s .entry)) at e) r ⌝ }
 {
     let Num::Value(n) = read_length(s, at + 2, e) else {
         return Command::End;
@@ -52,7 +39,7 @@ fn message_command(s: &[u8], at: usize, e: usize) -> Command
     if s.len() - start < n as usize {
         return Command::End;
     }
-    Command::Sends(start, start + n as usize)
+    Command::Hands(h, start, start + n as usize)
 }
 
 // `T,day`.
@@ -96,8 +83,8 @@ fn line_command(s: &[u8], at: usize, e: usize) -> Command
     requires { ⌜ (at ≤ e) × (e + 2 ≤ length (now s)) ⌝ }
     ensures { λ r. ⌜ Commanding (now (s .entry)) (commandOf (cut (now (s .entry)) at e) (from (now (s .entry)) (e + 2))) r ⌝ }
 {
-    if begins(s, at, e, b'M') {
-        return message_command(s, at, e);
+    if let Letter::Text(h) = letter_at(s, at, e) {
+        return text_command(s, at, e, h);
     }
     if begins(s, at, e, b'T') {
         return turn_command(s, at, e);

@@ -1,4 +1,6 @@
 // Room made in a window of the input.
+use crate::letter::Letter;
+use crate::letter::letter_at;
 ghost use Prim.Native.Nat.{_+_, _<_, _≤_};
 ghost use lib.ListN.{length};
 ghost use Rattle.laws.specs.Places.{Passed};
@@ -9,7 +11,7 @@ ghost use Rattle.commands.specs.Window.{isNull, Roomed};
 fn first_length(w: &[u8]) -> usize
     ensures { λ r. ⌜ Seeking (now (w .entry)) r ⌝ }
 {
-    if text::fits_pattern(b"M,", w, 0) {
+    if let Letter::Text(_) = letter_at(w, 0, w.len()) {
         return 2;
     }
     if text::fits_pattern(b"O,nnnnnn,", w, 0) {

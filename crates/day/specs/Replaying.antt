@@ -7,16 +7,17 @@ use Prim.Native.Nat.{ℕ, _+_, _-_, _≤_, _<_, _^_}
 use native.Mathlib.Omega.{arith}
 use lib.ListN.{length}
 use Rattle.rules.specs.Engine.{Engine}
-use Rattle.rules.specs.Calls.{Answer, openCall, messageCall, turnCall}
+use Rattle.rules.specs.Calls.{Answer, openCall, turnCall}
 use Rattle.rules.specs.Area.{holds, areaSize}
 use Rattle.rules.specs.Replay as R
 use Rattle.rules.specs.Replay.{Commanded, command, called, printed, replayFrom}
 use Rattle.laws.specs.Parts.{cut, from, from-all}
 use Rattle.laws.specs.Writing.{Wrote, wrote-length, Left, left-turn, left-none}
 use Rattle.laws.specs.Tests.{never}
-use Rattle.commands.specs.Answers.{commandedOf, Placed, Commanding}
+use Rattle.commands.specs.Answers.{making, commandedOf, Placed, Commanding}
+use Rattle.commands.specs.declared.letter.Handed.{Handed}
 use Rattle.commands.specs.declared.command.Command.{Command}
-use Rattle.commands.specs.declared.command.Command.the-variants.{Opens, Sends, Turns, End}
+use Rattle.commands.specs.declared.command.Command.the-variants.{Opens, Hands, Turns, End}
 use Rattle.day.specs.declared.call.Outcome.{Outcome}
 use Rattle.day.specs.declared.replay.Step.{Step}
 use Rattle.day.specs.declared.replay.Step.the-variants.{Done, Nothing}
@@ -28,27 +29,27 @@ use Rattle.day.specs.Told.{CallTold, answerText, answer-printed, answer-
 -- the place behind a command
 unfoldable pub nextOf : Command → ℕ
 nextOf (Opens day a b c) = c
-nextOf (Sends a b) = b
+nextOf (Hands h a b) = b
 nextOf (Turns day n) = n
 nextOf End = 0
 
 unfoldable pub isEnd : Command → Bool
 isEnd (Opens day a b c) = false
-isEnd (Sends a b) = false
+isEnd (Hands h a b) = false
 isEnd (Turns day n) = false
 isEnd End = true
 
 -- the card's answer to a command
 unfoldable pub answerTo : List ℕ → Command → ℕ → Option Engine → Answer
 answerTo s (Opens day a b c) room engine = openCall areaSize engine (cut s a b) (cut s b c) day
-answerTo s (Sends a b) room engine = messageCall room engine (cut s a b)
+answerTo s (Hands h a b) room engine = called room engine (making h (cut s a b))
 answerTo s (Turns day n) room engine = turnCall room engine day
 answerTo s End room engine = turnCall room engine 0
 
 pub next-within : (s : List ℕ) (x : Option Commanded) (c : Command) → Commanding s x c → nextOf c ≤ length s
 unfolding nextOf Placed
 next-within s x (Opens day a b c) w = w .places .1 .1
-next-within s x (Sends a b) w = w .places .1
+next-within s x (Hands h a b) w = w .places .1
 next-within s x (Turns day n) w = w .places
 next-within s x End w = omega arith
 
@@ -62,7 +63,7 @@ record CommandFound (s : List ℕ) (x : Option Commanded) (c : Command) (room : 
 found-by : (s : List ℕ) (x : Option Commanded) (c : Command) (room : ℕ) (engine : Option Engine) → Commanding s x c → isEnd c ≡ false → CommandFound s x c room engine
 unfolding isEnd answerTo nextOf commandedOf called
 found-by s x (Opens day a b c) room engine w e = record { found = record { command = R.opens day (cut s a b) (cut s b c); others = from s c }; stands = sym (w .same); others = refl; answers = refl }
-found-by s x (Sends a b) room engine w e = record { found = record { command = R.sends (cut s a b); others = from s b }; stands = sym (w .same); others = refl; answers = refl }
+found-by s x (Hands h a b) room engine w e = record { found = record { command = making h (cut s a b); others = from s b }; stands = sym (w .same); others = refl; answers = refl }
 found-by s x (Turns day n) room engine w e = record { found = record { command = R.turns day; others = from s n }; stands = sym (w .same); others = refl; answers = refl }
 found-by s x End room engine w e = never (sym e)
 
@@ -106,7 +107,7 @@ module _ (s : List ℕ) (at : ℕ) (c : Command) (w : Commanding s (command (fro
   nothing : (c : Command) → Commanding s (command (from s at)) c → isEnd c ≡ true → command (from s at) ≡ none
   unfolding isEnd commandedOf
   nothing (Opens day a b k) v e = never e
-  nothing (Sends a b) v e = never e
+  nothing (Hands h a b) v e = never e
   nothing (Turns day n) v e = never e
   nothing End v e = sym (v .same)
 
@@ -174,9 +175,9 @@ module _ (s : List ℕ) (c : Command) {r : Outcome} {area area' out out' : List 
   unfolding answerTo
   perform-open day a b k e t = rw e t
 
-  pub perform-message : (a b : ℕ) → c ≡ Sends a b → CallTold (messageCall (length out) (holds area) (cut s a b)) r area area' out out' → CallTold (answerTo s c (length out) (holds area)) r area area' out out'
+  pub perform-text : (h : Handed) (a b : ℕ) → c ≡ Hands h a b → CallTold (called (length out) (holds area) (making h (cut s a b))) r area area' out out' → CallTold (answerTo s c (length out) (holds area)) r area area' out out'
   unfolding answerTo
-  perform-message a b e t = rw e t
+  perform-text h a b e t = rw e t
 
   pub perform-turn : (day n : ℕ) → c ≡ Turns day n → CallTold (turnCall (length out) (holds area) day) r area area' out out' → CallTold (answerTo s c (length out) (holds area)) r area area' out out'
   unfolding answerTo
@@ -199,22 +200,22 @@ module _ (s : List ℕ) (c : Command) (p : Placed s c) where
   unfolding Placed
   opens-room day a b k e = (subst (Placed s) e p) .1 .1
 
-  pub sends-order : (a b : ℕ) → c ≡ Sends a b → a ≤ b
+  pub hands-order : (h : Handed) (a b : ℕ) → c ≡ Hands h a b → a ≤ b
   unfolding Placed
-  sends-order a b e = (subst (Placed s) e p) .0
+  hands-order h a b e = (subst (Placed s) e p) .0
 
-  pub sends-room : (a b : ℕ) → c ≡ Sends a b → b ≤ length s
+  pub hands-room : (h : Handed) (a b : ℕ) → c ≡ Hands h a b → b ≤ length s
   unfolding Placed
-  sends-room a b e = (subst (Placed s) e p) .1
+  hands-room h a b e = (subst (Placed s) e p) .1
 
 module _ (c : Command) where
   pub end-opens : (day a b k : ℕ) → c ≡ Opens day a b k → false ≡ isEnd c
   unfolding isEnd
   end-opens day a b k e = rw e refl
 
-  pub end-sends : (a b : ℕ) → c ≡ Sends a b → false ≡ isEnd c
+  pub end-hands : (h : Handed) (a b : ℕ) → c ≡ Hands h a b → false ≡ isEnd c
   unfolding isEnd
-  end-sends a b e = rw e refl
+  end-hands h a b e = rw e refl
 
   pub end-turns : (day n : ℕ) → c ≡ Turns day n → false ≡ isEnd c
   unfolding isEnd
@@ -228,9 +229,9 @@ module _ (c : Command) where
   unfolding nextOf
   next-opens day a b k e = rw e refl
 
-  pub next-sends : (a b : ℕ) → c ≡ Sends a b → b ≡ nextOf c
+  pub next-hands : (h : Handed) (a b : ℕ) → c ≡ Hands h a b → b ≡ nextOf c
   unfolding nextOf
-  next-sends a b e = rw e refl
+  next-hands h a b e = rw e refl
 
   pub next-turns : (day n : ℕ) → c ≡ Turns day n → n ≡ nextOf c
   unfolding nextOf
@@ -240,4 +241,4 @@ module _ (c : Command) where
   unfolding nextOf
   next-end e = rw e refl
 
-pub ruleset replaying = (perform-open, perform-message, perform-turn, perform-end, opens-order, opens-behind, opens-room, sends-order, sends-room, end-opens, end-sends, end-turns, end-end, next-opens, next-sends, next-turns, next-end, step-none, step-done, replay-starts, replay-out, replay-ends, replay-goes)
+pub ruleset replaying = (perform-open, perform-text, perform-turn, perform-end, opens-order, opens-behind, opens-room, hands-order, hands-room, end-opens, end-hands, end-turns, end-end, next-opens, next-hands, next-turns, next-end, step-none, step-done, replay-starts, replay-out, replay-ends, replay-goes)

@@ -2,20 +2,28 @@
 use mathlib.Core.Path.{_≡_, refl, ap, _∙_}
 use mathlib.Core.Bool.{Bool, true, false}
 use mathlib.Core.List.{List, []}
-use mathlib.Core.Option.{some}
+use mathlib.Core.Option.{none, some}
 use Prim.Native.Nat.{ℕ, _≤_}
 use native.Mathlib.Omega.{arith}
 use borrow.Author.Tests.{eqb-true, eq-eqb, le-leb}
 use lib.Dec.{eqb}
 use lib.IntN.{ℤ}
 use lib.ListN.{length, take, drop, length-append, length-drop}
+use lib.Seq.{take-at}
 use Rattle.rules.specs.Text.{over}
 use Rattle.rules.specs.Messages.{read}
 use Rattle.rules.specs.Engine.{Engine}
 use Rattle.rules.specs.Calls.{Stop, Answer, refused, answered, firstOf, openStops, acceptedOpening, openCall, messageStops, messageCall, bothOf, acceptedMessage, turnStops, turnCall, acceptedTurn}
-use Rattle.rules.specs.Area.{holds, Result, stored, onAreas, cardOpen, cardMessage, cardTurn, areaSize}
+use Rattle.rules.specs.Moves.{withEnd, withoutEnd, newerStops, olderStops, writing, newerCall, olderCall}
+use Rattle.rules.specs.Area.{holds, Result, stored, onAreas, cardOpen, cardMessage, cardTurn, cardNewer, cardOlder, areaSize}
+use Rattle.rules.specs.Services.{Service, newer, older, serviceCall, beside, serviceResult}
+use Rattle.rules.specs.Replay.{toNewer, toOlder, called}
 use Rattle.rule_laws.specs.Conditions.{answered-accepted, answered-refused}
+use Rattle.rule_laws.specs.Moves.{newer-clear, older-clear}
 use Rattle.rule_laws.specs.Options.{There}
+use Rattle.commands.specs.declared.letter.Handed.{Handed}
+use Rattle.commands.specs.declared.letter.Handed.the-variants.{Message, Newer, Older}
+use Rattle.commands.specs.Answers.{making}
 use Rattle.engine_laws.specs.Keeps.{opened-within}
 use Rattle.engine_laws.specs.Calls.{Done, done-holds, done-text, done-length, Takes, message-there, message-from, Turns, turn-there, turn-from}
 
@@ -91,7 +99,7 @@ module _ (area : List ℕ) (l : areaSize ≤ length area) where
         let r : Result = onAreas (acceptedMessage (h .value) (w .message)) area out in
         rw e (same-done {r = r} (on-zero (acceptedMessage (h .value) (w .message)) area out refl) l (w .clear .fits) (rw (answered-accepted _ (holds area) (bothOf (holds area) (read s)) k, e) at (w .done)))
 
-    pub same-message : SameAnswer (messageCall (length out) (holds area) s) (cardMessage s area out) area out
+    same-message : SameAnswer (messageCall (length out) (holds area) s) (cardMessage s area out) area out
     unfolding messageCall cardMessage
     same-message = same-answered (messageStops (length out) (holds area) s) (bothOf (holds area) (read s)) area out message-same
 
@@ -108,3 +116,39 @@ module _ (area : List ℕ) (l : areaSize ≤ length area) where
     pub same-turn : SameAnswer (turnCall (length out) (holds area) day) (cardTurn day area out) area out
     unfolding turnCall cardTurn
     same-turn = same-answered (turnStops (length out) (holds area) day) (acceptedTurn (holds area) day) area out turn-same
+
+-- ---- calls that change no engine
+
+-- a text written to the output alone: the answer is the same whatever the area holds
+module _ (ss : List Stop) (area out text : List ℕ) where
+  beside-same : (firstOf ss ≡ 0 → length text ≤ length out) → SameAnswer (answered ss (holds area) (writing (holds area) text)) (beside area (onAreas (answered ss none (writing none text)) [] out)) area out
+  unfolding beside onAreas over
+  beside-same f = go (eqb (firstOf ss) 0) refl
+    where
+      go : (t : Bool) → eqb (firstOf ss) 0 ≡ t → SameAnswer (answered ss (holds area) (writing (holds area) text)) (beside area (onAreas (answered ss none (writing none text)) [] out)) area out
+      go true n =
+          let z : firstOf ss ≡ 0 = eqb-true _ 0 n in
+          rw (answered-accepted ss (holds area) (writing (holds area) text) z, answered-accepted ss none (writing none text) z)
+          record { number = refl; difference = refl; text = take-at text (drop (length text) out) (length text) refl; next = refl; size = refl; room = over-length text out (f z); fits = f z }
+      go false n =
+          rw (answered-refused ss (holds area) (writing (holds area) text) (firstOf ss) refl n, answered-refused ss none (writing none text) (firstOf ss) refl n, n)
+          record { number = refl; difference = refl; text = refl; next = refl; size = refl; room = refl; fits = omega arith }
+
+same-service : (area out : List ℕ) (v : Service) → SameAnswer (serviceCall (length out) (holds area) v) (serviceResult v area out) area out
+unfolding serviceCall serviceResult newerCall cardNewer olderCall cardOlder
+same-service area out (newer s) = beside-same (newerStops (length out) s) area out (withEnd s) (λ k. newer-clear (length out) s k .fits)
+same-service area out (older s) = beside-same (olderStops (length out) s) area out (withoutEnd s) (λ k. older-clear (length out) s k .fits)
+
+-- ---- the call of a text
+
+-- what it does to area and output
+unfoldable pub textResult : Handed → List ℕ → List ℕ → List ℕ → Result
+textResult Message s area out = cardMessage s area out
+textResult Newer s area out = serviceResult (newer s) area out
+textResult Older s area out = serviceResult (older s) area out
+
+pub same-text : (area : List ℕ) → areaSize ≤ length area → (out : List ℕ) (h : Handed) (s : List ℕ) → SameAnswer (called (length out) (holds area) (making h s)) (textResult h s area out) area out
+unfolding called making toNewer toOlder textResult
+same-text area l out Message s = same-message area l out s
+same-text area l out Newer s = same-service area out (newer s)
+same-text area l out Older s = same-service area out (older s)

@@ -12,14 +12,18 @@ use mir.Val.{toZ, ofZ}
 use mir.Syntax.{w64}
 use mir.Facts.{toZ-ofZ}
 use Rattle.rules.specs.Text.{ascii, decimal, width}
-use Rattle.rules.specs.Calls.{Answer, openCall, messageCall, turnCall}
-use Rattle.rules.specs.Replay.{signed, printed}
-use Rattle.rules.specs.Area.{holds, Result, cardOpen, cardMessage, cardTurn, areaSize}
+use Rattle.rules.specs.Calls.{Answer, openCall, turnCall}
+use Rattle.rules.specs.Replay.{signed, printed, called}
+use Rattle.rules.specs.Area.{holds, Result, cardOpen, cardMessage, cardTurn, cardNewer, cardOlder, areaSize}
+use Rattle.rules.specs.Services.{beside, serviceResult}
 use Rattle.laws.specs.Parts.{cut, from, from-take}
 use Rattle.laws.specs.Digits.{places-length}
 use Rattle.laws.specs.Writing.{Wrote, wrote-then}
+use Rattle.commands.specs.declared.letter.Handed.{Handed}
+use Rattle.commands.specs.declared.letter.Handed.the-variants.{Message, Newer, Older}
+use Rattle.commands.specs.Answers.{making}
 use Rattle.card.specs.Answers.{Answers}
-use Rattle.day.specs.Same.{SameAnswer, same-open, same-message, same-turn}
+use Rattle.day.specs.Same.{SameAnswer, same-open, same-turn, textResult, same-text}
 use Rattle.day.specs.declared.call.Outcome.{Outcome}
 
 -- the outcome, and area and output then, are the answer's
@@ -88,8 +92,9 @@ module _ (area : List ℕ) (l : areaSize ≤ length area) {k n : ℕ} {d : ℤ} 
   pub told-turn : (day : ℕ) (out : List ℕ) {out' : List ℕ} → Answers (cardTurn day area out) k n d area' out' → CallTold (turnCall (length out) (holds area) day) (record { number = k; written = n; difference = toZ w64 (ofZ w64 d) }) area area' out out'
   told-turn day out w = told _ _ (same-turn area l out day) w
 
-  pub told-message : (input : List ℕ) (a b : ℕ) (out : List ℕ) {out' : List ℕ} → a ≤ b → Answers (cardMessage (take (b - a) (drop a input)) area out) k n d area' out' → CallTold (messageCall (length out) (holds area) (cut input a b)) (record { number = k; written = n; difference = toZ w64 (ofZ w64 d) }) area area' out out'
-  told-message input a b out h w = rw (part-is input a b h) (told _ _ (same-message area l out (take (b - a) (drop a input))) w)
+  pub told-text : (h : Handed) (input : List ℕ) (a b : ℕ) (out : List ℕ) {out' : List ℕ} → a ≤ b → Answers (textResult h (take (b - a) (drop a input)) area out) k n d area' out'
+      → CallTold (called (length out) (holds area) (making h (cut input a b))) (record { number = k; written = n; difference = toZ w64 (ofZ w64 d) }) area area' out out'
+  told-text h input a b out g w = rw (part-is input a b g) (told _ _ (same-text area l out h (take (b - a) (drop a input))) w)
 
   -- opening writes nothing
   opened-told : (text list : List ℕ) (day : ℕ) (out : List ℕ) → Answers (cardOpen text list day area) k n d area' [] → CallTold (openCall areaSize (holds area) text list day) (record { number = k; written = n; difference = toZ w64 (ofZ w64 d) }) area area' out out
@@ -112,4 +117,24 @@ module _ (area : List ℕ) (l : areaSize ≤ length area) {k n : ℕ} {d : ℤ} 
       → CallTold (openCall areaSize (holds area) (cut input a b) (cut input b c) day) (record { number = k; written = n; difference = toZ w64 (ofZ w64 d) }) area area' out out
   told-open input a b c day out h g w = rw (part-is input a b h, part-is input b c g) (opened-told (take (b - a) (drop a input)) (take (c - b) (drop b input)) day out w)
 
-pub ruleset telling = (answer-wrote, told-turn, told-message, told-open)
+-- ---- by what a text is
+
+-- a call that is lent the output alone leaves the area
+answers-beside : (area : List ℕ) {r : Result} {k n : ℕ} {d : ℤ} {a out : List ℕ} → Answers r k n d a out → Answers (beside area r) k n d area out
+unfolding beside
+answers-beside area w = record { number = w .number; written = w .written; difference = w .difference; area = refl; output = w .output; small = w .small }
+
+module _ (h : Handed) (s area out : List ℕ) {k n : ℕ} {d : ℤ} {out' : List ℕ} where
+  pub text-message : {area' : List ℕ} → h ≡ Message → Answers (cardMessage s area out) k n d area' out' → Answers (textResult h s area out) k n d area' out'
+  unfolding textResult
+  text-message e w = rw e w
+
+  pub text-newer : h ≡ Newer → Answers (cardNewer s out) k n d [] out' → Answers (textResult h s area out) k n d area out'
+  unfolding textResult serviceResult
+  text-newer e w = rw e (answers-beside area w)
+
+  pub text-older : h ≡ Older → Answers (cardOlder s out) k n d [] out' → Answers (textResult h s area out) k n d area out'
+  unfolding textResult serviceResult
+  text-older e w = rw e (answers-beside area w)
+
+pub ruleset telling = (answer-wrote, told-turn, told-text, told-open, text-message, text-newer, text-older)

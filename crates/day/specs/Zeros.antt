@@ -7,14 +7,14 @@ use native.Mathlib.Omega.{arith}
 use lib.ListN.{length}
 use Rattle.rules.specs.Text.{numberFrom}
 use Rattle.rules.specs.Lines.{lines}
-use Rattle.rules.specs.Register.{register, ofLines}
+use Rattle.rules.specs.Register.{register, ofLines, beforeEnd}
 use Rattle.rules.specs.Engine.{within}
 use Rattle.rules.specs.Area.{holds, decode, zeros, textPlace, textAt, recordsOf, areaSize, joined}
 use Rattle.rules.specs.Replay.{replayFrom, replayIn}
 use Rattle.day.specs.Whole.{InPieces, whole}
 
 zeros-hold-none : holds (zeros areaSize) ≡ none
-unfolding holds zeros decode within register lines ofLines numberFrom textPlace textAt recordsOf
+unfolding holds zeros decode within register lines beforeEnd ofLines numberFrom textPlace textAt recordsOf
 zeros-hold-none = refl
 
 pub replays : (input area : List ℕ) (room : ℕ) → area ≡ zeros areaSize → replayFrom (length input) room (holds area) input ≡ replayIn room input

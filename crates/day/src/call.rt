@@ -1,11 +1,15 @@
 // A command carried out by the card.
 use commands::Command;
+use commands::Handed;
 ghost use Prim.Native.Nat.{_≤_};
 ghost use lib.ListN.{length};
-ghost use Rattle.rules.specs.Calls.{openCall, messageCall, turnCall};
+ghost use Rattle.rules.specs.Calls.{openCall, turnCall};
+ghost use Rattle.rules.specs.Replay.{called};
 ghost use Rattle.rules.specs.Area.{holds, areaSize};
 ghost use Rattle.laws.specs.Parts.{cut};
-ghost use Rattle.commands.specs.Answers.{Placed};
+ghost use Rattle.commands.specs.Answers.{making, Placed};
+ghost use Rattle.card.specs.Answers.{Answers};
+ghost use Rattle.day.specs.Same.{textResult};
 ghost use Rattle.day.specs.Told.{CallTold};
 ghost use Rattle.day.specs.Replaying.{answerTo};
 
@@ -52,16 +56,41 @@ fn call_open(
     }
 }
 
-// The message that stands from a up to b.
-fn call_message(input: &[u8], a: usize, b: usize, area: &mut [u8], out: &mut [u8]) -> Outcome
+// The card's call that a text is for: a message is handed area and output, a move the output alone.
+fn call_card(
+    text: &[u8],
+    h: Handed,
+    area: &mut [u8],
+    out: &mut [u8],
+    written: &mut usize,
+    difference: &mut i64,
+) -> u32
+    ensures { λ r. ⌜ Answers (textResult h (now (text .entry)) (now (area .entry)) (now (out .entry))) r (now (written .exit)) (now (difference .exit)) (now (area .exit)) (now (out .exit)) ⌝ }
+{
+    match h {
+        Handed::Message => card::card_message(text, area, out, written, difference),
+        Handed::Newer => card::card_newer(text, out, written, difference),
+        Handed::Older => card::card_older(text, out, written, difference),
+    }
+}
+
+// The text that stands from a up to b.
+fn call_text(
+    input: &[u8],
+    h: Handed,
+    a: usize,
+    b: usize,
+    area: &mut [u8],
+    out: &mut [u8],
+) -> Outcome
     requires { ⌜ a ≤ b ⌝ }
     requires { ⌜ b ≤ length (now input) ⌝ }
     requires { ⌜ areaSize ≤ length (now area) ⌝ }
-    ensures { λ r. ⌜ CallTold (messageCall (length (now (out .entry))) (holds (now (area .entry))) (cut (now (input .entry)) a b)) r (now (area .entry)) (now (area .exit)) (now (out .entry)) (now (out .exit)) ⌝ }
+    ensures { λ r. ⌜ CallTold (called (length (now (out .entry))) (holds (now (area .entry))) (making h (cut (now (input .entry)) a b))) r (now (area .entry)) (now (area .exit)) (now (out .entry)) (now (out .exit)) ⌝ }
 {
     let mut written: usize = 0;
     let mut difference: i64 = 0;
-    let number = card::card_message(&input[a..b], area, out, &mut written, &mut difference);
+    let number = call_card(&input[a..b], h, area, out, &mut written, &mut difference);
     Outcome {
         number,
         written,
@@ -92,7 +121,7 @@ pub fn perform(input: &[u8], c: Command, area: &mut [u8], out: &mut [u8]) -> Out
 {
     match c {
         Command::Opens(day, a, b, e) => call_open(input, a, b, e, day, area, out),
-        Command::Sends(a, b) => call_message(input, a, b, area, out),
+        Command::Hands(h, a, b) => call_text(input, h, a, b, area, out),
         Command::Turns(day, _) => call_turn(day, area, out),
         Command::End => call_turn(0, area, out),
     }

@@ -17,7 +17,7 @@ fn is_end(c: Command) -> bool
 {
     match c {
         Command::Opens(_, _, _, _) => false,
-        Command::Sends(_, _) => false,
+        Command::Hands(_, _, _) => false,
         Command::Turns(_, _) => false,
         Command::End => true,
     }
@@ -29,7 +29,7 @@ fn next_of(c: Command) -> usize
 {
     match c {
         Command::Opens(_, _, _, c) => c,
-        Command::Sends(_, b) => b,
+        Command::Hands(_, _, b) => b,
         Command::Turns(_, n) => n,
         Command::End => 0,
     }

@@ -8,7 +8,7 @@ use lib.ListN.{length}
 use lib.Dec.{eqb}
 use borrow.Author.Tests.{eqb-true, eq-eqb}
 use Rattle.rules.specs.Text.{equal}
-use Rattle.laws.specs.Parts.{cut, cut-length}
+use Rattle.laws.specs.Parts.{cut, cut-length, cut-all, from, from-length, from-cut}
 use Rattle.laws.specs.Tests.{not-holds, never, cond-both}
 
 -- texts that are told equal are the same
@@ -38,3 +38,11 @@ module _ (s t : List ℕ) (a e b f : ℕ) where
   parts-alike h k l r q = let m : a + (e - a) ≡ e = omega arith in let n : b + (e - a) ≡ f = omega arith in q ∙ (rw (m, n))
 
 pub ruleset parting = (parts-differ, parts-alike)
+
+-- what is left of a text from a place on, against another text
+module _ (s t : List ℕ) (at : ℕ) where
+  pub rest-differs : (length s - at ≡ length t → ⊥) → false ≡ equal (from s at) t
+  rest-differs h = not-holds _ (λ q. h (sym (from-length s at) ∙ ap (λ (x : List ℕ). length x) (equal-true (from s at) t q)))
+
+  pub rest-alike : at ≤ length s → length s - at ≡ length t → (r : Bool) → r ≡ equal (cut s at (at + length t)) (cut t 0 (length t)) → r ≡ equal (from s at) t
+  rest-alike k h r q = q ∙ (rw (from-cut s at (at + length t) (omega arith), cut-all t))

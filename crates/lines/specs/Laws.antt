@@ -14,7 +14,7 @@ use borrow.Author.Tests.{le-leb, lt-leb, eq-eqb, ne-eqb}
 use Rattle.rules.specs.Text.{ascii, equal, fits}
 use Rattle.rules.specs.Lines.{Line, TakenLine, lead, takeLine, lines, before, lastIsClosing, inLines, isClosingLine, hasFirstLine, framed}
 use Rattle.laws.specs.Parts.{cut, from, cut-done, cut-snoc, cut-all, from-step, from-done, from-length, from-cut}
-use Rattle.laws.specs.Equal.{equal-true}
+use Rattle.laws.specs.Equal.{equal-true, rest-differs, rest-alike}
 use Rattle.laws.specs.Tests.{not-holds, never, and-left, and-right, none-some}
 use Rattle.rule_laws.specs.Lines.{FirstLine, first-line, line-taken, Lined, Lined.end, Lined.next, lines-cases, lines-before}
 use Rattle.lines.specs.Answers.{taken, LineEnd, NoLine, Plain}
@@ -184,11 +184,11 @@ module _ (s : List ℕ) (at : ℕ) (x : Bool) (inv : inLines (lines (from s at))
 module _ (s : List ℕ) (at : ℕ) where
   pub closing-long : (length s - at ≡ 3 → ⊥) → false ≡ isClosingLine (from s at)
   unfolding isClosingLine
-  closing-long h = not-holds _ (λ e. h (sym (from-length s at) ∙ ap (λ (l : List ℕ). length l) (equal-true (from s at) (ascii "-\r\n") e)))
+  closing-long = rest-differs s (ascii "-\r\n") at
 
   pub closing-part : at ≤ length s → length s - at ≡ 3 → (r : Bool) → r ≡ equal (cut s at (at + 3)) (cut (ascii "-\r\n") 0 3) → r ≡ isClosingLine (from s at)
   unfolding isClosingLine
-  closing-part k h r e = e ∙ (rw (from-cut s at (at + 3) (omega arith), cut-all (ascii "-\r\n")))
+  closing-part = rest-alike s (ascii "-\r\n") at
 
 -- ---- the frame
 

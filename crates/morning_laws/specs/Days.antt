@@ -14,7 +14,7 @@ use Rattle.rules.specs.Lines.{lead, takeLine, lines, parted, lastIsClosing, isC
 use Rattle.rules.specs.BankingDays.{daysToYear, daysTo, weekday, isWeekend, holidays, holidaysOf, isListed, isBankingDay}
 use Rattle.rules.specs.Forms.{textLine, fitsRest, fitsRow, leadRows, takeRows}
 use Rattle.rules.specs.Messages.{rowText, rowsText, transferOf, detailOf, takeDetail, details, readTransfer, readOrder, read, senderOf, referenceOf, detailsOf, firstDate, dateOf, transferredBy, sumOfAmounts, detailedBy}
-use Rattle.rules.specs.Register.{accountLine, codeLine, soundAccounts, sameCode, isForeign, soundCodes, sound, ofLines, register, registerOf}
+use Rattle.rules.specs.Register.{accountLine, codeLine, soundAccounts, sameCode, isForeign, soundCodes, sound, ofLines, beforeEnd, register, registerOf}
 use Rattle.rules.specs.Verdict.{found, shaped, inBounds, judged, verdict, ibanBeside, lineByCode, byLine, byCode, isReturned, isListed199}
 use Rattle.rules.specs.Engine.{isBank, keyBefore, sameKey, positionOf, isOpen, booked, hasDetails, kept, slashesFrom, slashed, sameReference, precedes, filed, goodPosition, goodPositions, goodReference, goodReferences, within}
 use Rattle.rules.specs.Written.{posting, reference, firstLine, field, field32A, temporaryField, baerefRow, listedRows, allListed, linked, position79, closed79, mt199, partsOf, mt199s, verdicts, return103, returnOf, returns, field72, mt204, mt205, corrected, isRefunded, correctionPosting, correction, correctionPostings, corrections, correctedCount}
@@ -70,7 +70,7 @@ order2 = order "D2" (detail "1" "4," "BG56BNBG96613000000001" "N1")
 
 -- the area of an opening with the listing's register
 abbrev pub area : List ℕ
-area = cardOpen (lined ("BG80BNBG96611020345678" ∷ "BG56BNBG96613000000001,000000,999999" ∷ [])) [] 60302 (zeros areaSize) .area
+area = cardOpen (lined ("BG80BNBG96611020345678" ∷ "BG56BNBG96613000000001,000000,999999" ∷ "END" ∷ [])) [] 60302 (zeros areaSize) .area
 
 abbrev pub sending : List ℕ → Sending
 sending text = record { text = text; output = zeros 1024 }
@@ -162,5 +162,5 @@ seenTurnedRound = record {
 }
 
 pub both-orders : map seen (asSent ∷ turnedRound ∷ []) ≡ seenAsSent ∷ seenTurnedRound ∷ []
-unfolding seen isMark isDigit isLetter isAlnum isText every run equal fitsSign fits readEach readLeading any twice ordered textBefore digitsFrom places width numberFrom addedUp over passing leapRow monthLength exists date decimals levs amount written isBic ibanShape withSign numeral remainder control passes lead takeLine lines parted lastIsClosing isClosingLine hasFirstLine framed type sender receiver body daysToYear daysTo weekday isWeekend holidays holidaysOf isListed isBankingDay textLine fitsRest fitsRow leadRows takeRows rowText rowsText transferOf detailOf takeDetail details readTransfer readOrder read senderOf referenceOf detailsOf firstDate dateOf transferredBy sumOfAmounts detailedBy accountLine codeLine soundAccounts sameCode isForeign soundCodes sound ofLines register registerOf found shaped inBounds judged verdict ibanBeside lineByCode byLine byCode isReturned isListed199 isBank keyBefore sameKey positionOf isOpen booked hasDetails kept slashesFrom slashed sameReference precedes filed goodPosition goodPositions goodReference goodReferences within posting reference firstLine field field32A temporaryField baerefRow listedRows allListed linked position79 closed79 mt199 partsOf mt199s verdicts return103 returnOf returns field72 mt204 mt205 corrected isRefunded correctionPosting correction correctionPostings corrections correctedCount firstOf answered holdsOf openStops acceptedOpening opened openCall addressed badReference badSum badAmount foreignPayer badAccount manyDates misdated positionAfter noRoom overLimit verdictIs detailPosting detailPostings postings hasVerdict partsWritten messagesWritten messageText afterMessage formStops inputStops limitStops roomStops stateStops messageStops acceptedMessage bothOf messageCall turnText turnStops refunded collected afterTurn acceptedTurn turnCall zeros padded joined referenceRecord keyBytes positionRecord textsOf lengthRecord lengthsOf header encode untilZero referenceIn keyIn positionIn textPlace textAt recordsOf decode holds stored onAreas cardOpen cardMessage cardTurn isParty isNumber isPosting postedParts posted result ran linesBy isPostingLine
+unfolding seen isMark isDigit isLetter isAlnum isText every run equal fitsSign fits readEach readLeading any twice ordered textBefore digitsFrom places width numberFrom addedUp over passing leapRow monthLength exists date decimals levs amount written isBic ibanShape withSign numeral remainder control passes lead takeLine lines parted lastIsClosing isClosingLine hasFirstLine framed type sender receiver body daysToYear daysTo weekday isWeekend holidays holidaysOf isListed isBankingDay textLine fitsRest fitsRow leadRows takeRows rowText rowsText transferOf detailOf takeDetail details readTransfer readOrder read senderOf referenceOf detailsOf firstDate dateOf transferredBy sumOfAmounts detailedBy accountLine codeLine soundAccounts sameCode isForeign soundCodes sound ofLines beforeEnd register registerOf found shaped inBounds judged verdict ibanBeside lineByCode byLine byCode isReturned isListed199 isBank keyBefore sameKey positionOf isOpen booked hasDetails kept slashesFrom slashed sameReference precedes filed goodPosition goodPositions goodReference goodReferences within posting reference firstLine field field32A temporaryField baerefRow listedRows allListed linked position79 closed79 mt199 partsOf mt199s verdicts return103 returnOf returns field72 mt204 mt205 corrected isRefunded correctionPosting correction correctionPostings corrections correctedCount firstOf answered holdsOf openStops acceptedOpening opened openCall addressed badReference badSum badAmount foreignPayer badAccount manyDates misdated positionAfter noRoom overLimit verdictIs detailPosting detailPostings postings hasVerdict partsWritten messagesWritten messageText afterMessage formStops inputStops limitStops roomStops stateStops messageStops acceptedMessage bothOf messageCall turnText turnStops refunded collected afterTurn acceptedTurn turnCall zeros padded joined referenceRecord keyBytes positionRecord textsOf lengthRecord lengthsOf header encode untilZero referenceIn keyIn positionIn textPlace textAt recordsOf decode holds stored onAreas cardOpen cardMessage cardTurn isParty isNumber isPosting postedParts posted result ran linesBy isPostingLine
 both-orders = refl

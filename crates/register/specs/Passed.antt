@@ -7,21 +7,26 @@ use Prim.Native.Nat.{ℕ, zero, suc, _+_, _*_, _≤_, _<_}
 use native.Mathlib.Omega.{arith}
 use lib.ListN.{length, getD}
 use Rattle.rules.specs.Text.{given, isSome}
-use Rattle.rules.specs.Register.{Account, Register, register, registerOf}
+use Rattle.rules.specs.Register.{Account, Register, register, registerOf, oldRegister}
 use Rattle.rules.specs.Verdict.{found, noAccount, accountAt}
 use Rattle.laws.specs.Parts.{cut}
 use Rattle.rule_laws.specs.Registers.{register-size, register-few, codes-few}
 use Rattle.register_lines.specs.Places.{placesFrom, end-next, end-none, upto-all, boundAt, accountIn}
-use Rattle.register.specs.Whole.{place, count, codeCount, accountsIn, codesIn, foundIn, passesIn, registerIn}
-use Rattle.register.specs.Agree.{in-places, accounts-length, codes-length}
+use Rattle.register.specs.Whole.{place, count, codeCount, accountsIn, codesIn, foundIn, passesIn, oldIn, registerIn}
+use Rattle.register.specs.Agree.{in-places, old-in-places, accounts-length, codes-length}
+
+-- what is given by a test is there where the test holds
+given-some : {A : Type 0} (t : Bool) (a : A) → isSome (given t a) ≡ t
+given-some true a = refl
+given-some false a = refl
 
 -- is there a register? the tests at the places say
 pub some-given : (s : List ℕ) → isSome (register s) ≡ passesIn s (count s) (codeCount s (count s))
-some-given s = ap isSome (in-places s) ∙ go (passesIn s (count s) (codeCount s (count s)))
-  where
-    go : (t : Bool) → isSome (given t (registerIn s (count s) (codeCount s (count s)))) ≡ t
-    go true = refl
-    go false = refl
+some-given s = ap isSome (in-places s) ∙ given-some (passesIn s (count s) (codeCount s (count s))) _
+
+-- an old one?
+pub old-given : (s : List ℕ) → isSome (oldRegister s) ≡ oldIn s (count s)
+old-given s = ap isSome (old-in-places s) ∙ given-some (oldIn s (count s)) _
 
 -- number j of what stands at some places
 from-get : {A : Type 0} (f : ℕ → A) (d : A) (w at k j : ℕ) → j < k → getD (map f (placesFrom w at k)) j d ≡ f (at + w * j)
@@ -75,7 +80,7 @@ module _ (s : List ℕ) (h : isSome (register s) ≡ true) where
   text-codes = rw codes-length at (codes-few s _ register-some)
 
   -- its length
-  pub text-size : length s ≡ place (count s) + 35 * codeCountOf
+  pub text-size : length s ≡ place (count s) + 35 * codeCountOf + 5
   unfolding registerIn
   text-size = register-size s _ register-some ∙ rw (accounts-length, codes-length)
 

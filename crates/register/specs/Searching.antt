@@ -5,13 +5,14 @@ use mathlib.Core.List.{List}
 use mathlib.Core.Option.{none, some}
 use Prim.Native.Nat.{ℕ, zero, suc, _+_, _-_, _*_, _/_, _≤_, _<_}
 use native.Mathlib.Omega.{arith}
-use lib.Dec.{eqb}
+use lib.Dec.{leb, eqb}
 use lib.ListN.{length, getD}
 use borrow.Author.Tests.{eqb-true, eq-eqb}
 use Rattle.rules.specs.Text.{isDigit, isAlnum, every, equal, isSome}
 use Rattle.rules.specs.Accounts.{passes}
 use Rattle.rules.specs.Register.{register, registerOf}
 use Rattle.rules.specs.Verdict.{found, ibanBeside, lineByCode}
+use Rattle.rules.specs.Moves.{hasCodes}
 use Rattle.laws.specs.Parts.{cut, cut-length}
 use Rattle.laws.specs.Every.{every-within, every-first}
 use Rattle.laws.specs.Equal.{equal-true}
@@ -21,6 +22,7 @@ use Rattle.rule_laws.specs.Registers.{register-length}
 use Rattle.register_lines.specs.Places.{placesFrom, end-next, end-none, upto-all, endsAt, formAt, accountStands, codeStands, codeIn}
 use Rattle.register.specs.Whole.{place, count, codeCount, codesIn, besideIn}
 use Rattle.register.specs.Sections.{leading-all}
+use Rattle.register.specs.Agree.{codes-length}
 use Rattle.register_lines.specs.Formed.{code-signs}
 use Rattle.register.specs.Turns.{beside-here, beside-more, beside-end}
 use Rattle.register_lines.specs.Forms.{stands-room}
@@ -62,66 +64,66 @@ code-stands s j h = from-every (codeStands s) 35 (place (count s)) (codeCount s 
 
 -- ---- account lines, counted from the end
 
--- behind a place stand code lines alone: so many are left before it
+-- before the last line, five bytes before a place, stand code lines alone: so many are left
 pub record Ending (s : List ℕ) (end : ℕ) : Type 0 where
   pub left : ℕ
   pub few : left ≤ codeCount s (count s)
-  pub same : end ≡ place (count s) + 35 * left
+  pub same : end ≡ place (count s) + 35 * left + 5
   pub within : end ≤ length s
   pub most : count s ≤ 40
   pub small : left ≤ 40
-  pub size : length s ≤ 2944
+  pub size : length s ≤ 2949
 
 -- r is the number of account lines
 pub record AccountCount (s : List ℕ) (r : ℕ) : Type 0 where
   pub same : r ≡ count s
   pub few : r ≤ 40
   pub behind : 24 + 38 * r ≤ length s
-  pub size : length s ≤ 2944
+  pub size : length s ≤ 2949
 
 pub ending-start : (s : List ℕ) → isSome (register s) ≡ true → Ending s (length s)
 ending-start s h = record { left = codeCountOf s h; few = omega arith; same = text-size s h; within = omega arith; most = text-count s h; small = text-codes s h; size = register-length s h }
 
-module _ (s : List ℕ) (end : ℕ) (e : Ending s end) (h : 24 < end) where
+module _ (s : List ℕ) (end : ℕ) (e : Ending s end) (h : 29 < end) where
   -- before an account line's end stands none of its commas
-  no-code : e .left ≡ 0 → getD s (end - 25) 0 ≡ 44 → ⊥
+  no-code : e .left ≡ 0 → getD s (end - 30) 0 ≡ 44 → ⊥
   no-code z c =
       let n : 0 < count s = omega (arith, e .same) in
-      let p : end - 25 ≡ place (count s - 1) + 13 = omega (arith, e .same) in
+      let p : end - 30 ≡ place (count s - 1) + 13 = omega (arith, e .same) in
       account-sign s (place (count s - 1)) (account-stands s (count s - 1) (omega arith)) (rw p at c)
 
   -- before a code line's end stands its comma
-  a-code : 0 < e .left → getD s (end - 25) 0 ≡ 44
+  a-code : 0 < e .left → getD s (end - 30) 0 ≡ 44
   a-code n =
-      let p : end - 25 ≡ place (count s) + 35 * (e .left - 1) + 10 = omega (arith, e .same) in
+      let p : end - 30 ≡ place (count s) + 35 * (e .left - 1) + 10 = omega (arith, e .same) in
       rw p (code-comma s (place (count s) + 35 * (e .left - 1)) (code-stands s (e .left - 1) (omega (arith, e .few))))
 
-  some-left : getD s (end - 25) 0 ≡ 44 → 0 < e .left
+  some-left : getD s (end - 30) 0 ≡ 44 → 0 < e .left
   some-left c = go (e .left) refl
     where
       go : (n : ℕ) → e .left ≡ n → 0 < e .left
       go zero z = absurd (no-code z c)
       go (suc n) z = omega arith
 
-  pub ending-more : getD s (end - 25) 0 ≡ 44 → Ending s (end - 35)
+  pub ending-more : getD s (end - 30) 0 ≡ 44 → Ending s (end - 35)
   ending-more c = let n : 0 < e .left = some-left c in record { left = e .left - 1; few = omega (arith, e .few); same = omega (arith, e .same); within = omega (arith, e .within); most = e .most; small = omega (arith, e .small); size = e .size }
 
-  pub ending-room : getD s (end - 25) 0 ≡ 44 → 35 ≤ end
+  pub ending-room : getD s (end - 30) 0 ≡ 44 → 35 ≤ end
   ending-room c = let n : 0 < e .left = some-left c in omega (arith, e .same)
 
-  none-left : (getD s (end - 25) 0 ≡ 44 → ⊥) → e .left ≡ 0
+  none-left : (getD s (end - 30) 0 ≡ 44 → ⊥) → e .left ≡ 0
   none-left c = go (e .left) refl
     where
       go : (n : ℕ) → e .left ≡ n → e .left ≡ 0
       go zero z = z
       go (suc n) z = absurd (c (a-code (omega arith)))
 
-  pub ending-here : (getD s (end - 25) 0 ≡ 44 → ⊥) → AccountCount s ((end - 24) / 38)
+  pub ending-here : (getD s (end - 30) 0 ≡ 44 → ⊥) → AccountCount s ((end - 29) / 38)
   ending-here c =
       let z : e .left ≡ 0 = none-left c in
       record { same = omega (arith, e .same); few = omega (arith, e .same, e .most); behind = omega (arith, e .same, e .within); size = e .size }
 
-pub ending-none : (s : List ℕ) (end : ℕ) → Ending s end → end ≤ 24 → AccountCount s 0
+pub ending-none : (s : List ℕ) (end : ℕ) → Ending s end → end ≤ 29 → AccountCount s 0
 ending-none s end e h = record { same = omega (arith, e .same); few = omega arith; behind = omega (arith, e .same, e .within); size = e .size }
 
 -- ---- a code
@@ -160,6 +162,11 @@ codes-told s n h e = record {
   room = omega (arith, e .same, text-size s h);
 }
 
+-- there are some where the register has codes
+pub codes-some : (s : List ℕ) (at m : ℕ) → isSome (register s) ≡ true → CodesOf s at m → leb 1 m ≡ hasCodes (registerOf s)
+unfolding hasCodes
+codes-some s at m h k = rw (codes-at s h, codes-length, k .number-is)
+
 -- code lines j up to m are left, and the code stands beside the same IBAN in them as in all
 pub record Seeking (s c : List ℕ) (at m j : ℕ) : Type 0 where
   pub codes : CodesOf s at m
@@ -197,4 +204,4 @@ module _ (s : List ℕ) (t : List ℕ) (a b : ℕ) (l : b - a ≡ 10) where
   unfolding lineByCode
   code-missing at m j k h = rw (← code-is, ← beside-end s at j m (cut t a (a + 10)) _ (k .same) h)
 
-pub ruleset searching = (ending-start, ending-more, ending-room, ending-here, ending-none, code-unlisted, codes-told, seeking-start, seeking-room, seeking-low, seeking-more, code-found, code-missing)
+pub ruleset searching = (ending-start, ending-more, ending-room, ending-here, ending-none, code-unlisted, codes-told, codes-some, seeking-start, seeking-room, seeking-low, seeking-more, code-found, code-missing)

@@ -1,4 +1,4 @@
--- A register's whole text: n account lines behind its first line, and m code lines behind those.
+-- A register's whole text: n account lines behind its first line, m code lines behind those, and the last line.
 use mathlib.Core.Bool.{Bool, _&&_, not}
 use mathlib.Core.List.{List, _∷_, map}
 use mathlib.Core.Option.{Option}
@@ -8,7 +8,8 @@ use lib.ListN.{length}
 use Rattle.rules.specs.Text.{equal, any, twice}
 use Rattle.rules.specs.Register.{Account, Code, Register, isForeign}
 use Rattle.rules.specs.Verdict.{found, ibanBeside}
-use Rattle.laws.specs.Parts.{cut}
+use Rattle.rules.specs.Moves.{endLine}
+use Rattle.laws.specs.Parts.{cut, from}
 use Rattle.register_lines.specs.Places.{placesFrom, upto, leadingFrom, keyIn, keysIn, repeatIn, accountIn, accountStands, codeIn, codeStands, firstIn}
 
 -- where account line i begins
@@ -48,13 +49,21 @@ codeCount s n = leadingFrom (codeStands s) 35 (place n) 40
 unfoldable pub againIn : List ℕ → ℕ → Bool
 againIn s n = twice equal (keyIn s 22 0 ∷ keysIn s 22 (upto 38 24 0 n))
 
--- n account lines and m code lines fill it, each IBAN and each code a single time and no account foreign
+-- of n account lines and m code lines each IBAN and each code appears a single time, and no account is foreign
 unfoldable pub linesTest : List ℕ → ℕ → ℕ → Bool
-linesTest s n m = eqb (length s) (place n + 35 * m) && not (againIn s n) && not (foreignIn s n (place n) m) && not (repeatIn s 10 35 (place n) 0 m)
+linesTest s n m = not (againIn s n) && not (foreignIn s n (place n) m) && not (repeatIn s 10 35 (place n) 0 m)
+
+-- the last line is all that is left
+unfoldable pub closesAt : List ℕ → ℕ → Bool
+closesAt s at = equal (from s at) endLine
 
 -- all tests
 unfoldable pub passesIn : List ℕ → ℕ → ℕ → Bool
-passesIn s n m = firstIn s && linesTest s n m
+passesIn s n m = firstIn s && closesAt s (place n + 35 * m) && linesTest s n m
+
+-- all tests of an old text, which ends behind its account lines
+unfoldable pub oldIn : List ℕ → ℕ → Bool
+oldIn s n = firstIn s && eqb (length s) (place n) && linesTest s n 0
 
 -- what it says
 unfoldable pub registerIn : List ℕ → ℕ → ℕ → Register

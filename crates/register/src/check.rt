@@ -1,4 +1,4 @@
-// The check of a register's text (9).
+// The check of a register's text (9), and of an old one.
 use register_lines::Form;
 use register_lines::appears_again;
 use register_lines::first_line_passes;
@@ -10,13 +10,24 @@ ghost use mathlib.Core.Path.{_≡_};
 ghost use Prim.Native.Nat.{_+_, _*_, _≤_};
 ghost use lib.ListN.{length};
 ghost use Rattle.rules.specs.Text.{isSome};
-ghost use Rattle.rules.specs.Register.{register};
-ghost use Rattle.register.specs.Whole.{foreignIn, againIn, linesTest};
+ghost use Rattle.rules.specs.Register.{register, oldRegister};
+ghost use Rattle.register.specs.Whole.{foreignIn, againIn, linesTest, closesAt};
 ghost use Rattle.register_lines.specs.Marks.{MarksOf};
 ghost use Rattle.register_lines.specs.declared.sections.Form.the-variants.{AccountLine};
 
-// The longest text that passes: a first line, 40 account lines and 40 code lines.
-pub const LONGEST: usize = 2944;
+// The longest text that passes: a first line, 40 account lines, 40 code lines and the last line.
+pub const LONGEST: usize = 2949;
+
+// Is the last line all that stands from a place on?
+fn closes_at(text: &[u8], at: usize) -> bool
+    requires { ⌜ at ≤ length (now text) ⌝ }
+    ensures { λ r. ⌜ r ≡ closesAt (now (text .entry)) at ⌝ }
+{
+    if text.len() - at != 5 {
+        return false;
+    }
+    text::equal_parts(text, at, b"END\r\n", 0, 5)
+}
 
 // Does an IBAN appear twice in the first line and the n account lines?
 fn iban_again(text: &[u8], n: u32, marks: &[u32; 40]) -> bool
@@ -52,7 +63,7 @@ fn has_foreign(text: &[u8], n: u32, marks: &[u32; 40], at: usize, m: u32) -> boo
     false
 }
 
-// Do n account lines and m code lines behind them fill the text, each IBAN and each code a single time and no account foreign?
+// Of n account lines and m code lines behind them, does each IBAN and each code appear a single time, and is no account foreign?
 fn lines_pass(text: &[u8], n: u32, m: u32) -> bool
     requires { ⌜ n ≤ 40 ⌝ }
     requires { ⌜ m ≤ 40 ⌝ }
@@ -60,9 +71,6 @@ fn lines_pass(text: &[u8], n: u32, m: u32) -> bool
     ensures { λ r. ⌜ r ≡ linesTest (now (text .entry)) n m ⌝ }
 {
     let at = (24 + 38 * n) as usize;
-    if text.len() != at + (35 * m) as usize {
-        return false;
-    }
     let mut marks: [u32; 40] = [0; 40];
     put_marks(text, Form::AccountLine, 24, n, &mut marks);
     if iban_again(text, n, &marks) {
@@ -79,13 +87,27 @@ fn lines_pass(text: &[u8], n: u32, m: u32) -> bool
 pub fn register_passes(text: &[u8]) -> bool
     ensures { λ r. ⌜ r ≡ isSome (register (now (text .entry))) ⌝ }
 {
-    if text.len() < 24 {
-        return false;
-    }
     if !first_line_passes(text) {
         return false;
     }
     let n = lines_from(text, 24, Form::AccountLine);
     let m = lines_from(text, (24 + 38 * n) as usize, Form::CodeLine);
+    if !closes_at(text, (24 + 38 * n + 35 * m) as usize) {
+        return false;
+    }
     lines_pass(text, n, m)
+}
+
+// Does an old text pass: account lines alone behind its first line?
+pub fn old_register_passes(text: &[u8]) -> bool
+    ensures { λ r. ⌜ r ≡ isSome (oldRegister (now (text .entry))) ⌝ }
+{
+    if !first_line_passes(text) {
+        return false;
+    }
+    let n = lines_from(text, 24, Form::AccountLine);
+    if text.len() != (24 + 38 * n) as usize {
+        return false;
+    }
+    lines_pass(text, n, 0)
 }

@@ -7,6 +7,7 @@ ghost use lib.ListN.{length};
 ghost use Rattle.rules.specs.Text.{isSome};
 ghost use Rattle.rules.specs.Register.{register, registerOf};
 ghost use Rattle.rules.specs.Verdict.{found, accountAt, lineByCode};
+ghost use Rattle.rules.specs.Moves.{hasCodes};
 ghost use Rattle.laws.specs.Parts.{cut};
 ghost use Rattle.register.specs.Answers.{foundOf};
 ghost use Rattle.register.specs.Passed.{LinePlace};
@@ -20,17 +21,17 @@ pub enum Found {
     Nothing,
 }
 
-// How many account lines there are. Behind the ten digits of a code line stands a comma, where an account line has a letter or digit.
+// How many account lines there are, counted from the last line on. Behind the ten digits of a code line stands a comma, where an account line has a letter or digit.
 fn account_count(text: &[u8]) -> u32
     requires { ⌜ isSome (register (now text)) ≡ true ⌝ }
     ensures { λ r. ⌜ AccountCount (now (text .entry)) r ⌝ }
 {
     let mut end = text.len() as u32;
-    while end > 24 {
-        if text[(end - 25) as usize] == 44 {
+    while end > 29 {
+        if text[(end - 30) as usize] == 44 {
             end -= 35;
         } else {
-            return ((end - 24) as u16 / 38) as u32;
+            return ((end - 29) as u16 / 38) as u32;
         }
     }
     0
@@ -61,7 +62,7 @@ struct Codes {
     lines: u32,
 }
 
-// Those behind all account lines.
+// Those behind all account lines. (The last line is shorter than one of them.)
 fn codes_of(text: &[u8]) -> Codes
     requires { ⌜ isSome (register (now text)) ≡ true ⌝ }
     ensures { λ r. ⌜ CodesOf (now (text .entry)) (r .at) (r .lines) ⌝ }
@@ -71,6 +72,15 @@ fn codes_of(text: &[u8]) -> Codes
         at,
         lines: ((text.len() as u32 - at) as u16 / 35) as u32,
     }
+}
+
+// Does the register have code lines?
+pub fn has_codes(text: &[u8]) -> bool
+    requires { ⌜ isSome (register (now text)) ≡ true ⌝ }
+    ensures { λ r. ⌜ r ≡ hasCodes (registerOf (now (text .entry))) ⌝ }
+{
+    let codes = codes_of(text);
+    codes.lines >= 1
 }
 
 // The account line to which the code in s from a up to b leads.

@@ -72,7 +72,7 @@ module _ (f : Form) where
 
 -- ---- a line that stands there has its room
 
-ends-room : (s : List ℕ) (at : ℕ) → endsAt s at ≡ true → at + 2 ≤ length s
+pub ends-room : (s : List ℕ) (at : ℕ) → endsAt s at ≡ true → at + 2 ≤ length s
 unfolding endsAt
 ends-room s at h = omega (arith, fits-length crlf (cut s at (at + 2)) h, cut-size s at (at + 2))
 

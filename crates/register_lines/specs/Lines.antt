@@ -2,7 +2,7 @@
 use mathlib.Core.Path.{_≡_, sym, _∙_}
 use mathlib.Core.Bool.{Bool, true, false, _&&_, not, and-true, and-false}
 use mathlib.Core.List.{List}
-use Prim.Native.Nat.{ℕ, _+_, _≤_}
+use Prim.Native.Nat.{ℕ, _+_, _≤_, _<_}
 use native.Mathlib.Omega.{arith}
 use lib.Dec.{leb}
 use lib.ListN.{length}
@@ -10,12 +10,14 @@ use borrow.Author.Tests.{not-true, not-false}
 use Rattle.rules.specs.Text.{digits}
 use Rattle.rules.specs.Accounts.{passes}
 use Rattle.laws.specs.Parts.{cut}
+use Rattle.laws.specs.Tests.{and-right, not-holds}
 use Rattle.text.specs.Answers.{numOf}
 use Rattle.text.specs.declared.numbers.Num.{Num}
 use Rattle.text.specs.declared.numbers.Num.the-variants.{Value, Bad}
 use Rattle.register_lines.specs.AccountLine.{bound}
 use Rattle.register_lines.specs.Places.{endsAt, boundAt, accountStands, firstIn}
 use Rattle.register_lines.specs.Formed.{boundsAt, form-bounds}
+use Rattle.register_lines.specs.Forms.{ends-room}
 
 -- a bound, as its digits were read
 module _ (s : List ℕ) (at : ℕ) (q : Num) (e : numOf q ≡ digits (cut s at (at + 6))) where
@@ -27,7 +29,15 @@ module _ (s : List ℕ) (at : ℕ) (q : Num) (e : numOf q ≡ digits (cut s at (
   unfolding boundAt bound
   bound-none w = rw (← e, w)
 
--- the first line
+-- the first line has its room
+pub first-room : (s : List ℕ) → firstIn s ≡ true → 24 ≤ length s
+unfolding firstIn
+first-room s h = ends-room s 22 (and-right (passes (cut s 0 22)) _ h)
+
+pub first-short : (s : List ℕ) → length s < 24 → false ≡ firstIn s
+first-short s h = not-holds (firstIn s) (λ w. let k : 24 ≤ length s = first-room s w in omega arith)
+
+-- and its tests
 module _ (s : List ℕ) (t : Bool) (u : t ≡ passes (cut s 0 22)) where
   pub first-passes : t ≡ true → (r : Bool) → r ≡ endsAt s 22 → r ≡ firstIn s
   unfolding firstIn
@@ -69,4 +79,4 @@ module _ (s : List ℕ) (at : ℕ) (l : at + 38 ≤ length s) (t : Bool) (u : t 
           pub line-ordered : not t₃ ≡ false → (r : Bool) → r ≡ leb (boundAt s (at + 22 + 1)) (boundAt s (at + 22 + 8)) → r ≡ accountStands s at
           line-ordered d₃ r e = rw (behind, ← u₂, not-false t₂ d₂, ← u₃, not-false t₃ d₃) e
 
-pub ruleset lines = (bound-read, bound-none, first-passes, first-fails, line-unpassed, line-unbounded, line-unended, line-ordered)
+pub ruleset lines = (bound-read, bound-none, first-short, first-passes, first-fails, line-unpassed, line-unbounded, line-unended, line-ordered)

@@ -61,9 +61,11 @@ fn ends_at(text: &[u8], at: usize) -> bool
 
 // Does the first line pass: the temporary account's IBAN?
 pub fn first_line_passes(text: &[u8]) -> bool
-    requires { ⌜ 24 ≤ length (now text) ⌝ }
     ensures { λ r. ⌜ r ≡ firstIn (now (text .entry)) ⌝ }
 {
+    if text.len() < 24 {
+        return false;
+    }
     if account::iban_passes(text, 0) {
         return ends_at(text, 22);
     }

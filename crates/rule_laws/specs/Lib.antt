@@ -7,7 +7,10 @@ pub mod Holidays
 pub mod Messages
 pub mod Returns
 pub mod Registers
+pub mod Endings
 pub mod Verdicts
 pub mod Keys
 pub mod Conditions
 pub mod Clear
+pub mod Services
+pub mod Moves

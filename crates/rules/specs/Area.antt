@@ -10,6 +10,7 @@ use Rattle.rules.specs.Text.{ascii, equal, bytes, bigEndian, given, over
 use Rattle.rules.specs.Engine.{Key, Position, Reference, Engine, within}
 pub use Rattle.rules.specs.Engine.{areaSize}
 use Rattle.rules.specs.Calls.{Answer, openCall, messageCall, turnCall}
+use Rattle.rules.specs.Moves.{newerCall, olderCall}
 
 -- ---- layout: numbers are big-endian, unused room is zero
 --   0  mark (2), day (3), outgoing count (2), positions (1), references (1), currency (1), lengths of at most three texts (2 each)
@@ -190,7 +191,7 @@ decode a = record {
 unfoldable pub holds : List ℕ → Option Engine
 holds a = let e = decode a in given (leb areaSize (length a) && within e && equal (encode e) (take areaSize a)) e
 
--- ---- the three calls on areas
+-- ---- the calls on areas
 
 -- what a call answers, and area and output as it leaves them
 pub record Result : Type 0 where
@@ -223,3 +224,10 @@ cardMessage s area out = onAreas (messageCall (length out) (holds area) s) area 
 -- a turn, with the engine area and the output lent to the call
 unfoldable pub cardTurn : ℕ → List ℕ → List ℕ → Result
 cardTurn day area out = onAreas (turnCall (length out) (holds area) day) area out
+
+-- the moves of a register's text, with the output alone lent to the call
+unfoldable pub cardNewer : List ℕ → List ℕ → Result
+cardNewer text out = onAreas (newerCall (length out) none text) [] out
+
+unfoldable pub cardOlder : List ℕ → List ℕ → Result
+cardOlder text out = onAreas (olderCall (length out) none text) [] out

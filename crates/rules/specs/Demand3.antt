@@ -10,9 +10,10 @@ use Rattle.rules.specs.Text.{Rearranged}
 use Rattle.rules.specs.Register.{registerOf}
 use Rattle.rules.specs.Engine.{Engine}
 use Rattle.rules.specs.Area.{Result, cardOpen, cardMessage, cardTurn, holds}
-use Rattle.rules.specs.Ledger.{Request, message, turn, Event, ledgerOf, held, sameEntry, isTransfer, isCollection, isReturn, isRefund, isCredit, sumOf, sinceTurn, accepted, untouchedOf}
+use Rattle.rules.specs.Services.{serviceResult}
+use Rattle.rules.specs.Ledger.{Request, message, turn, service, Event, ledgerOf, held, sameEntry, isTransfer, isCollection, isReturn, isRefund, isCredit, sumOf, sinceTurn, accepted, untouchedOf}
 
--- a call of the list: a message or a turn, and the output area lent to it
+-- a call of the list, and the output area lent to it
 pub record Call : Type 0 where
   pub request : Request
   pub output : List ℕ
@@ -21,6 +22,7 @@ pub record Call : Type 0 where
 unfoldable pub result : Request → List ℕ → List ℕ → Result
 result (message s) area out = cardMessage s area out
 result (turn day) area out = cardTurn day area out
+result (service v) area out = serviceResult v area out
 
 -- the calls and their answers, and the area at the end
 pub record Ran : Type 0 where
@@ -53,7 +55,7 @@ pub record Balanced (temporary : List ℕ) (r : Ran) : Type 0 where
   pub untouchedHeld : sinceTurn false (r .events) ≡ true → (bank : ℕ) → bank < 2 ^ 64
       → held bank (ledgerOf (r .events)) ≡ pos (untouchedOf bank (accepted (r .events)))
 
--- "After any list of message and turn calls (refused ones included) behind an accepted opening"
+-- "After any list of message and turn calls (refused ones included) behind an accepted opening", and whatever services stand among them
 abbrev pub Demand3 : Type 0
 Demand3 =
     (text list : List ℕ) (day : ℕ) (area : List ℕ) (calls : List Call)

@@ -12,11 +12,13 @@ use Rattle.rules.specs.Lines.{Line, lines, parted}
 use Rattle.rules.specs.Messages.{Message, mt103, mt101, read, dateOf, transferredBy}
 use Rattle.rules.specs.Engine.{Position, alike, raised, kept, bic}
 use Rattle.rules.specs.Calls.{addition, bankOf}
+use Rattle.rules.specs.Services.{Service}
 
--- what a call was handed: its message or day
+-- what a call was handed: its message or day, or what a call that changes no engine is handed
 pub data Request : Type 0 where
   message : List ℕ → Request
   turn : ℕ → Request
+  service : Service → Request
 
 -- a call: what it was handed, the number that it answered and the bytes that it wrote
 pub record Event : Type 0 where
@@ -36,10 +38,11 @@ unfoldable pub enteredBy : Option Message → List Position → List Position
 enteredBy none ledger = ledger
 enteredBy (some m) ledger = entered (addition m) ledger
 
--- "An accepted turn removes each entry with detailed above 0."
+-- "An accepted turn removes each entry with detailed above 0."; all other calls count for nothing
 unfoldable pub applied : Request → List Position → List Position
 applied (message s) ledger = enteredBy (read s) ledger
 applied (turn day) ledger = kept ledger
+applied (service v) ledger = ledger
 
 -- "A refused call changes nothing."
 unfoldable pub ledgerFrom : List Position → List Event → List Position
@@ -117,6 +120,7 @@ Kind = Request → Posted → Bool
 unfoldable pub isMessage : Request → Bool
 isMessage (message s) = true
 isMessage (turn day) = false
+isMessage (service v) = false
 
 -- "a debit of that bank is a transfer if day and centralisation date are equal, else a collection"
 unfoldable pub isTransfer : ℕ → Kind
@@ -160,11 +164,18 @@ sumOf kind (e ∷ es) = sumOfLines kind (e .request) (linesOf e) + sumOf kind es
 unfoldable pub isTurn : Request → Bool
 isTurn (message s) = false
 isTurn (turn day) = true
+isTurn (service v) = false
 
--- "From each accepted turn until the next accepted message": the last call accepted is a turn
+-- is it so behind an accepted call, where it was b before?
+unfoldable pub turnedBy : Bool → Request → Bool
+turnedBy b (message s) = false
+turnedBy b (turn day) = true
+turnedBy b (service v) = b
+
+-- "From each accepted turn until the next accepted message": of all messages and turns the last one accepted is a turn
 unfoldable pub sinceTurn : Bool → List Event → Bool
 sinceTurn b [] = b
-sinceTurn b (e ∷ es) = let on = sinceTurn (isTurn (e .request)) es in let same = sinceTurn b es in cond (eqb (e .number) 0) on same
+sinceTurn b (e ∷ es) = let on = sinceTurn (turnedBy b (e .request)) es in let same = sinceTurn b es in cond (eqb (e .number) 0) on same
 
 -- a message, if there is one
 unfoldable pub listed : Option Message → List Message
@@ -175,6 +186,7 @@ listed (some m) = m ∷ []
 unfoldable pub messageOf : Request → List Message
 messageOf (message s) = listed (read s)
 messageOf (turn day) = []
+messageOf (service v) = []
 
 -- "A bank's transfers and details since opening are those of its accepted messages, also where the entry has been removed."
 unfoldable pub accepted : List Event → List Message

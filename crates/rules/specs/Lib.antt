@@ -11,12 +11,15 @@ pub mod Verdict
 pub mod Engine
 pub mod Written
 pub mod Calls
+pub mod Moves
 pub mod Area
+pub mod Services
 pub mod Ledger
 pub mod Demand3
 pub mod OnBankingDays
 pub mod SameMornings
 pub mod WithoutCodes
+pub mod ThereAndBack
 pub mod Replay
 pub mod Cases
 pub mod Listing

@@ -1,4 +1,4 @@
--- Document 01, "Written": the worked listing as a theorem, with the return of document 02, CR 1, and no holidays (CR 2). Every line ends in CR LF.
+-- Document 01, "Written": the worked listing as a theorem, with the return of document 02, CR 1, no holidays (CR 2) and the register's last line (CR 6). Every line ends in CR LF.
 use mathlib.Core.Path.{_≡_, refl}
 use mathlib.Core.List.{List, [], _∷_, _++_}
 use Prim.Native.Nat.{ℕ}
@@ -11,12 +11,12 @@ use Rattle.rules.specs.Lines.{lead, takeLine, lines, parted, lastIsClosi
 use Rattle.rules.specs.BankingDays.{daysToYear, daysTo, weekday, isWeekend, holidays, holidaysOf, isListed, isBankingDay}
 use Rattle.rules.specs.Forms.{textLine, fitsRest, fitsRow, leadRows, takeRows}
 use Rattle.rules.specs.Messages.{rowText, rowsText, transferOf, detailOf, takeDetail, details, readTransfer, readOrder, read, senderOf, referenceOf, detailsOf, firstDate, dateOf, transferredBy, sumOfAmounts, detailedBy}
-use Rattle.rules.specs.Register.{accountLine, codeLine, soundAccounts, sameCode, isForeign, soundCodes, sound, ofLines, register, registerOf}
+use Rattle.rules.specs.Register.{accountLine, codeLine, soundAccounts, sameCode, isForeign, soundCodes, sound, ofLines, beforeEnd, register, registerOf}
 use Rattle.rules.specs.Verdict.{found, shaped, inBounds, judged, verdict, ibanBeside, lineByCode, byLine, byCode, isReturned, isListed199}
 use Rattle.rules.specs.Engine.{isBank, keyBefore, sameKey, positionOf, isOpen, booked, hasDetails, kept, slashesFrom, slashed, sameReference, precedes, filed, goodPosition, goodPositions, goodReference, goodReferences, within}
 use Rattle.rules.specs.Written.{posting, reference, firstLine, field, field32A, temporaryField, baerefRow, listedRows, allListed, linked, position79, closed79, mt199, partsOf, mt199s, verdicts, return103, returnOf, returns, field72, mt204, mt205, corrected, isRefunded, correctionPosting, correction, correctionPostings, corrections, correctedCount}
 use Rattle.rules.specs.Calls.{firstOf, answered, holdsOf, openStops, acceptedOpening, opened, openCall, addressed, badReference, badSum, badAmount, foreignPayer, badAccount, manyDates, misdated, positionAfter, noRoom, overLimit, verdictIs, detailPosting, detailPostings, postings, hasVerdict, partsWritten, messagesWritten, messageText, afterMessage, formStops, inputStops, limitStops, roomStops, stateStops, messageStops, acceptedMessage, bothOf, messageCall, turnText, turnStops, refunded, collected, afterTurn, acceptedTurn, turnCall}
-use Rattle.rules.specs.Replay.{replay, sixDigits, lengthOf, partedLengths, textsIn, withTexts, textsBehind, sending, opening, commandOf, command, signed, printed, called, onward, replayFrom, replayIn}
+use Rattle.rules.specs.Replay.{replay, sixDigits, lengthOf, partedLengths, textsIn, withTexts, textsBehind, single, opening, commandOf, command, signed, printed, called, onward, replayFrom, replayIn}
 
 -- texts one below the other
 abbrev pub lined : List String → List ℕ
@@ -26,9 +26,10 @@ lined (s ∷ ss) = ascii s ++ ascii "\r\n" ++ lined ss
 -- "Opened 060302 with BG80.. as temporary account ..; AAAABGSF transfers 100,00; details ..; turn to 060303"
 abbrev pub input : List String
 input =
-    "O,060302,62,0"
+    "O,060302,67,0"
     ∷ "BG80BNBG96611020345678"
     ∷ "BG56BNBG96613000000001,000000,999999"
+    ∷ "END"
     ∷ "M,277"
     ∷ "103,AAAABGSF,BNBGBGSD"
     ∷ ":20:T1"
@@ -135,5 +136,5 @@ output =
 
 -- the replay of the one is the other, byte for byte
 pub listing : replay (lined input) ≡ lined output
-unfolding isDigit isLetter isAlnum isText every run equal fitsSign fits readEach digitsFrom places width numberFrom addedUp over leapRow monthLength exists date daysToYear daysTo weekday isWeekend holidays holidaysOf isListed isBankingDay decimals levs amount written isBic ibanShape withSign numeral remainder control passes lead takeLine lines parted lastIsClosing isClosingLine hasFirstLine framed type sender receiver body textLine fitsRest fitsRow leadRows takeRows rowText rowsText transferOf detailOf takeDetail details readTransfer readOrder read senderOf referenceOf detailsOf firstDate dateOf transferredBy sumOfAmounts detailedBy accountLine codeLine soundAccounts sameCode isForeign soundCodes readLeading any passing twice ordered textBefore sound ofLines register registerOf found shaped inBounds judged verdict ibanBeside lineByCode byLine byCode isReturned isListed199 isBank keyBefore sameKey positionOf isOpen booked hasDetails kept slashesFrom slashed sameReference precedes filed goodPosition goodPositions goodReference goodReferences within posting reference firstLine field field32A temporaryField baerefRow listedRows allListed linked position79 closed79 mt199 partsOf mt199s verdicts return103 returnOf returns field72 mt204 mt205 corrected isRefunded correctionPosting correction correctionPostings corrections correctedCount firstOf answered holdsOf openStops acceptedOpening opened openCall addressed badReference badSum badAmount foreignPayer badAccount manyDates misdated positionAfter noRoom overLimit verdictIs detailPosting detailPostings postings hasVerdict partsWritten messagesWritten messageText afterMessage formStops inputStops limitStops roomStops stateStops messageStops acceptedMessage bothOf messageCall turnText turnStops refunded collected afterTurn acceptedTurn turnCall sixDigits lengthOf partedLengths textsIn withTexts textsBehind sending opening commandOf command signed printed called onward replayFrom replayIn
+unfolding isDigit isLetter isAlnum isText every run equal fitsSign fits readEach digitsFrom places width numberFrom addedUp over leapRow monthLength exists date daysToYear daysTo weekday isWeekend holidays holidaysOf isListed isBankingDay decimals levs amount written isBic ibanShape withSign numeral remainder control passes lead takeLine lines parted lastIsClosing isClosingLine hasFirstLine framed type sender receiver body textLine fitsRest fitsRow leadRows takeRows rowText rowsText transferOf detailOf takeDetail details readTransfer readOrder read senderOf referenceOf detailsOf firstDate dateOf transferredBy sumOfAmounts detailedBy accountLine codeLine soundAccounts sameCode isForeign soundCodes readLeading any passing twice ordered textBefore sound ofLines beforeEnd register registerOf found shaped inBounds judged verdict ibanBeside lineByCode byLine byCode isReturned isListed199 isBank keyBefore sameKey positionOf isOpen booked hasDetails kept slashesFrom slashed sameReference precedes filed goodPosition goodPositions goodReference goodReferences within posting reference firstLine field field32A temporaryField baerefRow listedRows allListed linked position79 closed79 mt199 partsOf mt199s verdicts return103 returnOf returns field72 mt204 mt205 corrected isRefunded correctionPosting correction correctionPostings corrections correctedCount firstOf answered holdsOf openStops acceptedOpening opened openCall addressed badReference badSum badAmount foreignPayer badAccount manyDates misdated positionAfter noRoom overLimit verdictIs detailPosting detailPostings postings hasVerdict partsWritten messagesWritten messageText afterMessage formStops inputStops limitStops roomStops stateStops messageStops acceptedMessage bothOf messageCall turnText turnStops refunded collected afterTurn acceptedTurn turnCall sixDigits lengthOf partedLengths textsIn withTexts textsBehind single opening commandOf command signed printed called onward replayFrom replayIn
 listing = refl

@@ -56,7 +56,7 @@ pub record OnBankingDays (ds : List ℕ) (r : Ran) : Type 0 where
   -- so is every date of what the turns wrote
   pub written : any (isClosed ds) (turnDates (r .events)) ≡ false
 
--- after any list of message and turn calls, refused ones included, behind an accepted opening
+-- after any list of message and turn calls, refused ones included, behind an accepted opening, and whatever services stand among them
 abbrev pub BankingDaysKept : Type 0
 BankingDaysKept =
     (text list : List ℕ) (day : ℕ) (area : List ℕ) (calls : List Call)

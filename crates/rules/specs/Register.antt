@@ -1,13 +1,13 @@
--- Document 01, "Register and opening": the register's text; document 02, CR 5: its code lines.
+-- Document 01, "Register and opening": the register's text; document 02, CR 5: its code lines; CR 6: its last line, and the older form without either.
 use mathlib.Core.Bool.{Bool, _&&_, not}
 use mathlib.Core.List.{List, [], _∷_, map}
-use mathlib.Core.Option.{Option, none, Option·getD}
+use mathlib.Core.Option.{Option, none, Option·map, Option·getD}
 use Prim.Native.Nat.{ℕ}
 use lib.Dec.{leb}
 use lib.ListN.{length, take, drop}
 use Rattle.rules.specs.Text.{ascii, equal, fits, digits, then, given, readEach, Leading, readLeading, any, twice}
 use Rattle.rules.specs.Accounts.{passes}
-use Rattle.rules.specs.Lines.{Line, lines}
+use Rattle.rules.specs.Lines.{Line, before, lines}
 
 -- an account line `IBAN,low,high`, "bounds of the payment code"
 pub record Account : Type 0 where
@@ -75,9 +75,15 @@ ofLines (l ∷ ls) =
     let r : Register = record { temporary = l; accounts = a .read; codes = codes } in
     given (sound r) r)
 
--- the register of a text; none falls under 9
+-- "a last line `END`": the lines before it
+unfoldable pub beforeEnd : List Line → Option (List Line)
+beforeEnd [] = none
+beforeEnd (l ∷ []) = given (equal l (ascii "END")) []
+beforeEnd (l ∷ m ∷ ls) = Option·map (before l) (beforeEnd (m ∷ ls))
+
+-- the register of a text, "which opening now requires" to end so; none falls under 9
 unfoldable pub register : List ℕ → Option Register
-register cs = then (lines cs) ofLines
+register cs = then (then (lines cs) beforeEnd) ofLines
 
 -- of an engine's text, which passed 9
 abbrev pub emptyRegister : Register
@@ -86,3 +92,17 @@ emptyRegister = record { temporary = []; accounts = []; codes = [] }
 -- the register that an engine keeps as its text
 unfoldable pub registerOf : List ℕ → Register
 registerOf cs = Option·getD (register cs) emptyRegister
+
+-- ---- "the old register text, document 01's without code lines"
+
+-- "a first line with the temporary account's IBAN, then 0 to 40 lines"
+unfoldable pub oldOfLines : List Line → Option Register
+oldOfLines [] = none
+oldOfLines (l ∷ ls) =
+    then (readEach accountLine ls) (λ accounts.
+    let r : Register = record { temporary = l; accounts = accounts; codes = [] } in
+    given (soundAccounts r) r)
+
+-- the register of an old text
+unfoldable pub oldRegister : List ℕ → Option Register
+oldRegister cs = then (lines cs) oldOfLines

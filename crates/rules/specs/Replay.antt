@@ -10,12 +10,14 @@ use Rattle.rules.specs.Text.{ascii, digits, decimal, fits, equal, then, 
 use Rattle.rules.specs.Lines.{Line, takeLine, parted}
 use Rattle.rules.specs.Engine.{Engine, areaSize}
 use Rattle.rules.specs.Calls.{Answer, openCall, messageCall, turnCall}
+use Rattle.rules.specs.Services.{Service, newer, older, serviceCall}
 
--- a command: "`O,day,length` and a register, `M,length` and a message, `T,day`"; with CR 2 the holiday list follows the register
+-- a command: "`O,day,length` and a register, `M,length` and a message, `T,day`"; with CR 2 the holiday list follows the register, with CR 6 `N,length` and `P,length` are moves of a register
 pub data Command : Type 0 where
   opens : ℕ → List ℕ → List ℕ → Command
   sends : List ℕ → Command
   turns : ℕ → Command
+  serves : Service → Command
 
 -- a command, and the input behind it
 pub record Commanded : Type 0 where
@@ -48,9 +50,16 @@ withTexts f ns cs = let size = addedUp ns in given (leb size (length cs)) record
 unfoldable pub textsBehind : (List (List ℕ) → Command) → ℕ → Line → List ℕ → Option Commanded
 textsBehind f n l cs = then (partedLengths n l) (λ ns. withTexts f ns cs)
 
--- "`M,length` and a message"
-unfoldable pub sending : List (List ℕ) → Command
-sending ts = sends (getD ts 0 [])
+-- a command of one text
+unfoldable pub single : (List ℕ → Command) → List (List ℕ) → Command
+single f ts = f (getD ts 0 [])
+
+-- the moves of a register's text
+unfoldable pub toNewer : List ℕ → Command
+toNewer s = serves (newer s)
+
+unfoldable pub toOlder : List ℕ → Command
+toOlder s = serves (older s)
 
 -- "Text that a request adds to opening adds a length and follows the register.": register and holiday list
 unfoldable pub opening : ℕ → List (List ℕ) → Command
@@ -59,10 +68,12 @@ opening day ts = opens day (getD ts 0 []) (getD ts 1 [])
 -- the command of a line, with what stands behind the line
 unfoldable pub commandOf : List ℕ → List ℕ → Option Commanded
 commandOf l cs =
-    cond (equal (take 2 l) (ascii "M,")) (textsBehind sending 1 (drop 2 l) cs)
+    cond (equal (take 2 l) (ascii "M,")) (textsBehind (single sends) 1 (drop 2 l) cs)
+    (cond (equal (take 2 l) (ascii "N,")) (textsBehind (single toNewer) 1 (drop 2 l) cs)
+    (cond (equal (take 2 l) (ascii "P,")) (textsBehind (single toOlder) 1 (drop 2 l) cs)
     (cond (equal (take 2 l) (ascii "T,")) (then (sixDigits (drop 2 l)) (λ d. some record { command = turns d; others = cs }))
     (cond (equal (take 2 l) (ascii "O,") && equal (take 1 (drop 8 l)) (ascii ",")) (then (sixDigits (take 6 (drop 2 l))) (λ d. textsBehind (opening d) 2 (drop 9 l) cs))
-    none))
+    none))))
 
 -- "command lines end in CR LF"
 unfoldable pub command : List ℕ → Option Commanded
@@ -82,6 +93,7 @@ unfoldable pub called : ℕ → Option Engine → Command → Answer
 called room engine (opens day text list) = openCall areaSize engine text list day
 called room engine (sends s) = messageCall room engine s
 called room engine (turns day) = turnCall room engine day
+called room engine (serves v) = serviceCall room engine v
 
 -- what follows from a command, nothing where there is none
 unfoldable pub onward : Option Commanded → (Commanded → List ℕ) → List ℕ

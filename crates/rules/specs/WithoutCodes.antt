@@ -1,4 +1,4 @@
--- Document 02, CR 5, changes nothing else: with a register without code lines every call answers, writes and leaves what it did before. What it did is said here by document 01's register and by its verdict, of field 59 alone.
+-- Document 02, CR 5, changes nothing else: with a register without code lines every call answers, writes and leaves what it did before. What it did is said here by document 01's register and by its verdict, of field 59 alone; the text has its last line since (CR 6).
 use mathlib.Core.Path.{_≡_}
 use mathlib.Core.Bool.{Bool, true, not, cond}
 use mathlib.Core.List.{List, [], _∷_, _++_}
@@ -7,35 +7,24 @@ use Prim.Native.Nat.{ℕ, _+_}
 use lib.Dec.{leb}
 use lib.IntN.{subℕ}
 use lib.ListN.{length}
-use Rattle.rules.specs.Text.{isSome, then, given, readEach, any, passing}
+use Rattle.rules.specs.Text.{isSome, any, passing}
 use Rattle.rules.specs.Dates.{exists}
 use Rattle.rules.specs.BankingDays.{holidays, holidaysOf, isBankingDay}
 use Rattle.rules.specs.Lines.{Line, lines}
 use Rattle.rules.specs.Messages.{Message, mt103, mt101, Detail, account59, read, detailsOf}
-use Rattle.rules.specs.Register.{Register, accountLine, codeLine, soundAccounts, register, registerOf, emptyRegister}
+use Rattle.rules.specs.Register.{Register, codeLine, register, registerOf, emptyRegister, oldRegister}
 use Rattle.rules.specs.Verdict.{Verdict, verdict, isReturned}
 use Rattle.rules.specs.Engine.{Engine, areaSize, booked, filed}
 use Rattle.rules.specs.Written.{Book, fromBank, verdicts, partsOf, returns, correctionPostings, corrections}
 use Rattle.rules.specs.Calls.{stop, Answer, refused, answered, holdsOf, acceptedOpening, ownReference, addition, positionAfter, messageBook, detailPosting, hasVerdict, inputStops, limitStops, refunded, collected, afterTurn}
+use Rattle.rules.specs.Moves.{withEnd}
 use Rattle.rules.specs.Area.{holds, onAreas, cardOpen, cardMessage, cardTurn}
 
 -- ---- the register
 
--- "a first line with the temporary account's IBAN, then 0 to 40 lines"
-unfoldable pub plainOfLines : List Line → Option Register
-plainOfLines [] = none
-plainOfLines (l ∷ ls) =
-    then (readEach accountLine ls) (λ accounts.
-    let r : Register = record { temporary = l; accounts = accounts; codes = [] } in
-    given (soundAccounts r) r)
-
--- the register of a text
-unfoldable pub plainRegister : List ℕ → Option Register
-plainRegister cs = then (lines cs) plainOfLines
-
--- the temporary account of a text
+-- the temporary account of an old text
 abbrev pub plainTemporary : List ℕ → List ℕ
-plainTemporary cs = Option·getD (plainRegister cs) emptyRegister .temporary
+plainTemporary old = Option·getD (oldRegister old) emptyRegister .temporary
 
 -- a line `code,IBAN`
 unfoldable pub isCodeLine : Line → Bool
@@ -114,54 +103,54 @@ plainCall room e s =
 
 -- ---- opening and turn
 
--- an opening: 9 of this register
+-- an opening: 9 of the old text, which is kept with its last line
 unfoldable pub plainOpening : ℕ → Option Engine → List ℕ → List ℕ → ℕ → Answer
-plainOpening size engine text list day =
+plainOpening size engine old list day =
     answered
     (stop 10 (not (leb areaSize size))
     ∷ stop 3 (not (exists day))
-    ∷ stop 9 (not (isSome (plainRegister text)))
+    ∷ stop 9 (not (isSome (oldRegister old)))
     ∷ stop 18 (not (isSome (holidays list)))
     ∷ stop 17 (not (isBankingDay (holidaysOf list) day))
     ∷ [])
     engine
-    (acceptedOpening text list day)
+    (acceptedOpening (withEnd old) list day)
 
--- what a turn writes, by its temporary account
-unfoldable pub plainTurnText : Engine → ℕ → List ℕ
-plainTurnText e day =
-    let t = plainTemporary (e .register) in
+-- what a turn writes, by the temporary account of the old text
+unfoldable pub plainTurnText : List ℕ → Engine → ℕ → List ℕ
+plainTurnText old e day =
+    let t = plainTemporary old in
     correctionPostings day t (e .positions) ++ corrections day t 0 (e .positions)
 
 -- a turn of an engine
-unfoldable pub plainTurn : ℕ → Engine → ℕ → Answer
-plainTurn room e day =
+unfoldable pub plainTurn : ℕ → List ℕ → Engine → ℕ → Answer
+plainTurn room old e day =
     answered
     (stop 3 (not (exists day))
     ∷ stop 11 (leb day (e .day))
     ∷ stop 17 (not (isBankingDay (holidaysOf (e .holidays)) day))
-    ∷ stop 16 (not (leb (length (plainTurnText e day)) room))
+    ∷ stop 16 (not (leb (length (plainTurnText old e day)) room))
     ∷ [])
     (some e)
     record {
       number = 0;
-      text = plainTurnText e day;
+      text = plainTurnText old e day;
       difference = subℕ (refunded (e .positions)) (collected (e .positions));
       next = some (afterTurn e day);
     }
 
 -- ---- the claim
 
--- what is as it was for a register's text
-pub record Unchanged (text : List ℕ) : Type 0 where
+-- what is as it was for an old text, once it has its last line
+pub record Unchanged (old : List ℕ) : Type 0 where
   -- the register, and with it 10 of an area that keeps the text
-  pub reading : register text ≡ plainRegister text
+  pub reading : register (withEnd old) ≡ oldRegister old
   -- an opening with it
-  pub opening : (list : List ℕ) (day : ℕ) (area : List ℕ) → cardOpen text list day area ≡ onAreas (plainOpening (length area) (holds area) text list day) area []
+  pub opening : (list : List ℕ) (day : ℕ) (area : List ℕ) → cardOpen (withEnd old) list day area ≡ onAreas (plainOpening (length area) (holds area) old list day) area []
   -- a message to an area that holds an engine with this text, and a turn of one
-  pub message : (s area out : List ℕ) (e : Engine) → holds area ≡ some e → e .register ≡ text → cardMessage s area out ≡ onAreas (plainCall (length out) e s) area out
-  pub turn : (day : ℕ) (area out : List ℕ) (e : Engine) → holds area ≡ some e → e .register ≡ text → cardTurn day area out ≡ onAreas (plainTurn (length out) e day) area out
+  pub message : (s area out : List ℕ) (e : Engine) → holds area ≡ some e → e .register ≡ withEnd old → cardMessage s area out ≡ onAreas (plainCall (length out) e s) area out
+  pub turn : (day : ℕ) (area out : List ℕ) (e : Engine) → holds area ≡ some e → e .register ≡ withEnd old → cardTurn day area out ≡ onAreas (plainTurn (length out) old e day) area out
 
 -- "a register without code lines"
 abbrev pub WithoutCodes : Type 0
-WithoutCodes = (text : List ℕ) → hasNoCodes text ≡ true → Unchanged text
+WithoutCodes = (old : List ℕ) → hasNoCodes old ≡ true → Unchanged old

@@ -102,7 +102,7 @@ fn say_message(s: &[u8], text: &[u8]) {
 
 // A message to the card whose temporary account is BG80BNBG96611020345678.
 fn try_message(s: &[u8]) {
-    say_message(s, b"BG80BNBG96611020345678\r\n");
+    say_message(s, b"BG80BNBG96611020345678\r\nEND\r\n");
     io::write_all(1, b"\n");
 }
 

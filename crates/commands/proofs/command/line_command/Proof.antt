@@ -4,17 +4,23 @@ use borrow.Author.Needs.{needs}
 use Rattle.commands.proofs.command.line_command.Statement.{statement}
 use Rattle.commands.proofs.command.line_command.Tie as tie
 
-begins-requires : tie.Need-begins-requires
-begins-requires c κs = search (commanded, needs)
+letter-at-requires : tie.Need-letter-at-requires
+letter-at-requires c κs = search (commanded, needs)
 
-message-command-requires : tie.Need-message-command-requires
-message-command-requires c κs = search (commanded, needs)
+enum-known-h : tie.Need-enum-known-h
+enum-known-h c = search (commanded, needs)
+
+text-command-requires : tie.Need-text-command-requires
+text-command-requires c κs = search (commanded, needs)
 
 returns : tie.Need-returns
 returns c = search (commanded, needs)
 
-begins-requires-2 : tie.Need-begins-requires-2
-begins-requires-2 c κs = search (commanded, needs)
+enum-told : tie.Need-enum-told
+enum-told c = search (commanded, needs)
+
+begins-requires : tie.Need-begins-requires
+begins-requires c κs = search (commanded, needs)
 
 turn-command-requires : tie.Need-turn-command-requires
 turn-command-requires c κs = search (commanded, needs)
@@ -22,11 +28,11 @@ turn-command-requires c κs = search (commanded, needs)
 returns-2 : tie.Need-returns-2
 returns-2 c = search (commanded, needs)
 
-begins-requires-3 : tie.Need-begins-requires-3
-begins-requires-3 c κs = search (commanded, needs)
+begins-requires-2 : tie.Need-begins-requires-2
+begins-requires-2 c κs = search (commanded, needs)
 
 open-command-requires : tie.Need-open-command-requires
-open-command-requires c κs = (begins-long _ _ _ _ _ (c .before .begins3 .ensures) (c .if3 .taken) (search needs) (search needs), search needs)
+open-command-requires c κs = (begins-long _ _ _ _ _ (c .before .begins2 .ensures) (c .if2 .taken) (search needs) (search needs), search needs)
 
 returns-3 : tie.Need-returns-3
 returns-3 c = search (commanded, needs)
@@ -38,13 +44,15 @@ pub line-command-spec : {M : Type 1} → statement M
 line-command-spec =
     tie.close
     (tie.spec
-    begins-requires
-    message-command-requires
+    letter-at-requires
+    enum-known-h
+    text-command-requires
     returns
-    begins-requires-2
+    enum-told
+    begins-requires
     turn-command-requires
     returns-2
-    begins-requires-3
+    begins-requires-2
     open-command-requires
     returns-3
     returns-4)

@@ -8,13 +8,13 @@ enum-known-c : tie.Need-enum-known-c
 enum-known-c c = search (replaying, needs)
 
 call-open-requires : tie.Need-call-open-requires
-call-open-requires c κs = search (replaying, needs)
+call-open-requires c κs = (search (replaying, needs), (search (replaying, needs), (search (replaying, needs), search needs)))
 
 enum-known-c-2 : tie.Need-enum-known-c-2
 enum-known-c-2 c = search (replaying, needs)
 
-call-message-requires : tie.Need-call-message-requires
-call-message-requires c κs = search (replaying, needs)
+call-text-requires : tie.Need-call-text-requires
+call-text-requires c κs = search (replaying, needs)
 
 enum-known-c-3 : tie.Need-enum-known-c-3
 enum-known-c-3 c = search (replaying, needs)
@@ -71,7 +71,7 @@ perform-spec =
     enum-known-c
     call-open-requires
     enum-known-c-2
-    call-message-requires
+    call-text-requires
     enum-known-c-3
     call-turn-requires
     enum-told

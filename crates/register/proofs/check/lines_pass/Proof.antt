@@ -13,32 +13,20 @@ add-at c = search (checking, needs)
 cast-at : tie.Need-cast-at
 cast-at c = search (checking, needs)
 
-mul-if1 : tie.Need-mul-if1
-mul-if1 c = search (checking, needs)
-
-cast-if1 : tie.Need-cast-if1
-cast-if1 c = search (checking, needs)
-
-add-if1 : tie.Need-add-if1
-add-if1 c = search (checking, needs)
-
-returns : tie.Need-returns
-returns c = search (checking, needs)
-
 put-marks-requires : tie.Need-put-marks-requires
 put-marks-requires c κs = search (checking, needs)
 
 iban-again-requires : tie.Need-iban-again-requires
 iban-again-requires c κs = search (checking, needs)
 
-returns-2 : tie.Need-returns-2
-returns-2 c = search (checking, needs)
+returns : tie.Need-returns
+returns c = search (checking, needs)
 
 has-foreign-requires : tie.Need-has-foreign-requires
 has-foreign-requires c κs = search (checking, needs)
 
-returns-3 : tie.Need-returns-3
-returns-3 c = search (checking, needs)
+returns-2 : tie.Need-returns-2
+returns-2 c = search (checking, needs)
 
 put-marks-requires-2 : tie.Need-put-marks-requires-2
 put-marks-requires-2 c κs = search (checking, needs)
@@ -46,8 +34,8 @@ put-marks-requires-2 c κs = search (checking, needs)
 appears-again-requires : tie.Need-appears-again-requires
 appears-again-requires c κs = search (checking, needs)
 
-returns-4 : tie.Need-returns-4
-returns-4 c = search (checking, needs)
+returns-3 : tie.Need-returns-3
+returns-3 c = search (checking, needs)
 
 pub lines-pass-spec : {M : Type 1} → statement M
 lines-pass-spec =
@@ -56,15 +44,11 @@ lines-pass-spec =
     mul-at
     add-at
     cast-at
-    mul-if1
-    cast-if1
-    add-if1
-    returns
     put-marks-requires
     iban-again-requires
-    returns-2
+    returns
     has-foreign-requires
-    returns-3
+    returns-2
     put-marks-requires-2
     appears-again-requires
-    returns-4)
+    returns-3)
