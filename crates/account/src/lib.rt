@@ -1,4 +1,6 @@
 // BIC and IBAN at a place of a text.
+#![tactic(auto)]
+
 mod control;
 mod read;
 mod same;

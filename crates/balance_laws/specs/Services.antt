@@ -38,7 +38,7 @@ before_mute s r h =
     let k : LinesRead m.value r = lines_read m.value r m.gives in
     let temporary : Short 22 r.temporary = short_iban r.temporary (and_left _ _ (temporary_passes (with_end s) r h)) in
     let codes : short_lines (k.code_lines ++ []) ≡ true = form_short (λ l c e. omega (arith, code_length l c e)) k.codes [] refl in
-    let accounts : short_lines (k.account_lines_lem ++ k.code_lines) ≡ true = form_short (λ l a e. omega (arith, account_length l a e)) k.accounts k.code_lines (rw append-nil at codes) in
+    let accounts : short_lines (k.account_lines ++ k.code_lines) ≡ true = form_short (λ l a e. omega (arith, account_length l a e)) k.accounts k.code_lines (rw append-nil at codes) in
     record { all = m.value; reading = lines_lined s m.value m.is; short = rw k.all (cond_both _ _ (le-leb (length r.temporary) 41 (omega (arith, temporary.size))) accounts) }
 
 -- and with it

@@ -1,4 +1,6 @@
 // Banking days: neither a Saturday nor a Sunday nor a listed holiday.
+#![tactic(auto)]
+
 mod banking;
 mod list;
 mod weekday;

@@ -1,4 +1,6 @@
 // Dates: six digits, year, month, day, in 2000 to 2099.
+#![tactic(auto)]
+
 ghost use Rattle.std.specs.Prelude.{◌≡◌, true, ◌+◌, ◌/◌, ◌%◌, ◌≤◌, length};
 ghost use Rattle.laws.specs.Parts.{cut};
 ghost use Rattle.laws.specs.Values.{Valued};

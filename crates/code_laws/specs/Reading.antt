@@ -34,9 +34,9 @@ module _ (old : List ℕ) (h : has_no_codes old ≡ true) where
   codes_unlisted r e =
       let m : Came (lines old) of_lines r = came _ _ (sym (register_ended old) ∙ e) in
       let k : LinesRead m.value r = lines_read m.value r m.gives in
-      let a : lines old ≡ some (r.temporary ∷ k.account_lines_lem ++ k.code_lines) = m.is ∙ ap some k.all in
-      let n : any is_code_line (r.temporary ∷ k.account_lines_lem ++ k.code_lines) ≡ false = rw a at (not-true (any is_code_line (get_or (lines old) [])) h) in
-      no_codes k.codes (any_behind is_code_line (r.temporary ∷ k.account_lines_lem) k.code_lines n)
+      let a : lines old ≡ some (r.temporary ∷ k.account_lines ++ k.code_lines) = m.is ∙ ap some k.all in
+      let n : any is_code_line (r.temporary ∷ k.account_lines ++ k.code_lines) ≡ false = rw a at (not-true (any is_code_line (get_or (lines old) [])) h) in
+      no_codes k.codes (any_behind is_code_line (r.temporary ∷ k.account_lines) k.code_lines n)
 
   pub register_plain : register (with_end old) ≡ old_register old
   register_plain = both_there _ _ (λ r e. newer_old old r e (codes_unlisted r e)) (old_newer old)

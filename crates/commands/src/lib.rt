@@ -1,4 +1,6 @@
 // The replay program's input and output: commands read, answers printed.
+#![tactic(auto)]
+
 mod command;
 mod letter;
 mod number;

@@ -1,4 +1,6 @@
 // The conditions 1 to 8, "stopped by the input", of any bytes; of a message that passes them what booking it needs, and its details judged.
+#![tactic(auto)]
+
 mod booking;
 mod message;
 mod order;

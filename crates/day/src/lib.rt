@@ -1,4 +1,6 @@
 // A day replayed: commands carried out one after the other, and their answers printed.
+#![tactic(auto)]
+
 mod call;
 mod onward;
 mod print;

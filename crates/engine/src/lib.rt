@@ -1,4 +1,6 @@
 // The engine read off its area.
+#![tactic(auto)]
+
 mod header;
 pub mod layout;
 mod lookup;

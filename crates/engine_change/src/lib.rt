@@ -1,4 +1,6 @@
 // The area changed by accepted calls: opened, with a message booked, turned.
+#![tactic(auto)]
+
 mod booking;
 mod filing;
 mod opening;

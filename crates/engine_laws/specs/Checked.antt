@@ -83,7 +83,8 @@ module _ {A : Type 0} (a : List ℕ) (test : ℕ → Bool) (reads : List ℕ →
   next_from (suc n) p (more k (more l w)) =
       let e : drop record_size (drop p a) ≡ drop (p + record_size) a = drop-drop record_size p a in
       let o : walk (always test) n (p + record_size) ≡ ordered before (map reads (records (suc n) (drop (p + record_size) a))) = next_from n (p + record_size) (rw e at (more l w)) in
-      rw (same p k (rw e at l), o, e)
+      rw (same p k (rw e at l), o)
+      (ap (λ (ys : List ℕ). cond (before (reads (take record_size (drop p a))) (reads (take record_size ys))) (ordered before (map reads (records (suc n) ys))) false) (sym e))
 
   pub next_walk : (n p : ℕ) → All P (records n (drop p a)) → walk (always test) (n - 1) p ≡ ordered before (map reads (records n (drop p a)))
   unfolding walk ordered records_of

@@ -1,4 +1,6 @@
 // The conditions of one transfer or one detail, 5 to 8, by their fields.
+#![tactic(auto)]
+
 mod fields;
 mod stops;
 

@@ -2,8 +2,8 @@
 use Rattle.std.specs.Prelude.{◌≡◌, refl, Bool, true, false, ◌⊎◌, List, [], ◌∷◌, ℕ, zero, suc, ◌<◌, ◌≤◌, T, ltb, length}
 use Rattle.std.proofs.Common.{sym, ap, subst, inl, inr, arith, lt→ltb, ltb→lt}
 use seplogic.Ra.Ura.{Ura}
-use seplogic.Ra.TreeShare.{full_share}
-use mir.Syntax.{Lifetime, Name, Place, Opd as Operand, Body as Code, named, seq, call}
+use base.Fraction.{full_share}
+use mir.Syntax.{Lifetime, Callee, Place, Opd as Operand, Body as Code, named, seq, call}
 use mir.Val.{Val, vptr}
 use base.Logic.{ent, sep, ex, emp, id⊢}
 use base.Fml.{Lft, GName, Share, Fml, ftrue, fsep, fat, flft, fdead, fobs, fauth, flent, fobor}
@@ -64,11 +64,11 @@ module _ (S : Declared) (L : Laws S) {M : Type 1} {𝓤 : Ura M} (𝓛 : Logic �
   abbrev cell : Fml
   cell = fat full_share (lone (row S).mir) b 0 (val S L x)
 
-  lies : ent 𝓤 (⋆ 𝓛 (‵ cell ∷ ‵ ((row S).own x (vals S L x)) ∷ [])) (sem 𝓛 ((mem (row S)).own_at x b 0))
+  lies : ent 𝓤 (⋆ 𝓛 (‵ cell ∷ ‵ ((row S).own_val x (vals S L x)) ∷ [])) (sem 𝓛 ((mem (row S)).own_at x b 0))
   unfolding part_of
   lies =
-      qed 𝓛 (‵ cell ∷ ‵ ((row S).own x (vals S L x)) ∷ []) ∵ use1 𝓛 (‵ (cell_at full_share (row S).mir (vals S L x) b 0)) (𝓛.laws.at_raw full_share (lone (row S).mir) b 0 (val S L x)) $
-      fjoin ! $ fpack ! (List Val) (λ vs. fsep (cell_at full_share (row S).mir vs b 0) ((row S).own x vs)) (vals S L x) $ done !
+      qed 𝓛 (‵ cell ∷ ‵ ((row S).own_val x (vals S L x)) ∷ []) ∵ use1 𝓛 (‵ (cell_at full_share (row S).mir (vals S L x) b 0)) (𝓛.laws.at_raw full_share (lone (row S).mir) b 0 (val S L x)) $
+      fjoin ! $ fpack ! (List Val) (λ vs. fsep (cell_at full_share (row S).mir vs b 0) ((row S).own_val x vs)) (vals S L x) $ done !
 
   stands : ent 𝓤 (sem 𝓛 ((mem (row S)).own_at x b 0)) (sem 𝓛 cell)
   unfolding part_of
@@ -96,7 +96,7 @@ module _ {M : Type 1} {𝓤 : Ura M} {𝓛 : Logic 𝓤} {K : Type 0} {Γ : List
   -- the local's cell stands in front, and is back at the last value when the call has returned: the loan lasts for a lifetime of the call
   open 𝓛 use {H}
 
-  pub lends_to : {E : Env 𝓤 H} {C : Calls 𝓤 H} {Λ : Loops 𝓤 H} {q : Post 𝓤 H} {d : Place} {f : Name} {xs : List Operand} {rest : Code} → K → FmC 𝓤 H 𝓛.laws C
+  pub lends_to : {E : Env 𝓤 H} {C : Calls 𝓤 H} {Λ : Loops 𝓤 H} {q : Post 𝓤 H} {d : Place} {f : Callee} {xs : List Operand} {rest : Code} → K → FmC 𝓤 H 𝓛.laws C
       → (S : Declared) (L : Laws S) → Plains (fields S) → (R : RattleType) (c : Clauses 𝓤 (Taker S R)) (g : (κs : Lfts 1) (a : Args (Taker S R).signature κs) → (c κs a).ghost) → Triple 𝓤 (C f) (Promise 𝓛 (Taker S R) c)
       → (x : S.D) (b : ℕ) → Is (row S) x (vals S L x) → ((ν : ℕ) (δ : GName) → ent 𝓤 (emp 𝓤) (Asked 𝓛 (Taker S R) c (taking 𝓛 S R c g x b ν δ))) → ((i j : Item 𝓤) → Opds K 𝓛 (i ∷ j ∷ Γ) E xs (vptr b 0 ∷ []))
       → (φ : R.Denot → S.D → Type 0) → ((ν : ℕ) (δ : GName) (r : R.Denot) (w : S.D) → ent 𝓤 (Said 𝓛 (Taker S R) c (taking 𝓛 S R c g x b ν δ) r (w, tt)) (fact 𝓤 (φ r w)))
@@ -108,10 +108,10 @@ module _ {M : Type 1} {𝓤 : Ura M} {𝓛 : Logic 𝓤} {K : Type 0} {Γ : List
       nothing t $ nothing t $ move t (2 ∷ 0 ∷ []) $ fjoin t $ move t (3 ∷ 1 ∷ []) $ join t $ use1 𝓛 (raw (Tokens 𝓛 (Taker S R) c (taking 𝓛 S R c g x b ν δ))) (id⊢ 𝓤 _) $
       -- [the token; what the reference owns; the lender's part; …]
       calls t fm (Taker S R) c met (taking 𝓛 S R c g x b ν δ) (asks ν δ) (os _ _) (λ r ws. φ r ws.0) (λ r ws. says ν δ r ws.0) (λ v r ws e made.
-      -- [the token; what the result owns; the last value; the lender's part; …]
-      use1 𝓛 (‵ (flft (ν ∷ []) full_share) ⊛ ‵ ftrue) (id⊢ 𝓤 _) $ split t $ lft_end t tt $ move t (3 ∷ []) $ fsplit t $ move t (2 ∷ 5 ∷ 0 ∷ []) $
+      -- [the token; what the result owns; the last value, with the borrow; the lender's part; …]
+      use1 𝓛 (‵ (flft (ν ∷ []) full_share) ⊛ ‵ ftrue) (id⊢ 𝓤 _) $ split t $ lft_end t tt $ move t (3 ∷ []) $ fsplit t $ fsplit t $ move t (3 ∷ 6 ∷ 0 ∷ []) $
       use3 𝓛 (later (‵ ((mem (row S)).own_at ws.0 b 0))) (ref_back 𝓛 (row S) (ν ∷ []) δ ws.0 b 0) $ await t tt $ use1 𝓛 (‵ (fat full_share (lone (row S).mir) b 0 (val S L ws.0))) (stands S L 𝓛 ws.0 b) $
-      move t (1 ∷ 2 ∷ 3 ∷ []) $ drop t $ drop t $ drop t $ k v r ws.0 e made)))
+      move t (1 ∷ 2 ∷ 3 ∷ 4 ∷ []) $ drop t $ drop t $ drop t $ drop t $ k v r ws.0 e made)))
 
 -- ---- a `&κ mut [T]` under the name γ, lent again for κ' under the name δ
 

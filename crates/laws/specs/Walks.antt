@@ -2,8 +2,8 @@
 use Rattle.std.specs.Prelude.{◌≡◌, refl, Bool, true, false, not, ℕ, zero, List, [], ◌∷◌, T as Holds}
 use Rattle.std.proofs.Common.{subst}
 use seplogic.Ra.Ura.{Ura}
-use seplogic.Ra.TreeShare.{full_share}
-use mir.Syntax.{Name, Place, Opd as Operand, Body, Ty, seq, call}
+use base.Fraction.{full_share}
+use mir.Syntax.{Callee, Place, Opd as Operand, Body, Ty, seq, call}
 use mir.Val.{Val}
 use base.Logic.{SProp, ent, sep, emp, via, mono∗, mono_r, emp∗, fst∗, snd∗, id⊢}
 use base.Fml.{Fml, fat, froom, fdies}
@@ -57,7 +57,7 @@ module _ {M : Type 1} {𝓤 : Ura M} (𝓛 : Logic 𝓤) (T : Ended) (c : Clause
 
     -- what stands in front once the call has returned v
     abbrev pub Back : Val → Result.Denot → LastOnes → List (Item 𝓤) → List (Item 𝓤)
-    Back v r ws Γ = raw Tokens ∷ ‵ (Result.own r (v ∷ [])) ∷ ‵ (lasts T y.0.0 y.0.3 ws) ∷ Γ
+    Back v r ws Γ = raw Tokens ∷ ‵ (Result.own_val r (v ∷ [])) ∷ ‵ (lasts T y.0.0 y.0.3 ws) ∷ Γ
 
 -- ---- at the start: the facts that are asked, one behind the other, and locals with a value and without one, before others
 
@@ -105,12 +105,12 @@ module _ {M : Type 1} {𝓤 : Ura M} {𝓛 : Logic 𝓤} {K : Type 0} {Γ : List
         → Seq K 𝓛 (raw ((Promise 𝓛 T c).post y v) ∷ Γ) G
     given_back t soaks v k =
         let R : RattleType = Result 𝓛 T c y in
-        use1 𝓛 (later (some (λ (r : R.Denot). (raw (Tokens 𝓛 T c y) ⊛ ‵ (R.own r (v ∷ []))) ⊛ some (λ (ws : LastOnes 𝓛 T c y). ‵ (lasts T y.0.0 y.0.3 ws) ⊛ raw (Said 𝓛 T c y r ws))))) (id⊢ 𝓤 _) $
+        use1 𝓛 (later (some (λ (r : R.Denot). (raw (Tokens 𝓛 T c y) ⊛ ‵ (R.own_val r (v ∷ []))) ⊛ some (λ (ws : LastOnes 𝓛 T c y). ‵ (lasts T y.0.0 y.0.3 ws) ⊛ raw (Said 𝓛 T c y r ws))))) (id⊢ 𝓤 _) $
         await t soaks $ pick t (λ r. split t $ move t (1 ∷ []) $ pick t (λ ws. split t $ move t (1 ∷ []) $ use1 𝓛 (raw (fact 𝓤 (φ r ws))) (says r ws) $ heard t (φ r ws) (λ e.
         move t (1 ∷ []) $ split t $ move t (1 ∷ []) $ peeks t R (Is R) (shows 𝓛 R) r (v ∷ []) (λ is. move t (1 ∷ 0 ∷ []) $ k r ws e is))))
 
   -- a function is called with the tokens, what its arguments own and what it asks
-  pub calls : {E : Env 𝓤 H} {C : Calls 𝓤 H} {Λ : Loops 𝓤 H} {q : Post 𝓤 H} {d : Place} {f : Name} {xs : List Operand} {rest : Body} → K → FmC 𝓤 H 𝓛.laws C
+  pub calls : {E : Env 𝓤 H} {C : Calls 𝓤 H} {Λ : Loops 𝓤 H} {q : Post 𝓤 H} {d : Place} {f : Callee} {xs : List Operand} {rest : Body} → K → FmC 𝓤 H 𝓛.laws C
       → (T : Ended) (c : Clauses 𝓤 T) → Triple 𝓤 (C f) (Promise 𝓛 T c) → (y : (Promise 𝓛 T c).Ghost) → ent 𝓤 (emp 𝓤) (Asked 𝓛 T c y) → Opds K 𝓛 (raw ((Promise 𝓛 T c).pre y) ∷ Γ) E xs ((Promise 𝓛 T c).args y)
       → (φ : (Result 𝓛 T c y).Denot → LastOnes 𝓛 T c y → Type 0) → (says : (r : (Result 𝓛 T c y).Denot) (ws : LastOnes 𝓛 T c y) → ent 𝓤 (Said 𝓛 T c y r ws) (fact 𝓤 (φ r ws)))
       → ((v : Val) (r : (Result 𝓛 T c y).Denot) (ws : LastOnes 𝓛 T c y) → φ r ws → Is (Result 𝓛 T c y) r (v ∷ []) → Seq K 𝓛 (Back 𝓛 T c y v r ws Γ) (lands C Λ E d v rest q))
@@ -120,7 +120,7 @@ module _ {M : Type 1} {𝓤 : Ura M} {𝓛 : Logic 𝓤} {K : Type 0} {Γ : List
       use2 𝓛 (raw ((Promise 𝓛 T c).pre y)) (id⊢ 𝓤 _) $ calls_at t fm (Promise 𝓛 T c) met y os (λ v. given_back T c y φ says t tt v (k v))
 
   -- the same where the call is the last statement of its part, as of a turn of a loop
-  pub calls_last : {E : Env 𝓤 H} {C : Calls 𝓤 H} {Λ : Loops 𝓤 H} {q : Post 𝓤 H} {d : Place} {f : Name} {xs : List Operand} → K → FmC 𝓤 H 𝓛.laws C
+  pub calls_last : {E : Env 𝓤 H} {C : Calls 𝓤 H} {Λ : Loops 𝓤 H} {q : Post 𝓤 H} {d : Place} {f : Callee} {xs : List Operand} → K → FmC 𝓤 H 𝓛.laws C
       → (T : Ended) (c : Clauses 𝓤 T) → Triple 𝓤 (C f) (Promise 𝓛 T c) → (y : (Promise 𝓛 T c).Ghost) → ent 𝓤 (emp 𝓤) (Asked 𝓛 T c y) → Opds K 𝓛 (raw ((Promise 𝓛 T c).pre y) ∷ Γ) E xs ((Promise 𝓛 T c).args y)
       → (φ : (Result 𝓛 T c y).Denot → LastOnes 𝓛 T c y → Type 0) → (says : (r : (Result 𝓛 T c y).Denot) (ws : LastOnes 𝓛 T c y) → ent 𝓤 (Said 𝓛 T c y r ws) (fact 𝓤 (φ r ws)))
       → ((v : Val) (r : (Result 𝓛 T c y).Denot) (ws : LastOnes 𝓛 T c y) → φ r ws → Is (Result 𝓛 T c y) r (v ∷ []) → Seq K 𝓛 (Back 𝓛 T c y v r ws Γ) (settles E d v q))
@@ -182,11 +182,11 @@ module _ {M : Type 1} {𝓤 : Ura M} (𝓛 : Logic 𝓤) where
       Left = (walk_of 𝓛 T hs c).post y v
 
       -- the tokens, what gives the result, and what the contract says are enough
-      pub ends : (r : (Result 𝓛 T c y).Denot) (ws : LastOnes 𝓛 T c y) → ent 𝓤 (emp 𝓤) (Said 𝓛 T c y r ws) → {P : SProp 𝓤} → ent 𝓤 P (sem 𝓛 ((Result 𝓛 T c y).own r (v ∷ [])))
+      pub ends : (r : (Result 𝓛 T c y).Denot) (ws : LastOnes 𝓛 T c y) → ent 𝓤 (emp 𝓤) (Said 𝓛 T c y r ws) → {P : SProp 𝓤} → ent 𝓤 P (sem 𝓛 ((Result 𝓛 T c y).own_val r (v ∷ [])))
           → ent 𝓤 (sep 𝓤 (Tokens 𝓛 T c y) P) Left
       ends r ws said {P} gives =
           qed 𝓛 (raw (Tokens 𝓛 T c y) ∷ raw P ∷ []) ∵ suffices ! _ (ends_at 𝓛 T hs c y v r ws (all_fit y.0.0 ss T.kept y.0.3 ws)) $
-          move ! (1 ∷ []) $ use1 𝓛 (‵ ((Result 𝓛 T c y).own r (v ∷ []))) gives $ use0 𝓛 (‵ (has_of y.0.0 ss T.kept hs y.0.3 ws y.0.4)) (none_had y.0.0 ss T.kept y.0.3 ws y.0.4) $ move ! (2 ∷ 0 ∷ []) $
+          move ! (1 ∷ []) $ use1 𝓛 (‵ ((Result 𝓛 T c y).own_val r (v ∷ []))) gives $ use0 𝓛 (‵ (has_of y.0.0 ss T.kept hs y.0.3 ws y.0.4)) (none_had y.0.0 ss T.kept y.0.3 ws y.0.4) $ move ! (2 ∷ 0 ∷ []) $
           use3 𝓛 (raw (on_exit 𝓛 T hs y.0.0 y.0.1 y.0.4 v r y.0.3 ws)) (id⊢ 𝓤 _) $ frame ! $ use0 𝓛 (raw (Said 𝓛 T c y r ws)) said $ done !
 
     -- a function meets its contract by a walk that ends so

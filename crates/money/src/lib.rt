@@ -1,4 +1,6 @@
 // Amounts, read in stotinki.
+#![tactic(auto)]
+
 ghost use Rattle.std.specs.Prelude.{◌≡◌, ◌-◌, ◌^◌, ◌<◌, ◌≤◌, length};
 ghost use Rattle.rules.specs.Amounts.{decimals, levs, amount};
 ghost use Rattle.laws.specs.Parts.{cut};

@@ -1,4 +1,6 @@
 // "The outgoing number is one small record of day and count, stepped forward where it is kept; a message's reference is the day, `GA`, six digits from 000001."
+#![tactic(auto)]
+
 ghost use Rattle.std.specs.Prelude.{◌+◌, ◌<◌, ◌^◌};
 ghost use Rattle.outgoing_number.specs.Issue.{Steps};
 

@@ -1,4 +1,6 @@
 // A position: its key, by which positions are told apart and put in order, and its two totals.
+#![tactic(auto)]
+
 ghost use Rattle.std.specs.Prelude.{◌≡◌};
 ghost use Rattle.rules.specs.Engine.{key_before, same_key};
 ghost use Rattle.position.specs.Values.{key_value};

@@ -1,4 +1,6 @@
 // Writers: each lays its text over the output, as far as that reaches, and answers the place behind it; over an empty output it only measures.
+#![tactic(auto)]
+
 mod amount;
 mod digits;
 mod groups;

@@ -1,4 +1,6 @@
 // References: slashes where condition 5 lets none stand.
+#![tactic(auto)]
+
 ghost use Rattle.std.specs.Prelude.{◌≡◌, ◌&&◌, ◌+◌, ◌-◌, ◌≤◌, eqb, length};
 ghost use Rattle.rules.specs.Engine.{slashed};
 ghost use Rattle.laws.specs.Parts.{cut};

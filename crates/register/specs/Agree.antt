@@ -237,7 +237,7 @@ module _ (s : List ℕ) (n m : ℕ) (a : every (account_stands s) (places_from 3
         accounts_here s n in_first a (codes_at s n m ++ (last_line ∷ [])) (lines_on code_lines s (place n) m (last_line ∷ []) c (closes_lines s (place n + 35 * m) in_close))
         ∙ ap (λ (ls : List Line). some (cut s 0 22 ∷ ls)) (sym (append_assoc (accounts_at s n) (codes_at s n m) (last_line ∷ [])));
     read = record {
-      account_lines_lem = accounts_at s n;
+      account_lines = accounts_at s n;
       code_lines = codes_at s n m;
       all = refl;
       accounts = reads_on account_lines s 24 n a;
@@ -267,7 +267,7 @@ module _ (s : List ℕ) (n : ℕ) (a : every (account_stands s) (places_from 38 
   in_old : old_register s ≡ some (register_in s n 0)
   unfolding register_in accounts_in codes_in places_from first_in
   in_old = old_of s (register_in s n 0) record {
-    account_lines_lem = accounts_at s n;
+    account_lines = accounts_at s n;
     all = rw append-nil at (accounts_here s n old_first a [] none_left);
     accounts = reads_on account_lines s 24 n a;
     codes = refl;
@@ -322,7 +322,7 @@ module _ (s : List ℕ) (r : Register) (h : register s ≡ some r) where
   m = length r.codes
 
   at_front : Front s r (its.read.code_lines ++ (last_line ∷ []))
-  at_front = front s r its.read.account_lines_lem (its.read.code_lines ++ (last_line ∷ [])) (lines_parted s r its) its.read.accounts (register_sound s r h)
+  at_front = front s r its.read.account_lines (its.read.code_lines ++ (last_line ∷ [])) (lines_parted s r its) its.read.accounts (register_sound s r h)
 
   codes_stand : Stand code_lines s (place n) r.codes (last_line ∷ [])
   codes_stand = lines_back code_lines s (place n) its.read.codes at_front.standing.others
@@ -359,7 +359,7 @@ module _ (s : List ℕ) (r : Register) (h : old_register s ≡ some r) where
   old_its = old_read s r h
 
   old_front : Front s r []
-  old_front = front s r old_its.account_lines_lem [] (old_its.all ∙ rw append-nil) old_its.accounts old_its.good
+  old_front = front s r old_its.account_lines [] (old_its.all ∙ rw append-nil) old_its.accounts old_its.good
 
   old_count : count s ≡ length r.accounts
   old_count = front_count s r [] old_front end

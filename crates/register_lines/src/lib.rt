@@ -1,4 +1,6 @@
 // The lines of a register's text: a single line, lines of one form one behind the other, and how one is told from the others.
+#![tactic(auto)]
+
 mod lines;
 mod marks;
 mod sections;

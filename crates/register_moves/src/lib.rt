@@ -1,4 +1,6 @@
 // The moves of a register's text from the old form to the new and back.
+#![tactic(auto)]
+
 mod newer;
 mod older;
 

@@ -1,4 +1,6 @@
 // The replay program: reads commands from standard input and prints the card's answers; `--room N` gives the output another room than 32,768 bytes.
+#![tactic(auto)]
+
 mod going;
 mod words;
 

@@ -1,4 +1,6 @@
 // Replays days and compares what is printed with what is expected: three words for each, the input's file, the expected output's, and the output's room.
+#![tactic(auto)]
+
 ghost use Rattle.std.specs.Prelude.{◌≡◌, ◌≤◌, length};
 ghost use Rattle.io.specs.Counts.{IsPrefixLen};
 

@@ -87,7 +87,7 @@ unfolding sound
 old_newer s r h =
     let k : OldRead s r = old_read s r h in
     rw (register_ended s, k.all)
-    (lines_of _ r record { account_lines_lem = k.account_lines_lem; code_lines = []; all = rw append-nil; accounts = k.accounts; codes = rw k.codes empty; good = and_both _ _ k.good (codes_unasked r k.codes) })
+    (lines_of _ r record { account_lines = k.account_lines; code_lines = []; all = rw append-nil; accounts = k.accounts; codes = rw k.codes empty; good = and_both _ _ k.good (codes_unasked r k.codes) })
 
 -- and a register without codes has such a text before its last line
 pub newer_old : (s : List ℕ) (r : Register) → register (with_end s) ≡ some r → r.codes ≡ [] → old_register s ≡ some r
@@ -96,8 +96,8 @@ newer_old s r h c =
     let m : Came (lines s) of_lines r = came _ _ (sym (register_ended s) ∙ h) in
     let k : LinesRead m.value r = lines_read m.value r m.gives in
     old_of s r record {
-      account_lines_lem = k.account_lines_lem;
-      all = m.is ∙ ap some (k.all ∙ rw (none_read (subst (Reads code_line k.code_lines) c k.codes), append-nil k.account_lines_lem));
+      account_lines = k.account_lines;
+      all = m.is ∙ ap some (k.all ∙ rw (none_read (subst (Reads code_line k.code_lines) c k.codes), append-nil k.account_lines));
       accounts = k.accounts;
       codes = c;
       good = and_left _ _ k.good;

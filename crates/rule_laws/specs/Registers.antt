@@ -40,11 +40,11 @@ end_before (l ∷ k ∷ ms) = rw (end_before (k ∷ ms))
 
 -- a first line, account lines and code lines
 pub record LinesRead (ls : List Line) (r : Register) : Type 0 where
-  pub account_lines_lem : List Line
-  pub code_lines_lem : List Line
-  pub all : ls ≡ r.temporary ∷ account_lines_lem ++ code_lines_lem
-  pub accounts : Reads account_line account_lines_lem r.accounts
-  pub codes : Reads code_line code_lines_lem r.codes
+  pub account_lines : List Line
+  pub code_lines : List Line
+  pub all : ls ≡ r.temporary ∷ account_lines ++ code_lines
+  pub accounts : Reads account_line account_lines r.accounts
+  pub codes : Reads code_line code_lines r.codes
   pub good : sound r ≡ true
 
 pub lines_read : (ls : List Line) (r : Register) → of_lines ls ≡ some r → LinesRead ls r
@@ -55,8 +55,8 @@ lines_read (l ∷ ls) r k =
     let c : Came (read_each code_line (read_leading account_line ls).others) _ r = came _ _ k in
     let g : Gave _ _ r = gave _ _ c.gives in
     rw (← g.is) record {
-      account_lines_lem = a.first;
-      code_lines_lem = (read_leading account_line ls).others;
+      account_lines = a.first;
+      code_lines = (read_leading account_line ls).others;
       all = ap (λ (more : List Line). l ∷ more) a.whole;
       accounts = a.read;
       codes = reads code_line _ c.value c.is;
@@ -77,11 +77,11 @@ register_read s r h =
     record { before = b.value; all = l.is ∙ ap some (before_end_lem l.value b.value l.gives); read = lines_read b.value r b.gives }
 
 -- its lines, part by part
-pub lines_parted : (s : List ℕ) (r : Register) (k : RegisterRead s r) → lines s ≡ some (r.temporary ∷ k.read.account_lines_lem ++ (k.read.code_lines_lem ++ (last_line ∷ [])))
+pub lines_parted : (s : List ℕ) (r : Register) (k : RegisterRead s r) → lines s ≡ some (r.temporary ∷ k.read.account_lines ++ (k.read.code_lines ++ (last_line ∷ [])))
 lines_parted s r k =
     k.all
     ∙ ap (λ (ls : List Line). some (ls ++ (last_line ∷ []))) k.read.all
-    ∙ ap (λ (ls : List Line). some (r.temporary ∷ ls)) (append_assoc k.read.account_lines_lem k.read.code_lines_lem (last_line ∷ []))
+    ∙ ap (λ (ls : List Line). some (r.temporary ∷ ls)) (append_assoc k.read.account_lines k.read.code_lines (last_line ∷ []))
 
 -- ---- the length of a line
 
@@ -215,7 +215,7 @@ module _ (s : List ℕ) (r : Register) (h : register s ≡ some r) where
 
   pub register_size : length s ≡ 24 + 38 * length r.accounts + 35 * length r.codes + 5
   register_size =
-      let f : Before s (its.read.code_lines_lem ++ (last_line ∷ [])) _ = front_size s r temporary_passes its.read.accounts (lines_parted s r its) in
+      let f : Before s (its.read.code_lines ++ (last_line ∷ [])) _ = front_size s r temporary_passes its.read.accounts (lines_parted s r its) in
       let c : Before f.others (last_line ∷ []) _ = before code_line 35 code_wide its.read.codes f.reading in
       omega (arith, f.size, c.size, last c.reading)
     where
@@ -238,9 +238,9 @@ accounts_pass_of s h = let r : There (register s) = there (register s) h in rw r
 
 -- a first line and account lines
 pub record OldRead (s : List ℕ) (r : Register) : Type 0 where
-  pub account_lines_lem : List Line
-  pub all : lines s ≡ some (r.temporary ∷ account_lines_lem)
-  pub accounts : Reads account_line account_lines_lem r.accounts
+  pub account_lines : List Line
+  pub all : lines s ≡ some (r.temporary ∷ account_lines)
+  pub accounts : Reads account_line account_lines r.accounts
   pub codes : r.codes ≡ []
   pub good : sound_accounts r ≡ true
 
@@ -253,7 +253,7 @@ old_read s r h = let l : Came (lines s) old_of_lines r = came _ _ h in go l.valu
     go (l ∷ ls) e k =
         let a : Came (read_each account_line ls) _ r = came _ _ k in
         let g : Gave _ _ r = gave _ _ a.gives in
-        rw (← g.is) record { account_lines_lem = ls; all = e; accounts = reads account_line ls a.value a.is; codes = refl; good = g.test }
+        rw (← g.is) record { account_lines = ls; all = e; accounts = reads account_line ls a.value a.is; codes = refl; good = g.test }
 
 pub old_of : (s : List ℕ) (r : Register) → OldRead s r → old_register s ≡ some r
 unfolding old_register old_of_lines

@@ -1,1 +1,2 @@
 // Laws about the definitions of `rules`; there is no code.
+#![tactic(auto)]

@@ -1,4 +1,6 @@
 // Bytes and texts: classes of bytes, runs of a class, parts compared with each other, numbers.
+#![tactic(auto)]
+
 mod against;
 mod classes;
 mod numbers;

@@ -1,4 +1,6 @@
 // Reads messages, `@NAME` and the bytes up to the next `@`, and writes for each the lowest number of 1 to 8 that stops it, or 0 and its parts.
+#![tactic(auto)]
+
 ghost use Rattle.std.specs.Prelude.{◌≤◌, length};
 ghost use Rattle.try_forms.specs.Places.{Reached};
 

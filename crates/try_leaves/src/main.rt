@@ -1,4 +1,6 @@
 // Reads lines KIND=TEXT and writes each with what the text is: d a date, n a day's number, a an amount, i an IBAN, b a BIC.
+#![tactic(auto)]
+
 ghost use Rattle.std.specs.Prelude.{◌+◌, ◌≤◌, length};
 
 use text::Num;

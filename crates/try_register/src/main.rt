@@ -1,4 +1,6 @@
 // Reads registers, `#NAME` and the text, which passes or falls under 9, and fields 59, `@FIELD` or `@FIELD|CODE`, which are judged by the register before them.
+#![tactic(auto)]
+
 ghost use Rattle.std.specs.Prelude.{◌≤◌, length};
 ghost use Rattle.try_register.specs.Places.{Reached};
 

@@ -1,4 +1,6 @@
 // Writes texts of worked days: the listing's posting lines, a turn that collects and refunds, the rows around the returned details of an MT199, and returns.
+#![tactic(auto)]
+
 ghost use Rattle.std.specs.Prelude.{◌≤◌, length};
 
 use position::{Key, Position};

@@ -1,4 +1,6 @@
 // The judgement of a detail: field 59 behind its slash, credited or returned; where it would be returned, its code.
+#![tactic(auto)]
+
 mod detail;
 
 ghost use Rattle.std.specs.Prelude.{◌≡◌, true, ◌<◌, ◌≤◌, length};

@@ -1,0 +1,14 @@
+-- A byte again and again: those not yet stored are left to write.
+use Prim.Native.Nat.{◌≤◌, ◌-◌, ◌+◌}
+use native.Mathlib.Omega.{arith}
+use lib.ListN.{length}
+use borrow.Author.Rules.{rules}
+use Rattle.laws.specs.Sets.{writing}
+use Rattle.laws.specs.Writing.{Left, filled, fill_turn, fill_start}
+use Rattle.put.proofs.parts.fill.Given as goal
+
+abbrev pub invariant-loop-i : goal.invariant-loop-i
+invariant-loop-i l = (l.i ≤ l.at + l.n) × (l.at + l.n ≤ length l.out) × Left (filled (l.at + l.n - l.i) l.b) l.i l.out (filled l.n l.b) l.at l.initial.out
+
+abbrev pub decreases-loop-i : goal.decreases-loop-i
+decreases-loop-i l = l.at + l.n - l.i

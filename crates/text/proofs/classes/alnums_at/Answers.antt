@@ -1,0 +1,36 @@
+-- `text::classes::alnums_at` meets its contract. The loop's invariant: k bytes have passed, and what is left decides for the whole part.
+use Prim.Native.Nat.{◌-◌}
+use borrow.Author.Rules.{rules}
+use Rattle.rules.specs.Text.{is_alnum}
+use Rattle.laws.specs.Places.{Passing, placing}
+use Rattle.text.proofs.classes.alnums_at.Goals as goal
+
+pub loop-k-init : goal.loop-k-init
+loop-k-init c = search (placing, rules)
+
+pub overflow_cast-k : goal.overflow_cast-k
+overflow_cast-k c = search (placing, rules)
+
+pub overflow_add-a : goal.overflow_add-a
+overflow_add-a c = search (placing, rules)
+
+pub bounds-s-a : goal.bounds-s-a
+bounds-s-a c = search (placing, rules)
+
+pub is_alnum-requires : goal.is_alnum-requires
+is_alnum-requires c = search (placing, rules)
+
+pub overflow_add-k : goal.overflow_add-k
+overflow_add-k c = search (placing, rules)
+
+pub loop-k-smaller : goal.loop-k-smaller
+loop-k-smaller c = search (placing, rules)
+
+pub loop-k-preserved : goal.loop-k-preserved
+loop-k-preserved c = search (placing, rules)
+
+pub returns-else-is_alnum : goal.returns-else-is_alnum
+returns-else-is_alnum c = search (placing, rules)
+
+pub returns : goal.returns
+returns c = search (placing, rules)

@@ -1,0 +1,29 @@
+-- `text::numbers::read_be` meets its contract: the number so far, with the bytes that are left behind it, is the number of the part.
+use mathlib.Core.Path.{◌≡◌}
+use Prim.Native.Nat.{◌≤◌, ◌<◌, ◌-◌}
+use borrow.Author.Rules.{rules}
+use Rattle.rules.specs.Text.{big_endian, number_from}
+use Rattle.laws.specs.Reading.{power, reading}
+use Rattle.laws.specs.Parts.{cut}
+use Rattle.text.proofs.numbers.read_be.Goals as goal
+
+pub loop-i-init : goal.loop-i-init
+loop-i-init c = search (reading, rules)
+
+pub bounds-s-i : goal.bounds-s-i
+bounds-s-i c = search (reading, rules)
+
+pub with_byte-v-requires : goal.with_byte-v-requires
+with_byte-v-requires c = search (reading, rules)
+
+pub overflow_add-i : goal.overflow_add-i
+overflow_add-i c = search (reading, rules)
+
+pub loop-i-smaller : goal.loop-i-smaller
+loop-i-smaller c = search (reading, rules)
+
+pub loop-i-preserved : goal.loop-i-preserved
+loop-i-preserved c = search (reading, rules)
+
+pub returns : goal.returns
+returns c = search (reading, rules)
