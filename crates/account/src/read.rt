@@ -7,7 +7,7 @@ ghost use Rattle.account.specs.Read.{read_of};
 use crate::shape::iban_shape;
 
 // What is read.
-#[derive(Drop)]
+#[derive(Clone, Copy)]
 pub enum AccountRead {
     // The compact form, which uses 22 bytes.
     Compact,

@@ -10,7 +10,7 @@ use lines::Next;
 use text::Num;
 
 // A command, by its places in the input.
-#[derive(Drop)]
+#[derive(Clone, Copy)]
 pub enum Command {
     // An opening: its day, and where its register begins, where that ends and its holiday list begins, and where that ends.
     Opens(u32, usize, usize, usize),

@@ -4,7 +4,7 @@ ghost use Rattle.laws.specs.Parts.{cut};
 ghost use Rattle.commands.specs.Letters.{begins_with, letter_in};
 
 // What the text of a command is that has one text.
-#[derive(Drop)]
+#[derive(Clone, Copy)]
 pub enum Handed {
     // A message.
     Message,
@@ -15,7 +15,7 @@ pub enum Handed {
 }
 
 // The command that a letter stands for.
-#[derive(Drop)]
+#[derive(Clone, Copy)]
 pub enum Letter {
     // One that has one text.
     Text(Handed),

@@ -10,7 +10,7 @@ ghost use Rattle.commands.specs.Numbers.{lengths_in, room_of};
 use text::Num;
 
 // The reading of the lengths of an opening.
-#[derive(Drop)]
+#[derive(Clone, Copy)]
 pub enum Lengths {
     // The register's and the holiday list's.
     Two(u64, u64),

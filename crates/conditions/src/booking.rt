@@ -6,7 +6,7 @@ use forms::Span;
 use position::Key;
 
 // A message as it is booked.
-#[derive(Drop)]
+#[derive(Clone, Copy)]
 pub struct Booking {
     // The key of its position.
     pub key: Key,

@@ -17,7 +17,7 @@ use lines::is_framed;
 use text::equal_parts;
 
 // What the check of a message answers.
-#[derive(Drop)]
+#[derive(Clone, Copy)]
 pub enum Checked {
     // One of 1 to 8 holds: its number.
     Refused(u32),

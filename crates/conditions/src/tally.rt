@@ -13,7 +13,7 @@ use lines::closes_at;
 use verdict::judge_line;
 
 // What is told of all details together.
-#[derive(Drop)]
+#[derive(Clone, Copy)]
 pub struct Tally {
     // Are they in form, up to the closing line?
     pub ok: bool,

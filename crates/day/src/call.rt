@@ -13,7 +13,7 @@ ghost use Rattle.day.specs.Replaying.{answer_to};
 use commands::{Command, Handed};
 
 // What a call answered.
-#[derive(Drop)]
+#[derive(Clone, Copy)]
 pub struct Outcome {
     // 0 for an acceptance, else the number of the refusal.
     pub number: u32,

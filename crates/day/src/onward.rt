@@ -4,7 +4,7 @@ ghost use Rattle.day.specs.Onwards.{WindowReady, Unread, Wanted, Onwards};
 use crate::replay::{Step, carry_out};
 
 // What came of a turn.
-#[derive(Drop)]
+#[derive(Clone, Copy)]
 pub enum Onward {
     // An answer was printed: the place behind its command, and its size.
     Answered(usize, usize),

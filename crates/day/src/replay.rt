@@ -34,7 +34,7 @@ fn next_of(c: Command) -> usize
 }
 
 // What was done at a place of the input.
-#[derive(Drop)]
+#[derive(Clone, Copy)]
 pub enum Step {
     // A command was carried out: the places behind it and behind its answer.
     Done(usize, usize),

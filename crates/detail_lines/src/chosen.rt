@@ -29,7 +29,7 @@ fn is_returned(v: Verdict) -> bool
 }
 
 // How many of a message's details there are by their verdicts.
-#[derive(Drop)]
+#[derive(Clone, Copy)]
 pub struct Counts {
     // Those that the MT199 lists.
     pub listed: u32,

@@ -8,7 +8,7 @@ use crate::rows::put_listed_rows;
 use verdict::judged_at;
 
 // How far rows were written.
-#[derive(Drop)]
+#[derive(Clone, Copy)]
 pub struct Place {
     // The place in the output.
     pub out: usize,

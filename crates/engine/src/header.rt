@@ -8,7 +8,7 @@ use crate::layout::{AREA, COUNT, DAY, MANY_POSITIONS, MANY_REFERENCES};
 use text::number_at;
 
 // The numbers of an area's header.
-#[derive(Drop)]
+#[derive(Clone, Copy)]
 pub struct Header {
     // The day.
     pub day: u32,

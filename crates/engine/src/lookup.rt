@@ -15,7 +15,7 @@ use crate::reference::reference_used;
 use position::Key;
 
 // The totals of a position; a missing one has 0 and 0.
-#[derive(Drop)]
+#[derive(Clone, Copy)]
 pub struct Totals {
     // Is the position open?
     pub is_open: bool,

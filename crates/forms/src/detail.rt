@@ -8,7 +8,7 @@ use crate::rows::{Span, read_rows};
 use text::Num;
 
 // A detail as it is read.
-#[derive(Drop)]
+#[derive(Clone, Copy)]
 pub struct Detail {
     // Is it in form?
     pub ok: bool,

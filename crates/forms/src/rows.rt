@@ -8,7 +8,7 @@ use crate::table::row_at;
 use lines::{Next, reader_over, take_line};
 
 // A part of the message.
-#[derive(Drop)]
+#[derive(Clone, Copy)]
 pub struct Span {
     // The place of its first byte.
     pub start: u16,
@@ -17,7 +17,7 @@ pub struct Span {
 }
 
 // The lines of a form.
-#[derive(Drop)]
+#[derive(Clone, Copy)]
 pub struct Rows {
     // Are they in form?
     pub ok: bool,
@@ -40,7 +40,7 @@ fn part(a: usize, e: usize) -> Span
 }
 
 // What a row makes of the line at its place.
-#[derive(Drop)]
+#[derive(Clone, Copy)]
 pub struct Matched {
     // Does the line fit, or may the row be left out?
     pub ok: bool,

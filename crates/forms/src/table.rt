@@ -7,7 +7,7 @@ ghost use Rattle.forms.specs.Table.{heads, head_row, text_row, more_row, word_at
 use text::fits_sign;
 
 // What stands behind a row's head.
-#[derive(Drop)]
+#[derive(Clone, Copy)]
 pub enum Rest {
     // The head is the whole line.
     Nothing,
@@ -24,7 +24,7 @@ pub enum Rest {
 }
 
 // A row of a form.
-#[derive(Drop)]
+#[derive(Clone, Copy)]
 pub struct Row {
     // Where its head, the pattern of the line's first bytes, begins among the heads.
     pub start: u8,

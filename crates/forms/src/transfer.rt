@@ -9,7 +9,7 @@ use lines::closes_at;
 use text::Num;
 
 // A transfer as it is read.
-#[derive(Drop)]
+#[derive(Clone, Copy)]
 pub struct Transfer {
     // Is it in form?
     pub ok: bool,

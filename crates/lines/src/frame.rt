@@ -21,7 +21,7 @@ pub fn closes_at(s: &[u8], at: usize) -> bool
 }
 
 // What is seen of a text, line by line.
-#[derive(Drop)]
+#[derive(Clone, Copy)]
 pub struct Seen {
     // Is a line to come?
     pub more: bool,

@@ -3,7 +3,7 @@ ghost use Rattle.std.specs.Prelude.{◌+◌, ◌≤◌, length};
 ghost use Rattle.lines.specs.Answers.{LineAt, Plain};
 
 // The next line of a text.
-#[derive(Drop)]
+#[derive(Clone, Copy)]
 pub enum Next {
     // The place of the CR LF behind it.
     Line(usize),

@@ -5,7 +5,7 @@ ghost use Rattle.lines.specs.Answers.{LineAt, over};
 use crate::line::{Next, line_end};
 
 // A reader over a message.
-#[derive(Drop)]
+#[derive(Clone, Copy)]
 pub struct Reader<'a> {
     // The message.
     pub text: &'a [u8],

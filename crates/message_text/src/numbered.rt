@@ -8,7 +8,7 @@ use outgoing_number::{Numbered, Outgoing, Reference, issue};
 use position::Position;
 
 // What is due for a message.
-#[derive(Drop)]
+#[derive(Clone, Copy)]
 pub struct Due {
     // How many messages: parts and returns.
     pub messages: u32,
@@ -19,7 +19,7 @@ pub struct Due {
 }
 
 // How far the messages have come.
-#[derive(Drop)]
+#[derive(Clone, Copy)]
 pub struct Progress {
     // The place in the output.
     pub out: usize,

@@ -5,7 +5,7 @@ ghost use Rattle.std.specs.Prelude.{◌+◌, ◌<◌, ◌^◌};
 ghost use Rattle.outgoing_number.specs.Issue.{Steps};
 
 // The outgoing number.
-#[derive(Drop)]
+#[derive(Clone, Copy)]
 pub struct Outgoing {
     // The day.
     pub day: u32,
@@ -14,7 +14,7 @@ pub struct Outgoing {
 }
 
 // What a message's reference is made of.
-#[derive(Drop)]
+#[derive(Clone, Copy)]
 pub struct Reference {
     // The day.
     pub day: u32,
@@ -23,7 +23,7 @@ pub struct Reference {
 }
 
 // How far numbered messages have come.
-#[derive(Drop)]
+#[derive(Clone, Copy)]
 pub struct Numbered {
     // The place behind the last of them.
     pub at: usize,

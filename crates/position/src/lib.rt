@@ -6,7 +6,7 @@ ghost use Rattle.rules.specs.Engine.{key_before, same_key};
 ghost use Rattle.position.specs.Values.{key_value};
 
 // What tells one position from another.
-#[derive(Drop)]
+#[derive(Clone, Copy)]
 pub struct Key {
     // The sender, the number of its BIC.
     pub bank: u64,
@@ -15,7 +15,7 @@ pub struct Key {
 }
 
 // A position.
-#[derive(Drop)]
+#[derive(Clone, Copy)]
 pub struct Position {
     // Its bank and date.
     pub key: Key,

@@ -12,7 +12,7 @@ ghost use Rattle.register.specs.Searching.{AccountCount, CodesOf};
 use register_lines::bound_at;
 
 // The search for an account line.
-#[derive(Drop)]
+#[derive(Clone, Copy)]
 pub enum Found {
     // The line, counted from 0.
     At(usize),
@@ -54,7 +54,7 @@ pub fn find_account(text: &[u8], s: &[u8], at: usize) -> Found
 }
 
 // The code lines of a register.
-#[derive(Drop)]
+#[derive(Clone, Copy)]
 struct Codes {
     // Where the first begins.
     at: u32,

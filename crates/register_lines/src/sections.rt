@@ -6,7 +6,7 @@ ghost use Rattle.register_lines.specs.Counts.{LinesFrom};
 use crate::lines::{account_line_stands, code_line_stands};
 
 // The form of a line.
-#[derive(Drop)]
+#[derive(Clone, Copy)]
 pub enum Form {
     // `IBAN,low,high`, told from others by its IBAN.
     AccountLine,

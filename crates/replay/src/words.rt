@@ -4,7 +4,7 @@ ghost use Rattle.replay.specs.Going.{RoomWithin};
 use text::Num;
 
 // What the words on the command line ask for.
-#[derive(Drop)]
+#[derive(Clone, Copy)]
 pub enum Room {
     // The room of the output.
     Bytes(usize),

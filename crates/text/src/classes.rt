@@ -105,7 +105,7 @@ pub fn texts_at(s: &[u8], a: usize, n: u32) -> u32
 }
 
 // A class of bytes.
-#[derive(Drop)]
+#[derive(Clone, Copy)]
 pub enum Class {
     // A digit, `n` in a pattern.
     Digit,

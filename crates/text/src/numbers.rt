@@ -10,7 +10,7 @@ ghost use Rattle.text.specs.Numbers.{NumberAt};
 use crate::classes::digits_at;
 
 // The reading of a number.
-#[derive(Drop)]
+#[derive(Clone, Copy)]
 pub enum Num {
     // The number.
     Value(u64),

@@ -10,7 +10,7 @@ use engine::{header_of, nth_position};
 use position::Position;
 
 // The sums of a turn.
-#[derive(Drop)]
+#[derive(Clone, Copy)]
 pub struct Sums {
     // The sum refunded.
     pub refunded: u64,

@@ -44,7 +44,7 @@ fn put_correction_postings(
 }
 
 // Where the messages of a turn have come to.
-#[derive(Drop)]
+#[derive(Clone, Copy)]
 pub struct Correcting {
     // The place in the output.
     pub out: usize,

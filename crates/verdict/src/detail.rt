@@ -12,7 +12,7 @@ use details::line_at;
 use forms::{Span, behind};
 
 // A detail with its verdict.
-#[derive(Drop)]
+#[derive(Clone, Copy)]
 pub struct Judged {
     // Its amount.
     pub amount: u64,

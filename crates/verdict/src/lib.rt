@@ -14,7 +14,7 @@ pub use detail::{Judged, judge_line, judged_at, verdict_by};
 use register::Found;
 
 // Why a detail is returned: the first cause that holds.
-#[derive(Drop)]
+#[derive(Clone, Copy)]
 pub enum Cause {
     // Its account is no IBAN, alone or with a payment code.
     WrongShape,
@@ -27,7 +27,7 @@ pub enum Cause {
 }
 
 // The verdict on a detail.
-#[derive(Drop)]
+#[derive(Clone, Copy)]
 pub enum Verdict {
     // Credited: the account line found, counted from 0.
     Credited(usize),

@@ -1,0 +1,16 @@
+-- `banking_days::list::list_passes` meets its contract: 60 dates take 419 bytes, so a list of no more passes where its dates rise.
+use Rattle.banking_days.specs.Rising.{rises}
+use borrow.Author.Rules.{rules}
+use Rattle.banking_days.proofs.list.list_passes.Goals as goal
+
+pub returns-then-list-eq0 : goal.returns-then-list-eq0
+returns-then-list-eq0 c = search (rises, rules)
+
+pub returns-then-list-gt-LONGEST : goal.returns-then-list-gt-LONGEST
+returns-then-list-gt-LONGEST c = search (rises, rules)
+
+pub dates_rise-requires : goal.dates_rise-requires
+dates_rise-requires c = search (rises, rules)
+
+pub returns : goal.returns
+returns c = search (rises, rules)

@@ -1,0 +1,11 @@
+-- `banking_days::weekday::days_before` meets its contract. The loop's invariant: the days are those of the months before m.
+use Prim.Native.Nat.{◌-◌, ◌≤◌}
+use borrow.Author.Rules.{rules}
+use Rattle.banking_days.specs.Weekdays.{DaysBefore, weekdays}
+use Rattle.banking_days.proofs.weekday.days_before.Given as goal
+
+abbrev pub invariant-loop-m : goal.invariant-loop-m
+invariant-loop-m l = (1 ≤ l.m) × (l.m ≤ l.month) × DaysBefore l.year l.m l.days
+
+abbrev pub decreases-loop-m : goal.decreases-loop-m
+decreases-loop-m l = l.month - l.m
