@@ -1,0 +1,7 @@
+-- `written::corrections::put_detailed_row` meets its contract: the row and the closing line.
+use borrow.Author.Rules.{rules}
+use Rattle.laws.specs.Writing.{wrote_then}
+use Rattle.written.proofs.corrections.put_detailed_row.Goals as goal
+
+pub returns : goal.returns
+returns c = search wrote_then

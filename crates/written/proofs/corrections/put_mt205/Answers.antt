@@ -1,0 +1,9 @@
+-- `written::corrections::put_mt205` meets its contract: the message's four groups of fields in their order.
+use borrow.Author.Rules.{rules}
+use Rattle.rules.specs.Written.{mt205}
+use Rattle.laws.specs.Pieces.{wrote_4}
+use Rattle.written.proofs.corrections.put_mt205.Goals as goal
+
+pub returns : goal.returns
+unfolding mt205
+returns c = search wrote_4

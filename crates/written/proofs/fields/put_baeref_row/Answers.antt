@@ -1,0 +1,9 @@
+-- `written::fields::put_baeref_row` meets its contract: tag, day, number and line end.
+use borrow.Author.Rules.{rules}
+use Rattle.rules.specs.Written.{baeref_row}
+use Rattle.laws.specs.Pieces.{wrote_4}
+use Rattle.written.proofs.fields.put_baeref_row.Goals as goal
+
+pub returns : goal.returns
+unfolding baeref_row
+returns c = search wrote_4

@@ -1,0 +1,7 @@
+-- `written::postings::put_credit` meets its contract: credit and stotinki, a comma behind each.
+use borrow.Author.Rules.{rules}
+use Rattle.laws.specs.Pieces.{wrote_4}
+use Rattle.written.proofs.postings.put_credit.Goals as goal
+
+pub returns : goal.returns
+returns c = search wrote_4

@@ -1,0 +1,9 @@
+-- `written::postings::put_posting` meets its contract: the line's three parts in their order.
+use borrow.Author.Rules.{rules}
+use Rattle.rules.specs.Written.{posting}
+use Rattle.laws.specs.Pieces.{wrote_3}
+use Rattle.written.proofs.postings.put_posting.Goals as goal
+
+pub returns : goal.returns
+unfolding posting
+returns c = search wrote_3
