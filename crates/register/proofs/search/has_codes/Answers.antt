@@ -1,0 +1,10 @@
+-- `register::search::has_codes` meets its contract: the code lines counted are the register's.
+use Rattle.register.specs.Sets.{seeking}
+use borrow.Author.Rules.{rules}
+use Rattle.register.proofs.search.has_codes.Goals as goal
+
+pub codes_of-codes-requires : goal.codes_of-codes-requires
+codes_of-codes-requires c = search (seeking, rules)
+
+pub returns : goal.returns
+returns c = search (seeking, rules)
