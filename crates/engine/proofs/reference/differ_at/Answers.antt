@@ -1,0 +1,21 @@
+-- Bytes compared with each other from the last on: behind k they are equal.
+use mathlib.Core.Path.{◌≡◌}
+use mathlib.Core.Bool.{true}
+use Prim.Native.Nat.{◌≤◌, ◌+◌}
+use borrow.Author.Rules.{rules}
+use Rattle.rules.specs.Text.{equal}
+use Rattle.laws.specs.Parts.{cut}
+use Rattle.laws.specs.Back.{backing}
+use Rattle.engine.proofs.reference.differ_at.Goals as goal
+
+pub loop-k-init : goal.loop-k-init
+loop-k-init c = search (backing, rules)
+
+pub loop-k-preserved : goal.loop-k-preserved
+loop-k-preserved c = search (backing, rules)
+
+pub returns-else-same : goal.returns-else-same
+returns-else-same c = search (backing, rules)
+
+pub returns : goal.returns
+returns c = search (backing, rules)
