@@ -1,0 +1,18 @@
+-- `detail_lines::postings::put_detail_postings` meets its contract. The loop's invariant: the posting lines of the details from i on are left to write.
+use Prim.Native.Nat.{◌-◌, ◌≤◌}
+use native.Mathlib.Omega.{arith}
+use lib.ListN.{drop}
+use Rattle.rules.specs.Calls.{detail_postings}
+use Rattle.rules.specs.Register.{register_of}
+use Rattle.laws.specs.Pieces.{left_all}
+use Rattle.laws.specs.Writing.{Left}
+use Rattle.details.specs.Message.{details_in}
+use Rattle.detail_lines.specs.Postings.{book_by, crediting}
+use borrow.Author.Rules.{rules}
+use Rattle.detail_lines.proofs.postings.put_detail_postings.Given as goal
+
+abbrev pub invariant-loop-i : goal.invariant-loop-i
+invariant-loop-i l = (l.i ≤ l.n) × Left (detail_postings (register_of l.text) (book_by l.text l.book) (drop l.i (details_in l.s))) l.o l.out (detail_postings (register_of l.text) (book_by l.text l.book) (details_in l.s)) l.at l.initial.out
+
+abbrev pub decreases-loop-i : goal.decreases-loop-i
+decreases-loop-i l = l.n - l.i

@@ -1,0 +1,40 @@
+-- A walk past the references that precede it. The loop's invariant: it is put among those left.
+use Prim.Native.Nat.{◌-◌}
+use Rattle.rules.specs.Engine.{filed}
+use Rattle.rules.specs.Area.{decode}
+use Rattle.laws.specs.Parts.{cut}
+use Rattle.laws.specs.Putting.{PutBehind}
+use Rattle.engine.specs.References.{of_bank}
+use borrow.Author.Rules.{rules}
+use Rattle.engine_change.specs.Sets.{filing}
+use Rattle.engine_change.proofs.filing.reference_place.Goals as goal
+
+pub loop-i-init : goal.loop-i-init
+loop-i-init c = search (filing, rules)
+
+pub overflow_mul-i : goal.overflow_mul-i
+overflow_mul-i c = search (filing, rules)
+
+pub overflow_add-i : goal.overflow_add-i
+overflow_add-i c = search (filing, rules)
+
+pub overflow_cast-i : goal.overflow_cast-i
+overflow_cast-i c = search (filing, rules)
+
+pub is_before-requires : goal.is_before-requires
+is_before-requires c = search (filing, rules)
+
+pub overflow_add-i-then-is_before : goal.overflow_add-i-then-is_before
+overflow_add-i-then-is_before c = search (filing, rules)
+
+pub loop-i-smaller : goal.loop-i-smaller
+loop-i-smaller c = search (filing, rules)
+
+pub loop-i-preserved : goal.loop-i-preserved
+loop-i-preserved c = search (filing, rules)
+
+pub returns-else-is_before : goal.returns-else-is_before
+returns-else-is_before c = search (filing, rules)
+
+pub returns : goal.returns
+returns c = search (filing, rules)

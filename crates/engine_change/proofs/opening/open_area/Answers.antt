@@ -1,0 +1,13 @@
+-- An opening: its parts are written from the first byte on and fill 6,144 bytes, since a register and a holiday list have room.
+use Rattle.engine_change.specs.Sets.{opening}
+use borrow.Author.Rules.{rules}
+use Rattle.engine_change.proofs.opening.open_area.Goals as goal
+
+pub put_opened-requires : goal.put_opened-requires
+put_opened-requires c = search (opening, rules)
+
+pub shape_of-area : goal.shape_of-area
+shape_of-area c = search (opening, rules)
+
+pub returns : goal.returns
+returns c = search (opening, rules)

@@ -1,0 +1,14 @@
+-- Positions without details, moved to the front one by one; then zeros over what they leave. The loop's invariant: of those passed, the ones that stay are at the front.
+use Prim.Native.Nat.{◌-◌}
+use Rattle.rules.specs.Area.{positions_place}
+use Rattle.laws.specs.Moving.{Keeping, keeping_keep, keeping_end}
+use Rattle.engine_change.specs.Turning.{stays}
+use borrow.Author.Rules.{rules}
+use Rattle.engine_change.specs.Sets.{turning}
+use Rattle.engine_change.proofs.turning.remove_detailed.Given as goal
+
+abbrev pub invariant-loop-i : goal.invariant-loop-i
+invariant-loop-i l = Keeping stays 24 l.n positions_place l.initial.area l.i l.j l.area
+
+abbrev pub decreases-loop-i : goal.decreases-loop-i
+decreases-loop-i l = l.n - l.i

@@ -1,0 +1,36 @@
+-- `engine_check::accepted::references_ordered` meets its contract. The loop's invariant: the references that are left stand in order where all of them do.
+use mathlib.Core.Path.{◌≡◌}
+use Prim.Native.Nat.{◌≤◌, ◌+◌, ◌-◌, ◌*◌}
+use borrow.Author.Rules.{rules}
+use Rattle.rules.specs.Area.{texts_place, record_size}
+use Rattle.engine_laws.specs.Walk.{walk, always}
+use Rattle.engine_laws.specs.Tests.{filed_test}
+use Rattle.engine_laws.specs.Ways.{limiting}
+use Rattle.engine_check.proofs.accepted.references_ordered.Goals as goal
+
+pub before_last-k-requires : goal.before_last-k-requires
+before_last-k-requires c = search (limiting, rules)
+
+pub loop-k-init : goal.loop-k-init
+loop-k-init c = (search rules, cc)
+
+pub stands_before-requires : goal.stands_before-requires
+stands_before-requires c = search (limiting, rules)
+
+pub overflow_sub-k : goal.overflow_sub-k
+overflow_sub-k c = search (limiting, rules)
+
+pub overflow_add-p : goal.overflow_add-p
+overflow_add-p c = search (limiting, rules)
+
+pub loop-k-smaller : goal.loop-k-smaller
+loop-k-smaller c = search (limiting, rules)
+
+pub loop-k-preserved : goal.loop-k-preserved
+loop-k-preserved c = search (limiting, rules)
+
+pub returns-else-stands_before : goal.returns-else-stands_before
+returns-else-stands_before c = search (limiting, rules)
+
+pub returns : goal.returns
+returns c = search (limiting, rules)

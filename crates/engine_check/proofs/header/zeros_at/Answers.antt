@@ -1,0 +1,20 @@
+-- `engine_check::header::zeros_at` meets its contract. The loop's invariant: the bytes up to k are zero, and the rest decides.
+use Prim.Native.Nat.{◌-◌}
+use borrow.Author.Rules.{rules}
+use Rattle.laws.specs.Places.{Passing, placing}
+use Rattle.engine_laws.specs.Tests.{is_zero}
+use Rattle.engine_check.proofs.header.zeros_at.Goals as goal
+
+pub loop-k-init : goal.loop-k-init
+loop-k-init c = search (placing, rules)
+
+pub loop-k-preserved : goal.loop-k-preserved
+unfolding is_zero
+loop-k-preserved c = search (placing, rules)
+
+pub returns-else-zero : goal.returns-else-zero
+unfolding is_zero
+returns-else-zero c = search (placing, rules)
+
+pub returns : goal.returns
+returns c = search (placing, rules)

@@ -1,0 +1,36 @@
+-- `engine_check::positions::positions_ordered` meets its contract. The loop's invariant: the positions that are left stand in order where all of them do.
+use mathlib.Core.Path.{◌≡◌}
+use Prim.Native.Nat.{◌≤◌, ◌+◌, ◌-◌, ◌*◌}
+use borrow.Author.Rules.{rules}
+use Rattle.rules.specs.Area.{positions_place, texts_place, record_size}
+use Rattle.engine_laws.specs.Walk.{walk, always}
+use Rattle.engine_laws.specs.Tests.{order_test}
+use Rattle.engine_laws.specs.Ways.{limiting}
+use Rattle.engine_check.proofs.positions.positions_ordered.Goals as goal
+
+pub before_last-k-requires : goal.before_last-k-requires
+before_last-k-requires c = search (limiting, rules)
+
+pub loop-k-init : goal.loop-k-init
+loop-k-init c = (search rules, cc)
+
+pub in_order-requires : goal.in_order-requires
+in_order-requires c = search (limiting, rules)
+
+pub overflow_sub-k : goal.overflow_sub-k
+overflow_sub-k c = search (limiting, rules)
+
+pub overflow_add-p : goal.overflow_add-p
+overflow_add-p c = search (limiting, rules)
+
+pub loop-k-smaller : goal.loop-k-smaller
+loop-k-smaller c = search (limiting, rules)
+
+pub loop-k-preserved : goal.loop-k-preserved
+loop-k-preserved c = search (limiting, rules)
+
+pub returns-else-in_order : goal.returns-else-in_order
+returns-else-in_order c = search (limiting, rules)
+
+pub returns : goal.returns
+returns c = search (limiting, rules)
