@@ -1,4 +1,5 @@
 -- An opening: its parts are written from the first byte on and fill 6,144 bytes, since a register and a holiday list have room.
+use Rattle.engine_change.specs.Opening.{opened_whole}
 use Rattle.engine_change.specs.Sets.{opening}
 use borrow.Author.Rules.{rules}
 use Rattle.engine_change.proofs.opening.open_area.Goals as goal
@@ -10,4 +11,4 @@ pub shape_of-area : goal.shape_of-area
 shape_of-area c = search (opening, rules)
 
 pub returns : goal.returns
-returns c = search (opening, rules)
+returns c = opened_whole _ _ _ c.requires.area_size_in_bounds c.requires.text_value c.requires.list_value c.put_opened.ensures

@@ -1,0 +1,22 @@
+-- 14 goes before 15.
+use Rattle.state_conditions.specs.Stops.{stops}
+use borrow.Author.Rules.{rules}
+use Rattle.state_conditions.proofs.stops.rest_number.Goals as goal
+
+pub is_over-over-requires : goal.is_over-over-requires
+is_over-over-requires c = search (stops, rules)
+
+pub returns-then-over : goal.returns-then-over
+returns-then-over c = search (stops, rules)
+
+pub returns-then-t : goal.returns-then-t
+returns-then-t c = search (stops, rules)
+
+pub returns-then-n-ge32 : goal.returns-then-n-ge32
+returns-then-n-ge32 c = search (stops, rules)
+
+pub returns-then-over-2 : goal.returns-then-over-2
+returns-then-over-2 c = search (stops, rules)
+
+pub returns : goal.returns
+returns c = search (stops, rules)
