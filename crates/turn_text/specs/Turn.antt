@@ -175,7 +175,7 @@ module _ {day : ℕ} {area : List ℕ} {first : Correcting} {start : List ℕ} {
     text_next : corrections day (temporary_at area) o.count (positions_from area t.at t.left)
         ≡ correction day (temporary_at area) (o.count + 1) (nth_position area t.at) ++ corrections day (temporary_at area) (o.count + 1) (positions_from area t'.at t'.left)
     unfolding corrections
-    text_next = rw (positions_next area t.at t.left h, here, w.alike.texts)
+    text_next = rw (positions_next area t.at t.left h, here, w.alike.texts day (temporary_at area) (o.count + 1))
 
     count_next : corrected_count (positions_from area t.at t.left) ≡ suc (corrected_count (positions_from area t'.at t'.left))
     unfolding corrected_count
