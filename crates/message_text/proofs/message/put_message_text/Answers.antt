@@ -11,7 +11,7 @@ register_text-text-requires c = search (messages, rules)
 
 pub put_postings-a-requires : goal.put_postings-a-requires
 put_postings-a-requires c = let t = c.register_text-text.ensures in
-    (t.passes, (t.enough, (c.requires.books, judged_here _ _ _ t c.requires.judged_in)))
+    record { text_value = t.passes; in_bounds = t.enough; books = c.requires.books; judged_in = judged_here _ _ _ t c.requires.judged_in }
 
 pub put_messages-requires : goal.put_messages-requires
 put_messages-requires c = all_due _ _ _ c.register_text-text.ensures c.requires.judged_in _ c.header_of-h.ensures _ c.requires.due_in
