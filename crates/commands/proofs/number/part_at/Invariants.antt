@@ -1,0 +1,12 @@
+-- The bytes up to k are no commas, and the rest decides.
+use Prim.Native.Nat.{◌-◌}
+use borrow.Author.Rules.{rules}
+use Rattle.laws.specs.Places.{Passing, placing}
+use Rattle.rule_laws.specs.Commas.{in_part}
+use Rattle.commands.proofs.number.part_at.Given as goal
+
+abbrev pub invariant-loop-k : goal.invariant-loop-k
+invariant-loop-k l = Passing in_part l.s l.a l.n l.k
+
+abbrev pub decreases-loop-k : goal.decreases-loop-k
+decreases-loop-k l = l.n - l.k
