@@ -62,7 +62,7 @@ answer_size o out = rw (length-append, length-append, length-append, length-appe
 pub answer_wrote : (a : Outcome) (out : List ℕ) → mag a.difference < 2 ^ 63 → {at m₁ m₂ m₃ m₄ r : ℕ} {o o₁ o₂ o₃ o₄ o₅ : List ℕ} → Wrote (decimal a.number) at o m₁ o₁ → Wrote (44 ∷ []) m₁ o₁ m₂ o₂
     → Wrote (signed (to_z w64 (of_z w64 a.difference))) m₂ o₂ m₃ o₃ → Wrote (ascii "\r\n") m₃ o₃ m₄ o₄ → Wrote (cut out 0 a.written) m₄ o₄ r o₅ → Wrote (answer_text a out) at o r o₅
 unfolding answer_text cut
-answer_wrote a out f u v w x y = wrote_then (wrote_then (wrote_then (wrote_then u v) (rw (to_z-of_z record { sfits = f }) at w)) x) y
+answer_wrote a out f u v w x y = wrote_then (wrote_then (wrote_then (wrote_then u v) (rw (to_z-of_z {w = w64} record { sfits = f }) at w)) x) y
 
 part_is : (s : List ℕ) (a b : ℕ) → a ≤ b → cut s a b ≡ take (b - a) (drop a s)
 unfolding from
@@ -72,13 +72,13 @@ module _ (area : List ℕ) (l : area_size ≤ length area) {k n : ℕ} {d : ℤ}
   told : (a : Answer) (r : Result) {out out' : List ℕ} → SameAnswer a r area out → Answers r k n d area' out' → CallTold a (record { number = k; written = n; difference = to_z w64 (of_z w64 d) }) area area' out out'
   told a r {out} s w = record {
     number = w.number ∙ s.number;
-    difference = to_z-of_z record { sfits = w.small } ∙ w.difference ∙ s.difference;
+    difference = to_z-of_z {w = w64} record { sfits = w.small } ∙ w.difference ∙ s.difference;
     text = rw (w.written, w.output) s.text;
     next = rw w.area s.next;
     size = rw w.area s.size;
     room = rw w.output s.room;
     fits = rw (w.written, w.output, s.room) s.fits;
-    small = rw (to_z-of_z record { sfits = w.small }) w.small;
+    small = rw (to_z-of_z {w = w64} record { sfits = w.small }) w.small;
   }
 
   pub told_turn : (day : ℕ) (out : List ℕ) {out' : List ℕ} → Answers (card_turn day area out) k n d area' out' → CallTold (turn_call (length out) (holds area) day) (record { number = k; written = n; difference = to_z w64 (of_z w64 d) }) area area' out out'
@@ -95,13 +95,13 @@ module _ (area : List ℕ) (l : area_size ≤ length area) {k n : ℕ} {d : ℤ}
       let y : (card_open text list day area).written ≡ 0 = omega (arith, s.fits) in
       let z : n ≡ 0 = w.written ∙ y in record {
         number = w.number ∙ s.number;
-        difference = to_z-of_z record { sfits = w.small } ∙ w.difference ∙ s.difference;
+        difference = to_z-of_z {w = w64} record { sfits = w.small } ∙ w.difference ∙ s.difference;
         text = rw z (rw y at s.text);
         next = rw w.area s.next;
         size = rw w.area s.size;
         room = refl;
         fits = omega arith;
-        small = rw (to_z-of_z record { sfits = w.small }) w.small;
+        small = rw (to_z-of_z {w = w64} record { sfits = w.small }) w.small;
       }
 
   -- the texts are parts of the input
