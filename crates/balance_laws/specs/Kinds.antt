@@ -7,7 +7,7 @@ use mathlib.Core.List.{List, [], ◌∷◌}
 use Rattle.std.proofs.Math.Option.{Option, none, some, get_or}
 use native.Mathlib.Omega.{arith}
 use Rattle.std.proofs.lemmas.Bool.{eqb-false}
-use Rattle.rules.specs.Text.{equal, bytes, big_endian}
+use Rattle.rules.specs.Text.{equal, big_endian}
 use Rattle.rules.specs.Accounts.{is_bic, iban_shape}
 use Rattle.rules.specs.Lines.{Line, lines}
 use Rattle.rules.specs.Engine.{bic}

@@ -3,8 +3,6 @@ use Rattle.std.specs.Prelude.{◌≡◌, refl, true, false, cond, List, ℕ, ◌
 use Rattle.std.proofs.Math.Option.{Option, none, some}
 use Rattle.std.proofs.Common.{arith, length-take, get_or-take}
 use Rattle.rules.specs.Lines.{Line}
-use Rattle.rules.specs.Dates.{date}
-use Rattle.rules.specs.Amounts.{amount}
 use Rattle.rules.specs.Forms.{Row, fits_row, take_rows, detail_rows, detail32b, detail_centrb, detail_baeref}
 use Rattle.rules.specs.Messages as M
 use Rattle.rules.specs.Messages.{TakenDetail, line_of, detail_of, take_detail}

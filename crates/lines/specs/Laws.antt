@@ -6,7 +6,7 @@ use Rattle.std.proofs.Math.Option.{Option, none, some, map}
 use borrow.Author.Tests.{le-leb, lt-leb, eq-eqb, ne_eqb}
 use Rattle.rules.specs.Text.{ascii, equal, fits}
 use Rattle.rules.specs.Lines.{Line, TakenLine, lead, take_line, lines, before, last_is_closing, in_lines, is_closing_line, has_first_line, framed}
-use Rattle.laws.specs.Parts.{cut, from, cut_done, cut_snoc, cut_all, from_step, from_done, from_length, from_cut}
+use Rattle.laws.specs.Parts.{cut, from, cut_done, cut_snoc, from_step, from_done, from_length}
 use Rattle.laws.specs.Equal.{equal_true, rest_differs, rest_alike}
 use Rattle.laws.specs.Tests.{not_holds, never, and_left, and_right, none_some}
 use Rattle.rule_laws.specs.Lines.{FirstLine, first_line_lem, line_taken, Lined, Lined.end, Lined.next, lines_cases, lines_before}

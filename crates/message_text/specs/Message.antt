@@ -7,7 +7,7 @@ use mathlib.Core.List.{List, [], ◌++◌, append_assoc}
 use Rattle.std.proofs.Math.Nat.{sub-zero}
 use Rattle.std.proofs.Math.ListN.{length}
 use Rattle.rules.specs.Messages.{Message, date_of, details_of}
-use Rattle.rules.specs.Register.{register, register_of}
+use Rattle.rules.specs.Register.{register_of}
 use Rattle.rules.specs.Engine.{Engine, Position, has_details}
 use Rattle.rules.specs.Verdict.{is_returned, is_listed199}
 use Rattle.rules.specs.Written.{mt199s, parts_of, verdicts, returns}

@@ -8,7 +8,6 @@ use Rattle.rules.specs.Lines.{Line}
 use Rattle.rules.specs.Engine.{Position, Reference, Engine}
 use Rattle.rules.specs.Calls.{after_message}
 use Rattle.rules.specs.Area.{area_size, holds, Result, card_message}
-use Rattle.rules.specs.Ledger.{message}
 use Rattle.rules.specs.Demand3.{Ran, result, ran}
 use Rattle.rules.specs.SameMornings.{Sending, texts, morning, is_refused, NothingRefused, lines_by, posted_by}
 use Rattle.laws.specs.Tests.{any_left, any_right, none_some}

@@ -1,7 +1,7 @@
 -- The checks of a register's text: a law for each way out, the tests as calls answered them.
 use Rattle.std.specs.Prelude.{◌≡◌, Bool, true, false, not, List, ℕ, ◌+◌, ◌-◌, ◌*◌, ◌≤◌, length}
 use Rattle.std.proofs.Math.Path.{sym}
-use Rattle.std.proofs.Common.{◌∙◌, arith}
+use Rattle.std.proofs.Common.{◌∙◌}
 use borrow.Author.Tests.{eq-eqb, ne_eqb, not-true, not-false}
 use Rattle.rules.specs.Text.{equal, is_some}
 use Rattle.rules.specs.Register.{register, old_register}

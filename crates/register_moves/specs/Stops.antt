@@ -1,6 +1,6 @@
 -- The conditions that stop a move: one law for each way out of the functions that test them.
 use Rattle.std.specs.Prelude.{◌≡◌, Bool, true, false, not, List, [], ◌∷◌, ℕ, ◌+◌, ◌-◌, ◌≤◌, ◌<◌, leb, length}
-use Rattle.std.proofs.Common.{sym, ◌∙◌, arith, length-append, length-take}
+use Rattle.std.proofs.Common.{◌∙◌, arith, length-append, length-take}
 use borrow.Author.Tests.{le-leb, lt-leb, not-true, not-false}
 use Rattle.rules.specs.Text.{is_some}
 use Rattle.rules.specs.Register.{register, register_of, old_register}

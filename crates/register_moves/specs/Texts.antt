@@ -1,5 +1,5 @@
 -- The texts that moves write.
-use Rattle.std.specs.Prelude.{◌≡◌, List, ℕ, ◌-◌, ◌≤◌, length}
+use Rattle.std.specs.Prelude.{List, ℕ, ◌-◌, length}
 use Rattle.rules.specs.Moves.{end_line, with_end, without_end}
 use Rattle.laws.specs.Parts.{cut}
 use Rattle.laws.specs.Writing.{Wrote, wrote_then}

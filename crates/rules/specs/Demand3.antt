@@ -1,5 +1,5 @@
 -- Demand 3: "a single claim about the list, not one for each call".
-use Rattle.std.specs.Prelude.{◌≡◌, true, false, List, [], ◌∷◌, ℕ, ◌+◌, ◌^◌, ◌<◌, ℤ, pos, ◌+ℤ◌, take}
+use Rattle.std.specs.Prelude.{◌≡◌, true, false, List, [], ◌∷◌, ℕ, ◌+◌, ◌^◌, ◌<◌, pos, ◌+ℤ◌, take}
 use Rattle.std.proofs.Math.Option.{some}
 use Rattle.rules.specs.Text.{Rearranged}
 use Rattle.rules.specs.Register.{register_of}

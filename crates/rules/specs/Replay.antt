@@ -1,5 +1,5 @@
 -- Document 01, "Written": the replay program, from all its input to all its output.
-use Rattle.std.specs.Prelude.{◌&&◌, cond, List, [], ◌∷◌, ◌++◌, ℕ, zero, suc, ◌+◌, leb, eqb, ℤ, pos, negsuc, length, get_or, take, drop}
+use Rattle.std.specs.Prelude.{◌&&◌, cond, List, [], ◌∷◌, ◌++◌, ℕ, zero, suc, leb, eqb, ℤ, pos, negsuc, length, get_or, take, drop}
 use Rattle.std.proofs.Math.Option.{Option, none, some}
 use Rattle.rules.specs.Text.{ascii, digits, decimal, fits, equal, then, given, read_each, added_up}
 use Rattle.rules.specs.Lines.{Line, take_line, parted}

@@ -6,7 +6,7 @@ use Rattle.std.proofs.Math.Bool.{and-false}
 use Rattle.std.proofs.Math.Option.{some}
 use borrow.Author.Tests.{le-leb, lt-leb}
 use Rattle.rules.specs.Text.{any}
-use Rattle.rules.specs.Engine.{Key, Position, limit, same_reference}
+use Rattle.rules.specs.Engine.{Key, limit, same_reference}
 use Rattle.rules.specs.Calls.{limit_stops, first_of, holds_of, misdated, own_reference, no_room}
 use Rattle.rules.specs.Area.{decode}
 use Rattle.laws.specs.Parts.{cut}

@@ -1,7 +1,6 @@
 -- `account::read::compact_at` meets its contract. The loop's invariant: the first k characters are those of the compact form.
-use Prim.Native.Nat.{◌-◌}
 use borrow.Author.Rules.{rules}
-use Rattle.account.specs.Read.{Joining, readings}
+use Rattle.account.specs.Read.{readings}
 use Rattle.account.proofs.read.compact_at.Goals as goal
 
 pub loop-k-init : goal.loop-k-init

@@ -1,7 +1,6 @@
 -- `account::read::compact_at` meets its contract. The loop's invariant: the first k characters are those of the compact form.
 use Prim.Native.Nat.{◌-◌}
-use borrow.Author.Rules.{rules}
-use Rattle.account.specs.Read.{Joining, readings}
+use Rattle.account.specs.Read.{Joining}
 use Rattle.account.proofs.read.compact_at.Given as goal
 
 abbrev pub invariant-loop-k : goal.invariant-loop-k

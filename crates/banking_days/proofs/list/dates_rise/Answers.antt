@@ -1,11 +1,6 @@
 -- `banking_days::list::dates_rise` meets its contract. The loop's invariant: what is left rises behind the last date where the whole list rises.
-use mathlib.Core.Path.{◌≡◌}
-use Prim.Native.Nat.{◌-◌, ◌≤◌}
 use native.Mathlib.Nat.{le_of_lt}
-use lib.ListN.{length}
-use Rattle.laws.specs.Parts.{from}
 use borrow.Author.Rules.{rules}
-use Rattle.banking_days.specs.Lists.{rising}
 use Rattle.banking_days.specs.Rising.{rise_early, rises}
 use Rattle.banking_days.proofs.list.dates_rise.Goals as goal
 

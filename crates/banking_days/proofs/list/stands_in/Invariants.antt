@@ -2,9 +2,7 @@
 use mathlib.Core.Path.{◌≡◌}
 use Prim.Native.Nat.{◌+◌, ◌-◌, ◌≤◌}
 use lib.ListN.{length}
-use borrow.Author.Rules.{rules}
 use Rattle.banking_days.specs.Lists.{stands_from}
-use Rattle.banking_days.specs.Seeking.{seeks}
 use Rattle.banking_days.proofs.list.stands_in.Given as goal
 
 abbrev pub invariant-loop-at : goal.invariant-loop-at

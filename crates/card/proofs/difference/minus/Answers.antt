@@ -1,6 +1,5 @@
 -- The difference fits 64 bits, whichever is the larger.
 use Rattle.card.specs.Minus.{difference_up, difference_fits, difference_down}
-use borrow.Author.Rules.{rules}
 use Rattle.card.proofs.difference.minus.Goals as goal
 
 pub returns-then-b-a : goal.returns-then-b-a

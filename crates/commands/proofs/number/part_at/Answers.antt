@@ -1,7 +1,6 @@
 -- The bytes up to k are no commas, and the rest decides.
-use Prim.Native.Nat.{◌-◌}
 use borrow.Author.Rules.{rules}
-use Rattle.laws.specs.Places.{Passing, placing}
+use Rattle.laws.specs.Places.{placing}
 use Rattle.rule_laws.specs.Commas.{in_part}
 use Rattle.commands.proofs.number.part_at.Goals as goal
 

@@ -1,9 +1,4 @@
 -- A length is one or more digits and at most 8192: a number that is larger stays so, and the loop ends there.
-use mathlib.Core.Path.{◌≡◌}
-use Prim.Native.Nat.{◌≤◌, ◌-◌}
-use Rattle.rules.specs.Replay.{length_of}
-use Rattle.laws.specs.Parts.{cut}
-use Rattle.commands.specs.Numbers.{limited}
 use borrow.Author.Rules.{rules}
 use Rattle.commands.specs.Numbers.{numbers}
 use Rattle.commands.proofs.number.read_length.Goals as goal

@@ -4,8 +4,6 @@ use Prim.Native.Nat.{◌≤◌, ◌-◌}
 use Rattle.rules.specs.Replay.{length_of}
 use Rattle.laws.specs.Parts.{cut}
 use Rattle.commands.specs.Numbers.{limited}
-use borrow.Author.Rules.{rules}
-use Rattle.commands.specs.Numbers.{numbers}
 use Rattle.commands.proofs.number.read_length.Given as goal
 
 abbrev pub invariant-loop-i : goal.invariant-loop-i

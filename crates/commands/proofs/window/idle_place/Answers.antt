@@ -1,8 +1,6 @@
 -- From place to place: whether the window has idle zeros is told by what stands at p and behind it.
-use Prim.Native.Nat.{◌-◌}
-use lib.ListN.{length}
 use borrow.Author.Rules.{rules}
-use Rattle.commands.specs.Seeking.{Seeking, seeking}
+use Rattle.commands.specs.Seeking.{seeking}
 use Rattle.commands.proofs.window.idle_place.Goals as goal
 
 pub first_length-p-requires : goal.first_length-p-requires

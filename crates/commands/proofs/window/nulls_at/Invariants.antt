@@ -1,7 +1,6 @@
 -- The bytes up to k are zeros, and the rest decides.
 use Prim.Native.Nat.{◌-◌}
-use borrow.Author.Rules.{rules}
-use Rattle.laws.specs.Places.{Passing, placing}
+use Rattle.laws.specs.Places.{Passing}
 use Rattle.commands.specs.Window.{is_null}
 use Rattle.commands.proofs.window.nulls_at.Given as goal
 

@@ -1,8 +1,7 @@
 -- `conditions::tally::tally_details` meets its contract. The loop's invariant: some details are told, judged and kept, the sum is that of their amounts, and with those that are left they are all.
 use Prim.Native.Nat.{◌-◌, ◌≤◌}
 use lib.ListN.{length}
-use Rattle.conditions.specs.Tally.{Walking, tallying}
-use borrow.Author.Rules.{rules}
+use Rattle.conditions.specs.Tally.{Walking}
 use Rattle.conditions.proofs.tally.tally_details.Given as goal
 
 abbrev pub invariant-loop-t : goal.invariant-loop-t

@@ -1,10 +1,5 @@
 -- `conditions::walk::again` meets its contract. The loop's invariant: what is left of the fields gives the answer.
-use mathlib.Core.Path.{◌≡◌}
-use Prim.Native.Nat.{◌+◌, ◌-◌, ◌≤◌, ◌<◌}
-use Rattle.rules.specs.Text.{any, equal}
-use Rattle.forms.specs.Spans.{span_of}
-use Rattle.details.specs.Lines.{line_at}
-use Rattle.conditions.specs.Walk.{fields_from, walking}
+use Rattle.conditions.specs.Walk.{walking}
 use borrow.Author.Rules.{rules}
 use Rattle.conditions.proofs.walk.again.Goals as goal
 

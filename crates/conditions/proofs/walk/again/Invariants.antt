@@ -4,8 +4,7 @@ use Prim.Native.Nat.{◌+◌, ◌-◌, ◌≤◌, ◌<◌}
 use Rattle.rules.specs.Text.{any, equal}
 use Rattle.forms.specs.Spans.{span_of}
 use Rattle.details.specs.Lines.{line_at}
-use Rattle.conditions.specs.Walk.{fields_from, walking}
-use borrow.Author.Rules.{rules}
+use Rattle.conditions.specs.Walk.{fields_from}
 use Rattle.conditions.proofs.walk.again.Given as goal
 
 abbrev pub invariant-loop-j : goal.invariant-loop-j

@@ -1,8 +1,5 @@
 -- `conditions::walk::appears_twice` meets its contract. The loop's invariant: what is left of the fields gives the answer.
-use mathlib.Core.Path.{◌≡◌}
-use Prim.Native.Nat.{◌-◌, ◌≤◌}
-use Rattle.rules.specs.Text.{twice, equal}
-use Rattle.conditions.specs.Walk.{fields_from, walking}
+use Rattle.conditions.specs.Walk.{walking}
 use borrow.Author.Rules.{rules}
 use Rattle.conditions.proofs.walk.appears_twice.Goals as goal
 

@@ -2,8 +2,7 @@
 use mathlib.Core.Path.{◌≡◌}
 use Prim.Native.Nat.{◌-◌, ◌≤◌}
 use Rattle.rules.specs.Text.{twice, equal}
-use Rattle.conditions.specs.Walk.{fields_from, walking}
-use borrow.Author.Rules.{rules}
+use Rattle.conditions.specs.Walk.{fields_from}
 use Rattle.conditions.proofs.walk.appears_twice.Given as goal
 
 abbrev pub invariant-loop-i : goal.invariant-loop-i

@@ -1,11 +1,8 @@
 -- What is left to carry out and to print is the replay_from from the place reached.
-use native.Mathlib.Omega.{arith}
 use lib.ListN.{length}
 use Rattle.rules.specs.Area.{holds}
 use Rattle.rules.specs.Replay.{replay_from}
-use Rattle.day.specs.Replaying.{Replaying, replay_starts}
-use borrow.Author.Rules.{rules}
-use Rattle.day.specs.Replaying.{replaying}
+use Rattle.day.specs.Replaying.{Replaying}
 use Rattle.day.proofs.replay.replay_day.Given as goal
 
 abbrev pub invariant-loop-k : goal.invariant-loop-k

@@ -1,8 +1,6 @@
 -- `detail_lines::chosen::count_verdicts` meets its contract. The loop's invariant, for the listed and for the returned: those counted and those left are all.
-use Prim.Native.Nat.{◌-◌, ◌≤◌}
 use borrow.Author.Rules.{rules}
-use Rattle.rules.specs.Verdict.{is_returned, is_listed199}
-use Rattle.detail_lines.specs.Chosen.{Counting, counting_on, choosing}
+use Rattle.detail_lines.specs.Chosen.{counting_on, choosing}
 use Rattle.detail_lines.proofs.chosen.count_verdicts.Goals as goal
 
 pub loop-i-init : goal.loop-i-init

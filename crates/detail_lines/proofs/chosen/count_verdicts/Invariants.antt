@@ -1,8 +1,7 @@
 -- `detail_lines::chosen::count_verdicts` meets its contract. The loop's invariant, for the listed and for the returned: those counted and those left are all.
 use Prim.Native.Nat.{◌-◌, ◌≤◌}
-use borrow.Author.Rules.{rules}
 use Rattle.rules.specs.Verdict.{is_returned, is_listed199}
-use Rattle.detail_lines.specs.Chosen.{Counting, counting_on, choosing}
+use Rattle.detail_lines.specs.Chosen.{Counting}
 use Rattle.detail_lines.proofs.chosen.count_verdicts.Given as goal
 
 abbrev pub invariant-loop-i : goal.invariant-loop-i

@@ -1,5 +1,4 @@
 -- `detail_lines::chosen::counted` meets its contract: the test decides.
-use borrow.Author.Rules.{rules}
 use Rattle.detail_lines.specs.Chosen.{counted_if}
 use Rattle.detail_lines.proofs.chosen.counted.Goals as goal
 

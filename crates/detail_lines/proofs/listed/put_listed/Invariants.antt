@@ -1,14 +1,11 @@
 -- `detail_lines::listed::put_listed` meets its contract. The loop's invariant: the rows of the listed from detail i on are left to write, m of them at most.
 use Prim.Native.Nat.{◌-◌, ◌≤◌}
 use lib.ListN.{take}
-use native.Mathlib.Omega.{arith}
 use Rattle.rules.specs.Verdict.{is_listed199}
 use Rattle.rules.specs.Written.{all_listed}
-use Rattle.laws.specs.Pieces.{left_all}
 use Rattle.laws.specs.Writing.{Left}
 use Rattle.detail_lines.specs.Chosen.{chosen_at}
-use Rattle.detail_lines.specs.Listed.{DetailsSkipping, skip_start, skip_more, skip_on, rows_more, rows_pass, listing}
-use borrow.Author.Rules.{rules}
+use Rattle.detail_lines.specs.Listed.{DetailsSkipping}
 use Rattle.detail_lines.proofs.listed.put_listed.Given as goal
 
 abbrev pub invariant-loop-i : goal.invariant-loop-i

@@ -1,13 +1,7 @@
 -- `detail_lines::postings::put_detail_postings` meets its contract. The loop's invariant: the posting lines of the details from i on are left to write.
-use Prim.Native.Nat.{◌-◌, ◌≤◌}
 use native.Mathlib.Omega.{arith}
-use lib.ListN.{drop}
-use Rattle.rules.specs.Calls.{detail_postings}
-use Rattle.rules.specs.Register.{register_of}
 use Rattle.laws.specs.Pieces.{left_all}
-use Rattle.laws.specs.Writing.{Left}
-use Rattle.details.specs.Message.{details_in}
-use Rattle.detail_lines.specs.Postings.{book_by, crediting}
+use Rattle.detail_lines.specs.Postings.{crediting}
 use borrow.Author.Rules.{rules}
 use Rattle.detail_lines.proofs.postings.put_detail_postings.Goals as goal
 

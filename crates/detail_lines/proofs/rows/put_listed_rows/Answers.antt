@@ -1,5 +1,4 @@
 -- `detail_lines::rows::put_listed_rows` meets its contract: one row behind the other.
-use borrow.Author.Rules.{rules}
 use Rattle.laws.specs.Writing.{wrote_then}
 use Rattle.detail_lines.proofs.rows.put_listed_rows.Goals as goal
 

@@ -1,5 +1,4 @@
 -- `detail_lines::rows::put_reference_row` meets its contract: the row's front, N and line end.
-use borrow.Author.Rules.{rules}
 use Rattle.laws.specs.Pieces.{wrote_3}
 use Rattle.detail_lines.proofs.rows.put_reference_row.Goals as goal
 

@@ -1,7 +1,6 @@
 -- `details::lines::set_line` meets its contract: both numbers of the line are set.
 use mathlib.Core.Path.{refl}
 use Rattle.details.specs.Lines.{with_line}
-use borrow.Author.Rules.{rules}
 use Rattle.details.proofs.lines.set_line.Goals as goal
 
 pub returns : goal.returns

@@ -1,9 +1,5 @@
 -- A walk past the positions that stand before a key. The loop's invariant: what is booked is booked among those left.
 use borrow.Author.Rules.{rules}
-use Prim.Native.Nat.{◌-◌}
-use Rattle.rules.specs.Area.{decode}
-use Rattle.position.specs.Values.{key_value}
-use Rattle.engine.specs.Places.{KeysBefore}
 use Rattle.engine.specs.Records.{placing}
 use Rattle.engine.proofs.places.place_of.Goals as goal
 

@@ -1,10 +1,5 @@
 -- Bytes compared with each other from the last on: behind k they are equal.
-use mathlib.Core.Path.{◌≡◌}
-use mathlib.Core.Bool.{true}
-use Prim.Native.Nat.{◌≤◌, ◌+◌}
 use borrow.Author.Rules.{rules}
-use Rattle.rules.specs.Text.{equal}
-use Rattle.laws.specs.Parts.{cut}
 use Rattle.laws.specs.Back.{backing}
 use Rattle.engine.proofs.reference.differ_at.Goals as goal
 

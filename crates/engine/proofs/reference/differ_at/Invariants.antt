@@ -2,10 +2,8 @@
 use mathlib.Core.Path.{◌≡◌}
 use mathlib.Core.Bool.{true}
 use Prim.Native.Nat.{◌≤◌, ◌+◌}
-use borrow.Author.Rules.{rules}
 use Rattle.rules.specs.Text.{equal}
 use Rattle.laws.specs.Parts.{cut}
-use Rattle.laws.specs.Back.{backing}
 use Rattle.engine.proofs.reference.differ_at.Given as goal
 
 abbrev pub invariant-loop-k : goal.invariant-loop-k

@@ -1,9 +1,4 @@
 -- The records from a place on answer for all of them.
-use Rattle.rules.specs.Text.{any}
-use Rattle.rules.specs.Engine.{same_reference}
-use Rattle.laws.specs.Parts.{cut}
-use Rattle.rules.specs.Area.{references_place}
-use Rattle.engine.specs.References.{Among, of_bank, references_at}
 use borrow.Author.Rules.{rules}
 use Rattle.engine.specs.References.{used}
 use Rattle.engine.proofs.reference.reference_used.Goals as goal

@@ -4,8 +4,6 @@ use Rattle.rules.specs.Engine.{same_reference}
 use Rattle.laws.specs.Parts.{cut}
 use Rattle.rules.specs.Area.{references_place}
 use Rattle.engine.specs.References.{Among, of_bank, references_at}
-use borrow.Author.Rules.{rules}
-use Rattle.engine.specs.References.{used}
 use Rattle.engine.proofs.reference.reference_used.Given as goal
 
 abbrev pub invariant-loop-k : goal.invariant-loop-k

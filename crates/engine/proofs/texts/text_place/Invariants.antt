@@ -1,7 +1,6 @@
 -- The place of text i, then of the next by its length, up to text k.
-use Rattle.engine.specs.Texts.{PlaceAt, lettering}
+use Rattle.engine.specs.Texts.{PlaceAt}
 use Prim.Native.Nat.{◌-◌, ◌≤◌}
-use borrow.Author.Rules.{rules}
 use Rattle.engine.proofs.texts.text_place.Given as goal
 
 abbrev pub invariant-loop-i : goal.invariant-loop-i

@@ -1,10 +1,4 @@
 -- A walk past the references that precede it. The loop's invariant: it is put among those left.
-use Prim.Native.Nat.{◌-◌}
-use Rattle.rules.specs.Engine.{filed}
-use Rattle.rules.specs.Area.{decode}
-use Rattle.laws.specs.Parts.{cut}
-use Rattle.laws.specs.Putting.{PutBehind}
-use Rattle.engine.specs.References.{of_bank}
 use borrow.Author.Rules.{rules}
 use Rattle.engine_change.specs.Sets.{filing}
 use Rattle.engine_change.proofs.filing.reference_place.Goals as goal

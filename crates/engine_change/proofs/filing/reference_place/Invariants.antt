@@ -5,8 +5,6 @@ use Rattle.rules.specs.Area.{decode}
 use Rattle.laws.specs.Parts.{cut}
 use Rattle.laws.specs.Putting.{PutBehind}
 use Rattle.engine.specs.References.{of_bank}
-use borrow.Author.Rules.{rules}
-use Rattle.engine_change.specs.Sets.{filing}
 use Rattle.engine_change.proofs.filing.reference_place.Given as goal
 
 abbrev pub invariant-loop-i : goal.invariant-loop-i

@@ -1,10 +1,8 @@
 -- Positions without details, moved to the front one by one; then zeros over what they leave. The loop's invariant: of those passed, the ones that stay are at the front.
 use Prim.Native.Nat.{◌-◌}
 use Rattle.rules.specs.Area.{positions_place}
-use Rattle.laws.specs.Moving.{Keeping, keeping_keep, keeping_end}
+use Rattle.laws.specs.Moving.{Keeping}
 use Rattle.engine_change.specs.Turning.{stays}
-use borrow.Author.Rules.{rules}
-use Rattle.engine_change.specs.Sets.{turning}
 use Rattle.engine_change.proofs.turning.remove_detailed.Given as goal
 
 abbrev pub invariant-loop-i : goal.invariant-loop-i

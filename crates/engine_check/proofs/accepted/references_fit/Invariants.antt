@@ -1,11 +1,9 @@
 -- `engine_check::accepted::references_fit` meets its contract. The loop's invariant: the records that are left pass where all of them do.
 use mathlib.Core.Path.{◌≡◌}
 use Prim.Native.Nat.{◌≤◌, ◌+◌, ◌*◌}
-use borrow.Author.Rules.{rules}
 use Rattle.rules.specs.Area.{positions_place, record_size}
 use Rattle.engine_laws.specs.Walk.{walk, always}
 use Rattle.engine_laws.specs.Tests.{reference_test}
-use Rattle.engine_laws.specs.Ways.{limiting}
 use Rattle.engine_check.proofs.accepted.references_fit.Given as goal
 
 abbrev pub invariant-loop-k : goal.invariant-loop-k

@@ -1,10 +1,5 @@
 -- `engine_check::accepted::references_ordered` meets its contract. The loop's invariant: the references that are left stand in order where all of them do.
-use mathlib.Core.Path.{◌≡◌}
-use Prim.Native.Nat.{◌≤◌, ◌+◌, ◌-◌, ◌*◌}
 use borrow.Author.Rules.{rules}
-use Rattle.rules.specs.Area.{texts_place, record_size}
-use Rattle.engine_laws.specs.Walk.{walk, always}
-use Rattle.engine_laws.specs.Tests.{filed_test}
 use Rattle.engine_laws.specs.Ways.{limiting}
 use Rattle.engine_check.proofs.accepted.references_ordered.Goals as goal
 

@@ -1,11 +1,8 @@
 -- `engine_check::header::eights_at` meets its contract. The loop's invariant: the eights that are left are zero where all of them are.
 use mathlib.Core.Path.{◌≡◌}
 use Prim.Native.Nat.{◌≤◌, ◌+◌, ◌*◌, ◌-◌}
-use native.Mathlib.Nat.{add-zero}
-use borrow.Author.Rules.{rules}
 use Rattle.rules.specs.Text.{every}
 use Rattle.laws.specs.Parts.{cut}
-use Rattle.laws.specs.Eights.{eights}
 use Rattle.engine_laws.specs.Tests.{is_zero}
 use Rattle.engine_check.proofs.header.eights_at.Given as goal
 

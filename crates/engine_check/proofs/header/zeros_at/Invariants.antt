@@ -1,7 +1,6 @@
 -- `engine_check::header::zeros_at` meets its contract. The loop's invariant: the bytes up to k are zero, and the rest decides.
 use Prim.Native.Nat.{◌-◌}
-use borrow.Author.Rules.{rules}
-use Rattle.laws.specs.Places.{Passing, placing}
+use Rattle.laws.specs.Places.{Passing}
 use Rattle.engine_laws.specs.Tests.{is_zero}
 use Rattle.engine_check.proofs.header.zeros_at.Given as goal
 

@@ -1,11 +1,9 @@
 -- `engine_check::positions::positions_fit` meets its contract. The loop's invariant: the positions that are left pass where all of them do.
 use mathlib.Core.Path.{◌≡◌}
 use Prim.Native.Nat.{◌≤◌, ◌+◌, ◌*◌}
-use borrow.Author.Rules.{rules}
 use Rattle.rules.specs.Area.{positions_place, texts_place, record_size}
 use Rattle.engine_laws.specs.Walk.{walk, always}
 use Rattle.engine_laws.specs.Tests.{position_test}
-use Rattle.engine_laws.specs.Ways.{limiting}
 use Rattle.engine_check.proofs.positions.positions_fit.Given as goal
 
 abbrev pub invariant-loop-k : goal.invariant-loop-k

@@ -1,10 +1,6 @@
 -- `forms::table::signs_fitting` meets its contract. The loop's invariant: what is left fits where the whole does.
-use mathlib.Core.Path.{◌≡◌}
-use Prim.Native.Nat.{◌≤◌, ◌+◌, ◌-◌}
 use borrow.Author.Rules.{rules}
-use Rattle.rules.specs.Text.{fits}
-use Rattle.laws.specs.Parts.{cut}
-use Rattle.forms.specs.Table.{signs, heads}
+use Rattle.forms.specs.Table.{signs}
 use Rattle.forms.proofs.table.signs_fitting.Goals as goal
 
 pub loop-k-init : goal.loop-k-init

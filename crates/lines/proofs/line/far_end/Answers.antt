@@ -1,9 +1,4 @@
 -- `lines::line::far_end` meets its contract. The loop's invariant: the bytes passed, before the first line of what is left, are the line.
-use Rattle.rules.specs.Lines.{lead, take_line}
-use Rattle.laws.specs.Parts.{cut, from}
-use lib.ListN.{length}
-use Prim.Native.Nat.{◌≤◌, ◌-◌}
-use mathlib.Core.Path.{◌≡◌}
 use borrow.Author.Rules.{rules}
 use Rattle.lines.specs.Laws.{framing}
 use Rattle.lines.proofs.line.far_end.Goals as goal

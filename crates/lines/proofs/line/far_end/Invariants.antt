@@ -4,8 +4,6 @@ use Rattle.laws.specs.Parts.{cut, from}
 use lib.ListN.{length}
 use Prim.Native.Nat.{◌≤◌, ◌-◌}
 use mathlib.Core.Path.{◌≡◌}
-use borrow.Author.Rules.{rules}
-use Rattle.lines.specs.Laws.{framing}
 use Rattle.lines.proofs.line.far_end.Given as goal
 
 abbrev pub invariant-loop-i : goal.invariant-loop-i

@@ -1,9 +1,5 @@
 -- `lines::line::plain_at` meets its contract. The loop's invariant: the bytes passed, before the first line of what is left, are the line.
-use mathlib.Core.Path.{◌≡◌}
-use Prim.Native.Nat.{◌≤◌, ◌-◌, ◌+◌}
 use borrow.Author.Rules.{rules}
-use Rattle.rules.specs.Lines.{lead, take_line}
-use Rattle.laws.specs.Parts.{cut, from}
 use Rattle.lines.specs.Laws.{framing}
 use Rattle.lines.proofs.line.plain_at.Goals as goal
 

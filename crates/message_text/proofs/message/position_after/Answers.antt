@@ -1,7 +1,6 @@
 -- `message_text::message::position_after` meets its contract: each total is raised by what the message adds to it.
 use mathlib.Core.Bool.{not}
 use native.Mathlib.Omega.{arith}
-use borrow.Author.Rules.{rules}
 use Rattle.message_text.specs.Message.{amount_part}
 use Rattle.message_text.proofs.message.position_after.Goals as goal
 

@@ -1,6 +1,6 @@
 -- Before the first message, one message on, and behind the last.
 use Rattle.std.proofs.Common.{arith}
-use Rattle.message_text.specs.Numbered.{messages_start, messages_room, next_due, messages_turn, messages_end}
+use Rattle.message_text.specs.Numbered.{messages_turn, messages_end}
 use Rattle.message_text.proofs.numbered.put_messages.Goals as goal
 
 pub loop-t-preserved : goal.loop-t-preserved

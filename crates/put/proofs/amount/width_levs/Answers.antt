@@ -1,6 +1,5 @@
 -- The levs have two digits less than the stotinki, and one at least.
 use native.Mathlib.Omega.{arith}
-use borrow.Author.Rules.{rules}
 use Rattle.laws.specs.Digits.{width_levs, width_most}
 use Rattle.put.proofs.amount.width_levs.Goals as goal
 

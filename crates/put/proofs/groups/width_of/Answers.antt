@@ -1,7 +1,6 @@
 -- How many digits a number has, by the powers of ten that it lies between.
 use mathlib.Core.Path.{refl}
 use native.Mathlib.Omega.{arith}
-use borrow.Author.Rules.{rules}
 use Rattle.laws.specs.Digits.{width_is}
 use Rattle.put.proofs.groups.width_of.Goals as goal
 

@@ -1,8 +1,5 @@
 -- Bytes moved up, the last first: a byte not yet moved is loaded from before all those that are.
-use Prim.Native.Nat.{◌-◌}
-use borrow.Author.Rules.{rules}
 use Rattle.laws.specs.Moving.{Moving}
-use Rattle.laws.specs.Sets.{moving}
 use Rattle.put.proofs.moves.move_up.Given as goal
 
 abbrev pub invariant-loop-k : goal.invariant-loop-k

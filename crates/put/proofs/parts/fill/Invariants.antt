@@ -1,10 +1,7 @@
 -- A byte again and again: those not yet stored are left to write.
 use Prim.Native.Nat.{◌≤◌, ◌-◌, ◌+◌}
-use native.Mathlib.Omega.{arith}
 use lib.ListN.{length}
-use borrow.Author.Rules.{rules}
-use Rattle.laws.specs.Sets.{writing}
-use Rattle.laws.specs.Writing.{Left, filled, fill_turn, fill_start}
+use Rattle.laws.specs.Writing.{Left, filled}
 use Rattle.put.proofs.parts.fill.Given as goal
 
 abbrev pub invariant-loop-i : goal.invariant-loop-i

@@ -1,11 +1,8 @@
 -- A part of a slice where there is room: what is left of it is what is left to write.
-use Prim.Native.Nat.{◌≤◌, ◌-◌, ◌+◌}
 use native.Mathlib.Omega.{arith}
-use lib.ListN.{length}
 use borrow.Author.Rules.{rules}
 use Rattle.laws.specs.Sets.{writing}
-use Rattle.laws.specs.Writing.{Left, copy_start, copy_on, copy_end}
-use Rattle.laws.specs.Parts.{cut}
+use Rattle.laws.specs.Writing.{copy_start, copy_on, copy_end}
 use Rattle.put.proofs.parts.lay.Goals as goal
 
 pub loop-k-init : goal.loop-k-init

@@ -1,11 +1,7 @@
 -- A part of a slice: what is left of it is what is left to write.
 use Prim.Native.Nat.{◌≤◌, ◌-◌}
-use native.Mathlib.Omega.{arith}
-use borrow.Author.Rules.{rules}
-use Rattle.laws.specs.Sets.{writing}
 use Rattle.laws.specs.Writing.{Left}
 use Rattle.laws.specs.Parts.{cut}
-use Rattle.laws.specs.Pieces.{left_all}
 use Rattle.put.proofs.parts.lay_some.Given as goal
 
 abbrev pub invariant-loop-i : goal.invariant-loop-i

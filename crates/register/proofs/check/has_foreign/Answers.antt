@@ -1,9 +1,5 @@
 -- `register::check::has_foreign` meets its contract. The loop's invariant: an account is foreign among those that are left where one is among all.
-use mathlib.Core.Path.{◌≡◌}
-use Prim.Native.Nat.{◌+◌, ◌*◌, ◌≤◌}
-use lib.ListN.{length}
 use borrow.Author.Rules.{rules}
-use Rattle.register.specs.Whole.{foreign_in}
 use Rattle.register.specs.Sets.{checking}
 use Rattle.register.proofs.check.has_foreign.Goals as goal
 

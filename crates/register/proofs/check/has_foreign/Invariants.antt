@@ -2,9 +2,7 @@
 use mathlib.Core.Path.{◌≡◌}
 use Prim.Native.Nat.{◌+◌, ◌*◌, ◌≤◌}
 use lib.ListN.{length}
-use borrow.Author.Rules.{rules}
 use Rattle.register.specs.Whole.{foreign_in}
-use Rattle.register.specs.Sets.{checking}
 use Rattle.register.proofs.check.has_foreign.Given as goal
 
 abbrev pub invariant-loop-k : goal.invariant-loop-k

@@ -1,8 +1,5 @@
 -- `register::search::account_count` meets its contract. The loop's invariant: from its place on there are code lines alone.
-use borrow.Author.Rules.{rules}
-use Rattle.rule_laws.specs.Registers.{register_length}
 use Rattle.register.specs.Searching.{Ending}
-use Rattle.register.specs.Sets.{seeking}
 use Rattle.register.proofs.search.account_count.Given as goal
 
 abbrev pub invariant-loop-end : goal.invariant-loop-end

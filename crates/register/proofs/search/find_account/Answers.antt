@@ -1,12 +1,5 @@
 -- `register::search::find_account` meets its contract. The loop's invariant: the line is found among those that are left as among all.
-use mathlib.Core.Path.{◌≡◌}
-use Prim.Native.Nat.{◌+◌, ◌*◌, ◌-◌, ◌≤◌}
-use lib.ListN.{length}
 use borrow.Author.Rules.{rules}
-use Rattle.rules.specs.Verdict.{found}
-use Rattle.rules.specs.Register.{register_of}
-use Rattle.laws.specs.Parts.{cut}
-use Rattle.register.specs.Whole.{found_in}
 use Rattle.register.specs.Sets.{seeking}
 use Rattle.register.proofs.search.find_account.Goals as goal
 

@@ -2,12 +2,10 @@
 use mathlib.Core.Path.{◌≡◌}
 use Prim.Native.Nat.{◌+◌, ◌*◌, ◌-◌, ◌≤◌}
 use lib.ListN.{length}
-use borrow.Author.Rules.{rules}
 use Rattle.rules.specs.Verdict.{found}
 use Rattle.rules.specs.Register.{register_of}
 use Rattle.laws.specs.Parts.{cut}
 use Rattle.register.specs.Whole.{found_in}
-use Rattle.register.specs.Sets.{seeking}
 use Rattle.register.proofs.search.find_account.Given as goal
 
 abbrev pub invariant-loop-i : goal.invariant-loop-i

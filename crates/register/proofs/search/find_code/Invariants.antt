@@ -1,9 +1,7 @@
 -- `register::search::find_code` meets its contract. The loop's invariant: the code stands beside the same IBAN among the lines that are left as among all.
 use Prim.Native.Nat.{◌+◌, ◌-◌}
-use borrow.Author.Rules.{rules}
 use Rattle.laws.specs.Parts.{cut}
 use Rattle.register.specs.Searching.{Seeking}
-use Rattle.register.specs.Sets.{seeking}
 use Rattle.register.proofs.search.find_code.Given as goal
 
 abbrev pub invariant-loop-j : goal.invariant-loop-j

@@ -1,6 +1,6 @@
 -- `register_lines::lines::account_line_stands` meets its contract: where the IBAN passes, the bounds tell the line's form.
 use borrow.Author.Rules.{rules}
-use Rattle.register_lines.specs.Lines.{call_holds, line_unpassed, line_unbounded, line_unended, line_ordered}
+use Rattle.register_lines.specs.Lines.{line_unpassed, line_unbounded, line_unended, line_ordered}
 use Rattle.register_lines.specs.Sets.{lining}
 use Rattle.register_lines.proofs.lines.account_line_stands.Goals as goal
 

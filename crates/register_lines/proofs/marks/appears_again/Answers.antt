@@ -1,9 +1,5 @@
 -- `register_lines::marks::appears_again` meets its contract. The loop's invariant: a key appears twice among those that are left where it does among all.
-use mathlib.Core.Path.{◌≡◌}
-use Prim.Native.Nat.{◌-◌}
 use borrow.Author.Rules.{rules}
-use Rattle.register_lines.specs.Places.{repeat_in}
-use Rattle.register_lines.specs.Forms.{width_of, key_size}
 use Rattle.register_lines.specs.Sets.{marking}
 use Rattle.register_lines.proofs.marks.appears_again.Goals as goal
 

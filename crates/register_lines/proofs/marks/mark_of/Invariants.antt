@@ -1,8 +1,6 @@
 -- `register_lines::marks::mark_of` meets its contract. The loop's invariant: the mark of the bytes read, and the rest decides.
 use Prim.Native.Nat.{◌-◌}
-use borrow.Author.Rules.{rules}
 use Rattle.register_lines.specs.Marks.{Marking}
-use Rattle.register_lines.specs.Sets.{marking}
 use Rattle.register_lines.proofs.marks.mark_of.Given as goal
 
 abbrev pub invariant-loop-k : goal.invariant-loop-k

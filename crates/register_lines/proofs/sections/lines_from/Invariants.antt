@@ -1,8 +1,6 @@
 -- `register_lines::sections::lines_from` meets its contract. The loop's invariant: the lines counted and those from its place on are all.
 use Prim.Native.Nat.{◌-◌}
-use borrow.Author.Rules.{rules}
 use Rattle.register_lines.specs.Counts.{Counting}
-use Rattle.register_lines.specs.Sets.{sectioning}
 use Rattle.register_lines.proofs.sections.lines_from.Given as goal
 
 abbrev pub invariant-loop-i : goal.invariant-loop-i

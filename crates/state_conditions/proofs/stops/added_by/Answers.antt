@@ -1,6 +1,5 @@
 -- `state_conditions::stops::added_by` meets its contract: the key and what each total is raised by.
 use Rattle.state_conditions.specs.Stops.{added_made}
-use borrow.Author.Rules.{rules}
 use Rattle.state_conditions.proofs.stops.added_by.Goals as goal
 
 pub returns : goal.returns

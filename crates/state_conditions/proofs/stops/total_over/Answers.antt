@@ -1,7 +1,6 @@
 -- A total of six bytes and a message's sum add up in 64 bits.
 use native.Mathlib.Omega.{arith}
 use Rattle.state_conditions.specs.Stops.{total_within, total_above}
-use borrow.Author.Rules.{rules}
 use Rattle.state_conditions.proofs.stops.total_over.Goals as goal
 
 pub returns-then-total-added-le-LIMIT : goal.returns-then-total-added-le-LIMIT

@@ -1,10 +1,7 @@
 -- `text::against::alike` meets its contract. The loop's invariant: what is left of both parts is equal where they are.
-use mathlib.Core.Path.{◌≡◌}
-use Prim.Native.Nat.{◌≤◌, ◌+◌, ◌-◌}
 use lib.Dec.{eqb}
 use borrow.Author.Rules.{rules}
 use Rattle.rules.specs.Text.{equal}
-use Rattle.laws.specs.Parts.{cut}
 use Rattle.laws.specs.Reading.{reading, pairs_more, equal_pairs}
 use Rattle.laws.specs.Places.{pairs_before, pairs_out}
 use Rattle.text.proofs.against.alike.Goals as goal

@@ -1,10 +1,5 @@
 -- `text::against::differ_at` meets its contract. The loop's invariant: behind k both parts are equal.
-use mathlib.Core.Path.{◌≡◌}
-use mathlib.Core.Bool.{true}
-use Prim.Native.Nat.{◌≤◌, ◌+◌}
 use borrow.Author.Rules.{rules}
-use Rattle.rules.specs.Text.{equal}
-use Rattle.laws.specs.Parts.{cut}
 use Rattle.laws.specs.Back.{backing}
 use Rattle.text.proofs.against.differ_at.Goals as goal
 

@@ -1,9 +1,6 @@
 -- `text::against::fits_part` meets its contract. The loop's invariant: what is left fits where the whole does.
-use mathlib.Core.Path.{◌≡◌}
-use Prim.Native.Nat.{◌≤◌, ◌+◌, ◌-◌}
 use borrow.Author.Rules.{rules}
 use Rattle.rules.specs.Text.{fits, fits_sign}
-use Rattle.laws.specs.Parts.{cut}
 use Rattle.laws.specs.Reading.{reading, pairs_more, fits_pairs}
 use Rattle.text.proofs.against.fits_part.Goals as goal
 

@@ -1,8 +1,4 @@
 -- The loop's invariant: what is left of both parts decides.
-use mathlib.Core.Path.{◌≡◌}
-use Prim.Native.Nat.{◌≤◌, ◌+◌, ◌-◌}
-use Rattle.rules.specs.Text.{text_before}
-use Rattle.laws.specs.Parts.{cut}
 use borrow.Author.Rules.{rules}
 use Rattle.laws.specs.Before.{ordering}
 use Rattle.text.proofs.against.is_before.Goals as goal

@@ -3,8 +3,6 @@ use mathlib.Core.Path.{◌≡◌}
 use Prim.Native.Nat.{◌≤◌, ◌+◌, ◌-◌}
 use Rattle.rules.specs.Text.{text_before}
 use Rattle.laws.specs.Parts.{cut}
-use borrow.Author.Rules.{rules}
-use Rattle.laws.specs.Before.{ordering}
 use Rattle.text.proofs.against.is_before.Given as goal
 
 abbrev pub invariant-loop-k : goal.invariant-loop-k

@@ -1,8 +1,6 @@
 -- `text::classes::letters_at` meets its contract. The loop's invariant: k bytes have passed, and what is left decides for the whole part.
-use Prim.Native.Nat.{◌-◌}
 use borrow.Author.Rules.{rules}
-use Rattle.rules.specs.Text.{is_letter}
-use Rattle.laws.specs.Places.{Passing, placing}
+use Rattle.laws.specs.Places.{placing}
 use Rattle.text.proofs.classes.letters_at.Goals as goal
 
 pub loop-k-init : goal.loop-k-init

@@ -1,8 +1,6 @@
 -- `text::classes::texts_at` meets its contract. The loop's invariant: k bytes have passed, and what is left decides for the whole part.
-use Prim.Native.Nat.{◌-◌}
 use borrow.Author.Rules.{rules}
-use Rattle.rules.specs.Text.{is_text}
-use Rattle.laws.specs.Places.{Passing, placing}
+use Rattle.laws.specs.Places.{placing}
 use Rattle.text.proofs.classes.texts_at.Goals as goal
 
 pub loop-k-init : goal.loop-k-init

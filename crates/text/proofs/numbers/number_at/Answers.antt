@@ -1,7 +1,6 @@
 -- A slice holds bytes, so a number of few of them is small.
 use native.Mathlib.Omega.{arith}
 use Rattle.text.specs.Numbers.{number_bound}
-use borrow.Author.Rules.{rules}
 use Rattle.text.proofs.numbers.number_at.Goals as goal
 
 pub returns : goal.returns

@@ -1,10 +1,6 @@
 -- `text::numbers::read_be` meets its contract: the number so far, with the bytes that are left behind it, is the number of the part.
-use mathlib.Core.Path.{◌≡◌}
-use Prim.Native.Nat.{◌≤◌, ◌<◌, ◌-◌}
 use borrow.Author.Rules.{rules}
-use Rattle.rules.specs.Text.{big_endian, number_from}
-use Rattle.laws.specs.Reading.{power, reading}
-use Rattle.laws.specs.Parts.{cut}
+use Rattle.laws.specs.Reading.{reading}
 use Rattle.text.proofs.numbers.read_be.Goals as goal
 
 pub loop-i-init : goal.loop-i-init

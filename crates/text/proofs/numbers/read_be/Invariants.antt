@@ -1,9 +1,8 @@
 -- `text::numbers::read_be` meets its contract: the number so far, with the bytes that are left behind it, is the number of the part.
 use mathlib.Core.Path.{◌≡◌}
 use Prim.Native.Nat.{◌≤◌, ◌<◌, ◌-◌}
-use borrow.Author.Rules.{rules}
 use Rattle.rules.specs.Text.{big_endian, number_from}
-use Rattle.laws.specs.Reading.{power, reading}
+use Rattle.laws.specs.Reading.{power}
 use Rattle.laws.specs.Parts.{cut}
 use Rattle.text.proofs.numbers.read_be.Given as goal
 

@@ -1,7 +1,6 @@
 -- `text::numbers::small_digits` meets its contract. The loop's invariant: the number so far, with the digits that are left behind it, is the number of the part.
-use Prim.Native.Nat.{◌-◌}
 use borrow.Author.Rules.{rules}
-use Rattle.laws.specs.Values.{Valuing, valuing}
+use Rattle.laws.specs.Values.{valuing}
 use Rattle.text.proofs.numbers.small_digits.Goals as goal
 
 pub loop-k-init : goal.loop-k-init

@@ -1,6 +1,5 @@
 -- `turn_text::sums::sums_of` meets its contract. The loop's invariant: what is left of the positions completes the sums.
-use borrow.Author.Rules.{rules}
-use Rattle.turn_text.specs.Sums.{SumsLeft, summing}
+use Rattle.turn_text.specs.Sums.{SumsLeft}
 use Rattle.turn_text.proofs.sums.sums_of.Given as goal
 
 abbrev pub invariant-loop-k : goal.invariant-loop-k

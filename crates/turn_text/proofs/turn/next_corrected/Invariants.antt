@@ -1,6 +1,5 @@
 -- The loop's invariant: of the positions before the i-th none is to correct.
-use borrow.Author.Rules.{rules}
-use Rattle.turn_text.specs.Turn.{Seeking, turning}
+use Rattle.turn_text.specs.Turn.{Seeking}
 use Rattle.turn_text.proofs.turn.next_corrected.Given as goal
 
 abbrev pub invariant-loop-k : goal.invariant-loop-k

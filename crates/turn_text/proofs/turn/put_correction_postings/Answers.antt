@@ -1,19 +1,9 @@
 -- `turn_text::turn::put_correction_postings` meets its contract. The loop's invariant: the posting lines of the positions from the i-th on are left to write.
 use borrow.Author.Rules.{rules}
-use mathlib.Core.Path.{◌≡◌}
-use Prim.Native.Nat.{◌+◌}
 use native.Mathlib.Omega.{arith}
-use Rattle.rules.specs.Written.{correction_postings}
-use Rattle.laws.specs.Writing.{Left}
 use Rattle.laws.specs.Pieces.{left_all}
-use Rattle.engine.specs.Positions.{positions_from}
-use mathlib.Core.Path.{◌≡◌}
-use Prim.Native.Nat.{◌+◌}
 use native.Mathlib.Omega.{arith}
-use Rattle.rules.specs.Written.{correction_postings}
-use Rattle.laws.specs.Writing.{Left}
 use Rattle.laws.specs.Pieces.{left_all}
-use Rattle.engine.specs.Positions.{positions_from}
 use Rattle.turn_text.specs.Turn.{turning}
 use Rattle.turn_text.proofs.turn.put_correction_postings.Goals as goal
 

@@ -2,7 +2,6 @@
 use mathlib.Core.Path.{refl}
 use native.Mathlib.Omega.{arith}
 use Rattle.verdict.specs.Answers.{cause_by, coded_is}
-use borrow.Author.Rules.{rules}
 use Rattle.verdict.proofs.detail.coded_by.Goals as goal
 
 pub returns-then-k-lt40 : goal.returns-then-k-lt40

@@ -1,5 +1,4 @@
 -- `written::corrections::put_collected204` meets its contract: fields 32B and 53A.
-use borrow.Author.Rules.{rules}
 use Rattle.laws.specs.Writing.{wrote_then}
 use Rattle.written.proofs.corrections.put_collected204.Goals as goal
 

@@ -1,5 +1,4 @@
 -- `written::corrections::put_detailed_row` meets its contract: the row and the closing line.
-use borrow.Author.Rules.{rules}
 use Rattle.laws.specs.Writing.{wrote_then}
 use Rattle.written.proofs.corrections.put_detailed_row.Goals as goal
 

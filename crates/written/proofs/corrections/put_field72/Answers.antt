@@ -1,5 +1,4 @@
 -- `written::corrections::put_field72` meets its contract: the five rows in their order, RELREF with the position's own date.
-use borrow.Author.Rules.{rules}
 use Rattle.rules.specs.Written.{field72}
 use Rattle.laws.specs.Pieces.{wrote_5}
 use Rattle.written.proofs.corrections.put_field72.Goals as goal

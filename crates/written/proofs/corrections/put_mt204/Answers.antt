@@ -1,5 +1,4 @@
 -- `written::corrections::put_mt204` meets its contract: the message's four groups of fields in their order.
-use borrow.Author.Rules.{rules}
 use Rattle.rules.specs.Written.{mt204}
 use Rattle.laws.specs.Pieces.{wrote_4}
 use Rattle.written.proofs.corrections.put_mt204.Goals as goal

@@ -1,5 +1,4 @@
 -- `written::corrections::put_mt205` meets its contract: the message's four groups of fields in their order.
-use borrow.Author.Rules.{rules}
 use Rattle.rules.specs.Written.{mt205}
 use Rattle.laws.specs.Pieces.{wrote_4}
 use Rattle.written.proofs.corrections.put_mt205.Goals as goal

@@ -1,5 +1,4 @@
 -- `written::corrections::put_opened204` meets its contract: first line and fields 20, 19, 30 in their order.
-use borrow.Author.Rules.{rules}
 use Rattle.laws.specs.Pieces.{wrote_4}
 use Rattle.written.proofs.corrections.put_opened204.Goals as goal
 

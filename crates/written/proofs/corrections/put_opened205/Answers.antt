@@ -1,5 +1,4 @@
 -- `written::corrections::put_opened205` meets its contract: first line and fields 20, 21 in their order.
-use borrow.Author.Rules.{rules}
 use Rattle.laws.specs.Pieces.{wrote_3}
 use Rattle.written.proofs.corrections.put_opened205.Goals as goal
 

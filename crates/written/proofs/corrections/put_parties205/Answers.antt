@@ -1,5 +1,4 @@
 -- `written::corrections::put_parties205` meets its contract: fields 52A and 58A.
-use borrow.Author.Rules.{rules}
 use Rattle.laws.specs.Writing.{wrote_then}
 use Rattle.written.proofs.corrections.put_parties205.Goals as goal
 

@@ -1,5 +1,4 @@
 -- `written::fields::put_amount_field` meets its contract: tag, amount and line end.
-use borrow.Author.Rules.{rules}
 use Rattle.rules.specs.Written.{field}
 use Rattle.laws.specs.Pieces.{wrote_3}
 use Rattle.written.proofs.fields.put_amount_field.Goals as goal

@@ -1,5 +1,4 @@
 -- `written::fields::put_baeref_row` meets its contract: tag, day, number and line end.
-use borrow.Author.Rules.{rules}
 use Rattle.rules.specs.Written.{baeref_row}
 use Rattle.laws.specs.Pieces.{wrote_4}
 use Rattle.written.proofs.fields.put_baeref_row.Goals as goal

@@ -1,5 +1,4 @@
 -- `written::fields::put_bank_field` meets its contract: tag, the BIC's eight bytes and line end.
-use borrow.Author.Rules.{rules}
 use Rattle.rules.specs.Written.{field}
 use Rattle.laws.specs.Pieces.{wrote_3}
 use Rattle.written.proofs.fields.put_bank_field.Goals as goal

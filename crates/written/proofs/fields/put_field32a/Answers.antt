@@ -1,5 +1,4 @@
 -- `written::fields::put_field32a` meets its contract: tag, day, currency, amount and line end.
-use borrow.Author.Rules.{rules}
 use Rattle.rules.specs.Written.{field32a}
 use Rattle.laws.specs.Pieces.{wrote_5}
 use Rattle.written.proofs.fields.put_field32a.Goals as goal

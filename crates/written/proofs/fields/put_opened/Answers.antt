@@ -1,5 +1,4 @@
 -- `written::fields::put_opened` meets its contract: type, BNBGBGSD between its commas, BIC and line end.
-use borrow.Author.Rules.{rules}
 use Rattle.rules.specs.Written.{first_line}
 use Rattle.laws.specs.Pieces.{wrote_4}
 use Rattle.written.proofs.fields.put_opened.Goals as goal

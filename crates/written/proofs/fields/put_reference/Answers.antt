@@ -1,5 +1,4 @@
 -- `written::fields::put_reference` meets its contract: day, `GA` and number, one behind the other.
-use borrow.Author.Rules.{rules}
 use Rattle.rules.specs.Written.{reference}
 use Rattle.laws.specs.Pieces.{wrote_3}
 use Rattle.written.proofs.fields.put_reference.Goals as goal

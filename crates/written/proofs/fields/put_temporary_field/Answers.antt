@@ -1,5 +1,4 @@
 -- `written::fields::put_temporary_field` meets its contract: the account's field, and the line with its name.
-use borrow.Author.Rules.{rules}
 use Rattle.rules.specs.Written.{temporary_field}
 use Rattle.laws.specs.Writing.{wrote_then}
 use Rattle.written.proofs.fields.put_temporary_field.Goals as goal

@@ -1,5 +1,4 @@
 -- `written::fields::put_text_field` meets its contract: tag, text and line end.
-use borrow.Author.Rules.{rules}
 use Rattle.rules.specs.Written.{field}
 use Rattle.laws.specs.Pieces.{wrote_3}
 use Rattle.written.proofs.fields.put_text_field.Goals as goal

@@ -1,5 +1,4 @@
 -- `written::postings::put_behalf` meets its contract: bank, comma, centralisation date and line end.
-use borrow.Author.Rules.{rules}
 use Rattle.laws.specs.Pieces.{wrote_4}
 use Rattle.written.proofs.postings.put_behalf.Goals as goal
 

@@ -1,5 +1,4 @@
 -- `written::postings::put_credit` meets its contract: credit and stotinki, a comma behind each.
-use borrow.Author.Rules.{rules}
 use Rattle.laws.specs.Pieces.{wrote_4}
 use Rattle.written.proofs.postings.put_credit.Goals as goal
 

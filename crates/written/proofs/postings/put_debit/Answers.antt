@@ -1,5 +1,4 @@
 -- `written::postings::put_debit` meets its contract: day and debit, a comma behind each.
-use borrow.Author.Rules.{rules}
 use Rattle.laws.specs.Pieces.{wrote_4}
 use Rattle.written.proofs.postings.put_debit.Goals as goal
 

@@ -1,5 +1,4 @@
 -- `written::postings::put_posting` meets its contract: the line's three parts in their order.
-use borrow.Author.Rules.{rules}
 use Rattle.rules.specs.Written.{posting}
 use Rattle.laws.specs.Pieces.{wrote_3}
 use Rattle.written.proofs.postings.put_posting.Goals as goal

@@ -1,5 +1,4 @@
 -- `written::returns::put_beneficiary103` meets its contract: fields 57D and 59, each a tag and the lines handed in.
-use borrow.Author.Rules.{rules}
 use Rattle.laws.specs.Pieces.{wrote_4}
 use Rattle.written.proofs.returns.put_beneficiary103.Goals as goal
 

@@ -1,5 +1,4 @@
 -- `written::returns::put_closed103` meets its contract: fields 70, 71A and 72, and the closing line.
-use borrow.Author.Rules.{rules}
 use Rattle.laws.specs.Pieces.{wrote_4}
 use Rattle.written.proofs.returns.put_closed103.Goals as goal
 

@@ -1,5 +1,4 @@
 -- `written::returns::put_opened103` meets its contract: first line and fields 20, 23B, 32A in their order, 32A with the day.
-use borrow.Author.Rules.{rules}
 use Rattle.laws.specs.Pieces.{wrote_4}
 use Rattle.written.proofs.returns.put_opened103.Goals as goal
 

@@ -1,5 +1,4 @@
 -- `written::returns::put_return` meets its contract: the message's four groups of fields in their order.
-use borrow.Author.Rules.{rules}
 use Rattle.rules.specs.Written.{return103}
 use Rattle.laws.specs.Pieces.{wrote_4}
 use Rattle.written.proofs.returns.put_return.Goals as goal

@@ -1,5 +1,4 @@
 -- `written::returns::put_temporary103` meets its contract: field 50K, and field 52D with characters 5 to 12 of the account.
-use borrow.Author.Rules.{rules}
 use Rattle.laws.specs.Pieces.{wrote_3}
 use Rattle.written.proofs.returns.put_temporary103.Goals as goal
 

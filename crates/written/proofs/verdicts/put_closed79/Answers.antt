@@ -1,5 +1,4 @@
 -- `written::verdicts::put_closed79` meets its contract: part, slash, parts, line end and closing line.
-use borrow.Author.Rules.{rules}
 use Rattle.rules.specs.Written.{closed79}
 use Rattle.laws.specs.Pieces.{wrote_4}
 use Rattle.written.proofs.verdicts.put_closed79.Goals as goal

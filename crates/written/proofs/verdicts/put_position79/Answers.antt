@@ -1,5 +1,4 @@
 -- `written::verdicts::put_position79` meets its contract: the five rows in their order.
-use borrow.Author.Rules.{rules}
 use Rattle.rules.specs.Written.{position79}
 use Rattle.laws.specs.Pieces.{wrote_5}
 use Rattle.written.proofs.verdicts.put_position79.Goals as goal
