@@ -4,8 +4,7 @@ ghost use Rattle.rules.specs.Area.{card_newer, card_older};
 ghost use Rattle.card.specs.Answers.{Answers};
 
 // Moves an old register's text to the newer form.
-#[unsafe(no_mangle)]
-pub extern "C" fn card_newer(
+pub fn card_newer(
     text: &[u8],
     output: &mut [u8],
     written: &mut usize,
@@ -24,8 +23,7 @@ pub extern "C" fn card_newer(
 }
 
 // Moves a register's text to the older form.
-#[unsafe(no_mangle)]
-pub extern "C" fn card_older(
+pub fn card_older(
     text: &[u8],
     output: &mut [u8],
     written: &mut usize,
