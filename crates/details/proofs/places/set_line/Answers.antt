@@ -2,7 +2,7 @@
 use mathlib.Core.Path.{refl}
 use Rattle.details.specs.Lines.{with_line}
 use borrow.Author.Rules.{rules}
-use Rattle.details.proofs.lines.set_line.Goals as goal
+use Rattle.details.proofs.places.set_line.Goals as goal
 
 pub returns : goal.returns
 unfolding with_line
