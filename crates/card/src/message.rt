@@ -186,8 +186,7 @@ fn message_engine(
 }
 
 // Takes an MT103 or MT101.
-#[unsafe(no_mangle)]
-pub extern "C" fn card_message(
+pub fn card_message(
     message: &[u8],
     area: &mut [u8],
     output: &mut [u8],

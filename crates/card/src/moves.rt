@@ -4,13 +4,7 @@ ghost use Rattle.rules.specs.Area.{card_newer, card_older};
 ghost use Rattle.card.specs.Answers.{Answers};
 
 // Moves an old register's text to the newer form.
-#[unsafe(no_mangle)]
-pub extern "C" fn card_newer(
-    text: &[u8],
-    output: &mut [u8],
-    written: &mut usize,
-    difference: &mut i64,
-) -> u32
+pub fn card_newer(text: &[u8], output: &mut [u8], written: &mut usize, difference: &mut i64) -> u32
     ensures { Answers (card_newer text.now output.old) result written.new difference.new [] output.new }
 {
     *written = 0;
@@ -24,13 +18,7 @@ pub extern "C" fn card_newer(
 }
 
 // Moves a register's text to the older form.
-#[unsafe(no_mangle)]
-pub extern "C" fn card_older(
-    text: &[u8],
-    output: &mut [u8],
-    written: &mut usize,
-    difference: &mut i64,
-) -> u32
+pub fn card_older(text: &[u8], output: &mut [u8], written: &mut usize, difference: &mut i64) -> u32
     ensures { Answers (card_older text.now output.old) result written.new difference.new [] output.new }
 {
     *written = 0;

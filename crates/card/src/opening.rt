@@ -22,8 +22,7 @@ fn opening_stop(registered: bool, listed: bool, banking: bool) -> u32
 }
 
 // Opens an engine with a register, a holiday list and a day.
-#[unsafe(no_mangle)]
-pub extern "C" fn card_open(
+pub fn card_open(
     text: &[u8],
     list: &[u8],
     day: u32,

@@ -90,8 +90,7 @@ fn turn_engine(
 }
 
 // Turns to a later day.
-#[unsafe(no_mangle)]
-pub extern "C" fn card_turn(
+pub fn card_turn(
     day: u32,
     area: &mut [u8],
     output: &mut [u8],

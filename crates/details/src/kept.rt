@@ -2,7 +2,7 @@
 ghost use Rattle.std.specs.Prelude.{◌≡◌, ◌<◌};
 ghost use Rattle.details.specs.Kept.{Keeps};
 
-use crate::lines::set_line;
+use crate::places::set_line;
 use forms::{DETAIL_50H, DETAIL_52D, DETAIL_59, DETAIL_BAEREF, Detail, Span};
 
 // The stretch from the beginning of one line up to that of another.

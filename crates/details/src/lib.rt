@@ -2,7 +2,7 @@
 #![tactic(auto)]
 
 mod kept;
-mod lines;
+mod places;
 
 pub use kept::keep;
-pub use lines::{line_at, set_line};
+pub use places::{line_at, set_line};

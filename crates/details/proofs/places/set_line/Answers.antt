@@ -1,7 +1,7 @@
 -- `details::lines::set_line` meets its contract: both numbers of the line are set.
 use mathlib.Core.Path.{refl}
 use Rattle.details.specs.Lines.{with_line}
-use Rattle.details.proofs.lines.set_line.Goals as goal
+use Rattle.details.proofs.places.set_line.Goals as goal
 
 pub returns : goal.returns
 unfolding with_line
