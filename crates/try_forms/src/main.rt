@@ -6,6 +6,7 @@ ghost use Rattle.try_forms.specs.Places.{Reached};
 
 use conditions::Checked;
 use forms::{DETAIL_21, Span};
+use std::io::{self, Read};
 
 // The next place with the byte c, or the end.
 fn reach(s: &[u8], at: usize, c: u8) -> usize
@@ -23,43 +24,51 @@ fn reach(s: &[u8], at: usize, c: u8) -> usize
 }
 
 // A number.
-fn say_number(v: u64) {
-    io::write_all(1, b" ");
-    io::print_decimal(1, v);
+fn say_number(rt: &impl Print, v: u64) -> io::Result<()> {
+    rt.write_all(b" ")?;
+    rt.print(v)
 }
 
 // A part of the message.
-fn say_part(s: &[u8], p: Span) {
+fn say_part(rt: &impl Print, s: &[u8], p: Span) -> io::Result<()> {
     let a = p.start as usize;
     let e = p.end as usize;
     if a <= e {
         if e <= s.len() {
-            io::write_all(1, b" ");
-            io::write_all(1, &s[a..e]);
+            rt.write_all(b" ")?;
+            rt.write_all(&s[a..e])?;
         }
     }
+    Ok(())
 }
 
 // The details from first on: field 21's line, and the amount that is kept.
-fn say_details(s: &[u8], amounts: &[u64; 16], first: usize, count: u8) {
+fn say_details(
+    rt: &impl Print,
+    s: &[u8],
+    amounts: &[u64; 16],
+    first: usize,
+    count: u8,
+) -> io::Result<()> {
     let mut at = first;
     let mut i: u8 = 0;
     while i < count {
         if s.len() < at {
-            return;
+            return Ok(());
         }
         if 4096 < s.len() {
-            return;
+            return Ok(());
         }
         if 16 <= i {
-            return;
+            return Ok(());
         }
         let d = forms::read_detail(s, at);
-        say_part(s, d.spans[DETAIL_21]);
-        say_number(amounts[i as usize]);
+        say_part(rt, s, d.spans[DETAIL_21])?;
+        say_number(rt, amounts[i as usize])?;
         at = d.next;
         i += 1;
     }
+    Ok(())
 }
 
 // Where the details of an MT101 begin, behind its field 20.
@@ -75,64 +84,64 @@ fn first_detail(s: &[u8]) -> usize {
 }
 
 // The answer of the check, and the amounts that it kept.
-fn say_checked(s: &[u8], r: Checked, amounts: &[u64; 16]) {
+fn say_checked(rt: &impl Print, s: &[u8], r: Checked, amounts: &[u64; 16]) -> io::Result<()> {
     match r {
-        Checked::Refused(k) => {
-            say_number(k as u64);
-        }
+        Checked::Refused(k) => say_number(rt, k as u64),
         Checked::Passed(b) => {
-            say_number(0);
-            say_part(s, b.reference);
-            say_number(b.key.date as u64);
-            say_number(b.amount);
-            say_details(s, amounts, first_detail(s), b.count);
+            say_number(rt, 0)?;
+            say_part(rt, s, b.reference)?;
+            say_number(rt, b.key.date as u64)?;
+            say_number(rt, b.amount)?;
+            say_details(rt, s, amounts, first_detail(s), b.count)
         }
     }
 }
 
 // A message to the card with the register of a text.
-fn say_message(s: &[u8], text: &[u8]) {
+fn say_message(rt: &impl Print, s: &[u8], text: &[u8]) -> io::Result<()> {
     let mut amounts = [0u64; 16];
     let mut places = [0u16; 128];
     let mut verdicts = [0u8; 16];
     if register::register_passes(text) {
         let r = conditions::check_message(s, text, &mut amounts, &mut places, &mut verdicts);
-        say_checked(s, r, &amounts);
+        say_checked(rt, s, r, &amounts)?;
     }
+    Ok(())
 }
 
 // A message to the card whose temporary account is BG80BNBG96611020345678.
-fn try_message(s: &[u8]) {
-    say_message(s, b"BG80BNBG96611020345678\r\nEND\r\n");
-    io::write_all(1, b"\n");
+fn try_message(rt: &impl Print, s: &[u8]) -> io::Result<()> {
+    say_message(rt, s, b"BG80BNBG96611020345678\r\nEND\r\n")?;
+    rt.write_all(b"\n")
 }
 
 // Each message of the input.
-fn try_each(s: &[u8]) {
+fn try_each(rt: &impl Print, s: &[u8]) -> io::Result<()> {
     let mut i: usize = 0;
     while i < s.len() {
         let e = reach(s, i, b'\n');
         if s.len() <= e {
-            return;
+            return Ok(());
         }
         if e == i {
-            return;
+            return Ok(());
         }
-        io::write_all(1, &s[i + 1..e]);
+        rt.write_all(&s[i + 1..e])?;
         let a = e + 1;
         let b = reach(s, a, b'@');
-        try_message(&s[a..b]);
+        try_message(rt, &s[a..b])?;
         i = b;
     }
+    Ok(())
 }
 
-// All of the input, by way of a buffer.
-fn try_all(buffer: &mut [u8]) {
-    let n = io::read_full(0, buffer);
-    try_each(&buffer[..n]);
+// All of the input.
+fn try_all(rt: &(impl Print + Input + AllocGlobal)) -> io::Result<()> {
+    let mut text = Vec::new(rt.alloc());
+    rt.reader().read_to_end(&mut text)?;
+    try_each(rt, &text)
 }
 
-fn main() {
-    let mut space = io::large_buffer();
-    try_all(&mut space);
+fn main(rt: HostRuntime) -> io::Result<()> {
+    try_all(&rt)
 }

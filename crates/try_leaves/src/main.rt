@@ -3,43 +3,40 @@
 
 ghost use Rattle.std.specs.Prelude.{◌+◌, ◌≤◌, length};
 
+use std::io::{self, Read};
 use text::Num;
 
 // A number that was read, or none.
-fn say_number(r: Num) {
+fn say_number(rt: &impl Print, r: Num) -> io::Result<()> {
     match r {
-        Num::Value(v) => {
-            io::print_decimal(1, v);
-        }
-        Num::Bad => {
-            io::write_all(1, b"none");
-        }
+        Num::Value(v) => rt.print(v),
+        Num::Bad => rt.write_all(b"none"),
     }
 }
 
 // A word that says whether a test holds.
-fn say(holds: bool, yes: &[u8], no: &[u8]) {
+fn say(rt: &impl Print, holds: bool, yes: &[u8], no: &[u8]) -> io::Result<()> {
     if holds {
-        io::write_all(1, yes);
+        rt.write_all(yes)
     } else {
-        io::write_all(1, no);
+        rt.write_all(no)
     }
 }
 
 // A date: six digits.
-fn try_date(s: &[u8], a: usize, b: usize)
+fn try_date(rt: &impl Print, s: &[u8], a: usize, b: usize) -> io::Result<()>
     requires a_le_b { a ≤ b }
     requires b_in_bounds { b ≤ length s.now }
 {
     if b - a == 6 {
-        say_number(calendar::read_date(s, a));
+        say_number(rt, calendar::read_date(s, a))
     } else {
-        say_number(Num::Bad);
+        say_number(rt, Num::Bad)
     }
 }
 
 // The number of a day, as it is handed to a call.
-fn try_day(s: &[u8], a: usize, b: usize)
+fn try_day(rt: &impl Print, s: &[u8], a: usize, b: usize) -> io::Result<()>
     requires a_le_b { a ≤ b }
     requires b_in_bounds { b ≤ length s.now }
 {
@@ -47,100 +44,104 @@ fn try_day(s: &[u8], a: usize, b: usize)
         match text::read_digits(s, a, b) {
             Num::Value(n) => {
                 if n <= 4294967295 {
-                    say(calendar::exists(n as u32), b"exists", b"none");
+                    say(rt, calendar::exists(n as u32), b"exists", b"none")?;
                 }
             }
             Num::Bad => {}
         }
     }
+    Ok(())
 }
 
 // An IBAN: passes, or the first of shape and control that does not hold.
-fn try_iban(s: &[u8], a: usize, b: usize)
+fn try_iban(rt: &impl Print, s: &[u8], a: usize, b: usize) -> io::Result<()>
     requires a_le_b { a ≤ b }
     requires b_in_bounds { b ≤ length s.now }
 {
     if b - a != 22 {
-        say(true, b"shape", b"");
+        say(rt, true, b"shape", b"")
     } else {
         if account::iban_passes(s, a) {
             say(
+                rt,
                 account::iban_shape(s, a),
                 b"passes",
                 b"passes, and no shape",
-            );
+            )
         } else {
             if account::iban_shape(s, a) {
                 say(
+                    rt,
                     account::iban_control(s, a),
                     b"control holds, and does not pass",
                     b"control",
-                );
+                )
             } else {
-                say(true, b"shape", b"");
+                say(rt, true, b"shape", b"")
             }
         }
     }
 }
 
 // A BIC: eight characters.
-fn try_bic(s: &[u8], a: usize, b: usize)
+fn try_bic(rt: &impl Print, s: &[u8], a: usize, b: usize) -> io::Result<()>
     requires a_le_b { a ≤ b }
     requires b_in_bounds { b ≤ length s.now }
 {
-    say(b - a == 8 && account::is_bic(s, a), b"bic", b"none");
+    say(rt, b - a == 8 && account::is_bic(s, a), b"bic", b"none")
 }
 
 // The text from a up to b, by its kind.
-fn try_text(kind: u8, s: &[u8], a: usize, b: usize)
+fn try_text(rt: &impl Print, kind: u8, s: &[u8], a: usize, b: usize) -> io::Result<()>
     requires a_le_b { a ≤ b }
     requires b_in_bounds { b ≤ length s.now }
 {
     match kind {
-        b'd' => try_date(s, a, b),
-        b'n' => try_day(s, a, b),
-        b'a' => say_number(money::read_amount(s, a, b)),
-        b'i' => try_iban(s, a, b),
-        b'b' => try_bic(s, a, b),
-        _ => {}
+        b'd' => try_date(rt, s, a, b),
+        b'n' => try_day(rt, s, a, b),
+        b'a' => say_number(rt, money::read_amount(s, a, b)),
+        b'i' => try_iban(rt, s, a, b),
+        b'b' => try_bic(rt, s, a, b),
+        _ => Ok(()),
     }
 }
 
 // A line, from a up to b, and behind it what its text is.
-fn try_line(s: &[u8], a: usize, b: usize)
+fn try_line(rt: &impl Print, s: &[u8], a: usize, b: usize) -> io::Result<()>
     requires a_le_b { a ≤ b }
     requires b_in_bounds { b ≤ length s.now }
 {
-    io::write_all(1, &s[a..b]);
-    io::write_all(1, b" ");
+    rt.write_all(&s[a..b])?;
+    rt.write_all(b" ")?;
     if 2 <= b - a {
-        try_text(s[a], s, a + 2, b);
+        try_text(rt, s[a], s, a + 2, b)?;
     }
-    io::write_all(1, b"\n");
+    rt.write_all(b"\n")
 }
 
 // Each line of the input.
-fn try_lines(s: &[u8]) {
+fn try_lines(rt: &impl Print, s: &[u8]) -> io::Result<()> {
     let mut start = 0;
     let mut i = 0;
     while i < s.len() {
         if s[i] == b'\n' {
-            try_line(s, start, i);
+            try_line(rt, s, start, i)?;
             i += 1;
             start = i;
         } else {
             i += 1;
         }
     }
+    Ok(())
 }
 
-// All of the input, by way of a buffer.
-fn try_all(buffer: &mut [u8]) {
-    let n = io::read_full(0, buffer);
-    try_lines(&buffer[..n]);
+// All of the input.
+fn try_all(rt: &(impl Print + Input + AllocGlobal)) -> io::Result<()> {
+    let mut text = Vec::new(rt.alloc());
+    rt.reader().read_to_end(&mut text)?;
+    try_lines(rt, &text)
 }
 
-fn main() {
-    let mut space = io::buffer();
-    try_all(&mut space);
+fn main(rt: HostRuntime) -> io::Result<()> {
+    try_all(&rt)
 }

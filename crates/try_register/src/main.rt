@@ -4,6 +4,7 @@
 ghost use Rattle.std.specs.Prelude.{◌≤◌, length};
 ghost use Rattle.try_register.specs.Places.{Reached};
 
+use std::io::{self, Read};
 use verdict::{Cause, Verdict};
 
 // The next place with one of two bytes, or the end.
@@ -25,39 +26,31 @@ fn reach(s: &[u8], at: usize, c: u8, d: u8) -> usize
 }
 
 // The cause of a return.
-fn say_cause(c: Cause) {
+fn say_cause(rt: &impl Print, c: Cause) -> io::Result<()> {
     match c {
-        Cause::WrongShape => {
-            io::write_all(1, b"shape");
-        }
-        Cause::WrongControl => {
-            io::write_all(1, b"control");
-        }
-        Cause::NotInRegister => {
-            io::write_all(1, b"not in the register");
-        }
-        Cause::OutOfBounds => {
-            io::write_all(1, b"outside its bounds");
-        }
+        Cause::WrongShape => rt.write_all(b"shape"),
+        Cause::WrongControl => rt.write_all(b"control"),
+        Cause::NotInRegister => rt.write_all(b"not in the register"),
+        Cause::OutOfBounds => rt.write_all(b"outside its bounds"),
     }
 }
 
 // A verdict.
-fn say_verdict(v: Verdict) {
+fn say_verdict(rt: &impl Print, v: Verdict) -> io::Result<()> {
     match v {
         Verdict::Credited(i) => {
-            io::write_all(1, b"credited to line ");
-            io::print_decimal(1, i as u64);
+            rt.write_all(b"credited to line ")?;
+            rt.print(i as u64)
         }
         Verdict::CreditedByCode(i, c) => {
-            io::write_all(1, b"credited by its code to line ");
-            io::print_decimal(1, i as u64);
-            io::write_all(1, b", not returned: ");
-            say_cause(c);
+            rt.write_all(b"credited by its code to line ")?;
+            rt.print(i as u64)?;
+            rt.write_all(b", not returned: ")?;
+            say_cause(rt, c)
         }
         Verdict::Returned(c) => {
-            io::write_all(1, b"returned: ");
-            say_cause(c);
+            rt.write_all(b"returned: ")?;
+            say_cause(rt, c)
         }
     }
 }
@@ -74,7 +67,7 @@ fn code_place(m: usize, e: usize) -> usize
 }
 
 // The verdict on the field from a on, and on the code behind its bar, where there is a register.
-fn try_field(text: &[u8], s: &[u8], a: usize)
+fn try_field(rt: &impl Print, text: &[u8], s: &[u8], a: usize) -> io::Result<()>
     requires { a ≤ length s.now }
 {
     let m = reach(s, a, b'|', b'\n');
@@ -82,57 +75,58 @@ fn try_field(text: &[u8], s: &[u8], a: usize)
     let code = code_place(m, e);
     if register::register_passes(text) {
         let v = verdict::judge(text, s, a, m);
-        say_verdict(verdict::by_code(text, s, v, code, e));
+        say_verdict(rt, verdict::by_code(text, s, v, code, e))?;
     } else {
-        io::write_all(1, b"no register");
+        rt.write_all(b"no register")?;
     }
-    io::write_all(1, b"\n");
+    rt.write_all(b"\n")
 }
 
 // Does the text pass?
-fn try_text(text: &[u8]) {
+fn try_text(rt: &impl Print, text: &[u8]) -> io::Result<()> {
     if register::register_passes(text) {
-        io::write_all(1, b"passes");
+        rt.write_all(b"passes")?;
     } else {
-        io::write_all(1, b"9");
+        rt.write_all(b"9")?;
     }
-    io::write_all(1, b"\n");
+    rt.write_all(b"\n")
 }
 
 // What the input asks, one after the other; the register stands from a up to b.
-fn try_each(s: &[u8]) {
+fn try_each(rt: &impl Print, s: &[u8]) -> io::Result<()> {
     let mut a = 0;
     let mut b = 0;
     let mut i = 0;
     while i < s.len() {
         let e = reach(s, i, b'\n', b'\n');
         if s.len() <= e {
-            return;
+            return Ok(());
         }
         if e == i {
-            return;
+            return Ok(());
         }
-        io::write_all(1, &s[i + 1..e]);
-        io::write_all(1, b" ");
+        rt.write_all(&s[i + 1..e])?;
+        rt.write_all(b" ")?;
         if s[i] == b'#' {
             a = e + 1;
             b = reach(s, a, b'#', b'@');
-            try_text(&s[a..b]);
+            try_text(rt, &s[a..b])?;
             i = b;
         } else {
-            try_field(&s[a..b], s, i + 1);
+            try_field(rt, &s[a..b], s, i + 1)?;
             i = e + 1;
         }
     }
+    Ok(())
 }
 
-// All of the input, by way of a buffer.
-fn try_all(buffer: &mut [u8]) {
-    let n = io::read_full(0, buffer);
-    try_each(&buffer[..n]);
+// All of the input.
+fn try_all(rt: &(impl Print + Input + AllocGlobal)) -> io::Result<()> {
+    let mut text = Vec::new(rt.alloc());
+    rt.reader().read_to_end(&mut text)?;
+    try_each(rt, &text)
 }
 
-fn main() {
-    let mut space = io::large_buffer();
-    try_all(&mut space);
+fn main(rt: HostRuntime) -> io::Result<()> {
+    try_all(&rt)
 }

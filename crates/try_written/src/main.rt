@@ -4,17 +4,19 @@
 ghost use Rattle.std.specs.Prelude.{◌≤◌, length};
 
 use position::{Key, Position};
+use std::io;
 use written::Book;
 
 // The output up to a place.
-fn say(out: &[u8], n: usize) {
+fn say(rt: &impl Print, out: &[u8], n: usize) -> io::Result<()> {
     if n <= out.len() {
-        io::write_all(1, &out[0..n]);
+        rt.write_all(&out[0..n])?;
     }
+    Ok(())
 }
 
 // Transfer, credit and return of the listing.
-fn try_postings() {
+fn try_postings(rt: &impl Print) -> io::Result<()> {
     let mut out = [0u8; 256];
     let book = Book {
         day: 60302,
@@ -31,11 +33,11 @@ fn try_postings() {
         6000,
     );
     let c = written::put_to_bank(&mut out, b, book, b"BG80BNBG96611020345678", 5400);
-    say(&out, c);
+    say(rt, &out, c)
 }
 
 // A turn to 040607.
-fn try_turn() {
+fn try_turn(rt: &impl Print) -> io::Result<()> {
     let mut out = [0u8; 1024];
     let bank = text::read_be(b"ZHSRPL8S", 0, 8);
     let p = Position {
@@ -52,95 +54,106 @@ fn try_turn() {
     let b = written::put_correction_posting(&mut out, a, 40607, b"BG18BNBG96611633648985", q);
     let c = written::put_correction(&mut out, b, 40607, b"BG18BNBG96611633648985", 1, p);
     let d = written::put_correction(&mut out, c, 40607, b"BG18BNBG96611633648985", 2, q);
-    say(&out, d);
+    say(rt, &out, d)
 }
 
 // The listing's MT199, without its returned detail.
-fn try_only_part() {
+fn try_only_part(rt: &impl Print) -> io::Result<()> {
     let mut out = [0u8; 256];
     let bank = text::read_be(b"AAAABGSF", 0, 8);
     let a = written::put_opened199(&mut out, 0, 60302, 1, 1, bank, 1);
     let b = written::put_position79(&mut out, a, 60302, 10000, 11400);
     let c = written::put_closed79(&mut out, b, 1, 1);
-    say(&out, c);
+    say(rt, &out, c)
 }
 
 // The second part of an MT199 whose first is 000003.
-fn try_second_part() {
+fn try_second_part(rt: &impl Print) -> io::Result<()> {
     let mut out = [0u8; 256];
     let bank = text::read_be(b"FBBMXFIK", 0, 8);
     let a = written::put_opened199(&mut out, 0, 51108, 3, 4, bank, 2);
     let b = written::put_position79(&mut out, a, 51108, 0, 39876122005479);
     let c = written::put_closed79(&mut out, b, 2, 2);
-    say(&out, c);
+    say(rt, &out, c)
 }
 
 // A return, by its number and amount and the lines of 52D and 50H.
-fn say_return(book: Book, temporary: &[u8], n: u32, v: u64, lines52d: &[u8], lines50h: &[u8])
+fn say_return(
+    rt: &impl Print,
+    book: Book,
+    temporary: &[u8],
+    n: u32,
+    v: u64,
+    lines52d: &[u8],
+    lines50h: &[u8],
+) -> io::Result<()>
     requires { 22 ≤ length temporary.now }
 {
     let mut out = [0u8; 512];
     let a = written::put_return(&mut out, 0, book, temporary, n, v, lines52d, lines50h);
-    say(&out, a);
+    say(rt, &out, a)
 }
 
 // The return of the listing.
-fn try_return() {
+fn try_return(rt: &impl Print) -> io::Result<()> {
     let book = Book {
         day: 60302,
         bank: text::read_be(b"AAAABGSF", 0, 8),
         date: 60302,
     };
     say_return(
+        rt,
         book,
         b"BG80BNBG96611020345678",
         2,
         5400,
         b"AAAA1231\r\nBANKA A\r\n",
         b"/BG33AAAA12311012345678PAY000001\r\nPREDPRIATIE\r\n",
-    );
+    )
 }
 
 // Five stotinki, returned on a later day than the centralisation date, from another temporary account, to a payer of three further lines.
-fn try_small_return() {
+fn try_small_return(rt: &impl Print) -> io::Result<()> {
     let book = Book {
         day: 40607,
         bank: text::read_be(b"ZHSRPL8S", 0, 8),
         date: 40305,
     };
     say_return(
+        rt,
         book,
         b"BG40CCCC111110ABCDEFGH",
         19,
         5,
         b"ZHSR0000\r\nKLON\r\n",
         b"/BG33AAAA12311012345678PAY000001\r\nIME\r\nULICA 1\r\nSOFIA\r\n",
-    );
+    )
 }
 
 // The largest amount of 15 characters, to a branch and a payer whose lines have bytes up to 255.
-fn try_large_return() {
+fn try_large_return(rt: &impl Print) -> io::Result<()> {
     let book = Book {
         day: 51108,
         bank: text::read_be(b"FBBMXFIK", 0, 8),
         date: 51107,
     };
     say_return(
+        rt,
         book,
         b"BG18BNBG96611633648985",
         1184,
         9999999999999900,
         b"FBBM1234\r\n\x80\xc1\xff\r\n",
         b"/BG33AAAA12311012345678PAY999999\r\n\xff \xe0\r\n",
-    );
+    )
 }
 
-fn main() {
-    try_postings();
-    try_turn();
-    try_only_part();
-    try_second_part();
-    try_return();
-    try_small_return();
-    try_large_return();
+fn main(rt: HostRuntime) -> io::Result<()> {
+    try_postings(&rt)?;
+    try_turn(&rt)?;
+    try_only_part(&rt)?;
+    try_second_part(&rt)?;
+    try_return(&rt)?;
+    try_small_return(&rt)?;
+    try_large_return(&rt)
 }
