@@ -1,4 +1,4 @@
--- `details::lines::set_line` meets its contract: both numbers of the line are set.
+-- `details::places::set_line` meets its contract: both numbers of the line are set.
 use mathlib.Core.Path.{refl}
 use Rattle.details.specs.Lines.{with_line}
 use Rattle.details.proofs.places.set_line.Goals as goal
