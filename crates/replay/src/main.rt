@@ -4,17 +4,21 @@
 mod going;
 mod words;
 
-use libc::STDERR_FILENO;
+use std::io;
+use std::process::ExitCode;
 use words::Room;
 
-fn main() {
-    match words::asked_room() {
-        Room::Bytes(room) => going::replay(room),
+fn main(rt: HostRuntime) -> io::Result<ExitCode> {
+    match words::asked_room(&rt) {
+        Room::Bytes(room) => {
+            going::replay(&rt, room)?;
+            Ok(ExitCode::SUCCESS)
+        }
         Room::Unknown => {
-            io::write_all(
-                STDERR_FILENO,
-                b"usage: replay [--room N] <COMMANDS >ANSWERS (N: the room of the output in bytes, at most 1048576)\n",
-            );
+            eprintln!(rt;
+                "usage: replay [--room N] <COMMANDS >ANSWERS (N: the room of the output in bytes, at most 1048576)"
+            )?;
+            Ok(ExitCode::from(2))
         }
     }
 }

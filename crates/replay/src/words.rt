@@ -1,6 +1,7 @@
 // The words of the command line.
 ghost use Rattle.replay.specs.Going.{RoomWithin};
 
+use std::env::{Env, FillError};
 use text::Num;
 
 // What the words on the command line ask for.
@@ -12,19 +13,33 @@ pub enum Room {
     Unknown,
 }
 
-// Is the first word `--room`?
-fn says_room() -> bool {
+// Is there a word at i? The program's name is at 0.
+fn has_word(rt: &impl Env, i: usize) -> bool {
     let mut word = [0u8; 16];
-    let n = os::arg(1, &mut word);
-    check::same(&word[..n], b"--room")
+    match rt.arg(i, &mut word) {
+        Ok(_) => true,
+        Err(FillError::TooLong) => true,
+        Err(FillError::NotPresent) => false,
+    }
+}
+
+// Is the first word `--room`?
+fn says_room(rt: &impl Env) -> bool {
+    let mut word = [0u8; 16];
+    let Ok(n) = rt.arg(1, &mut word) else {
+        return false;
+    };
+    &word[..n] == b"--room".as_slice()
 }
 
 // The number that the second word is.
-fn room_word() -> Room
+fn room_word(rt: &impl Env) -> Room
     ensures { RoomWithin result }
 {
     let mut word = [0u8; 16];
-    let n = os::arg(2, &mut word);
+    let Ok(n) = rt.arg(2, &mut word) else {
+        return Room::Unknown;
+    };
     let Num::Value(room) = commands::read_room(&word, 0, n) else {
         return Room::Unknown;
     };
@@ -32,18 +47,20 @@ fn room_word() -> Room
 }
 
 // The room that the words ask for, 32,768 bytes where there are none.
-pub fn asked_room() -> Room
+pub fn asked_room(rt: &impl Env) -> Room
     ensures { RoomWithin result }
 {
-    let count = os::arg_count();
-    if count <= 1 {
+    if !has_word(rt, 1) {
         return Room::Bytes(32768);
     }
-    if count != 3 {
+    if !has_word(rt, 2) {
         return Room::Unknown;
     }
-    if says_room() {
-        return room_word();
+    if has_word(rt, 3) {
+        return Room::Unknown;
+    }
+    if says_room(rt) {
+        return room_word(rt);
     }
     Room::Unknown
 }

@@ -1,10 +1,11 @@
 // Replays days and compares what is printed with what is expected: three words for each, the input's file, the expected output's, and the output's room.
 #![tactic(auto)]
 
-ghost use Rattle.std.specs.Prelude.{◌≡◌, ◌≤◌, length};
-ghost use Rattle.io.specs.Counts.{IsPrefixLen};
+ghost use Rattle.std.specs.Prelude.{◌≡◌, ◌≤◌, length, IfOk};
 
-use libc::STDOUT_FILENO;
+use std::io::Read;
+use std::rt::Files;
+use std::{env, fs, io};
 use text::Num;
 
 // Room for an input.
@@ -21,28 +22,27 @@ fn print_room() -> [u8; 65536]
     [0; 65536]
 }
 
-// The file that an argument names, as much of it as the buffer takes.
-fn read_file(i: usize, buf: &mut [u8]) -> usize
-    ensures { IsPrefixLen result buf.new }
+// The file of that name, as much of it as the buffer takes.
+fn read_file(rt: &impl Files, name: &str, buf: &mut [u8]) -> io::Result<usize>
+    ensures { IfOk result (λ n. n ≤ length buf.new) }
 {
-    let mut word = [0u8; 64];
-    let n = os::arg(i, &mut word);
-    let fd = os::open_read(&word[..n]);
-    if fd < 0 {
-        return 0;
+    let mut file = fs::open(rt, name)?;
+    let mut n: usize = 0;
+    for _ in 0..u64::MAX {
+        let got = file.read(&mut buf[n..])?;
+        if got == 0 {
+            break;
+        }
+        n += got;
     }
-    let got = io::read_full(fd, buf);
-    libc::close(fd);
-    got
+    Ok(n)
 }
 
-// The room that an argument is.
-fn room_of(i: usize) -> usize
+// The room that a word is.
+fn room_of(word: &str) -> usize
     ensures { result ≤ 1048576 }
 {
-    let mut word = [0u8; 16];
-    let n = os::arg(i, &mut word);
-    let Num::Value(room) = commands::read_room(&word, 0, n) else {
+    let Num::Value(room) = commands::read_room(word.as_bytes(), 0, word.len()) else {
         return 32768;
     };
     room as usize
@@ -65,44 +65,35 @@ fn same_first(a: &[u8], m: usize, b: &[u8], n: usize) -> bool {
     if n > b.len() {
         return false;
     }
-    check::same(&a[0..m], &b[0..n])
+    a[0..m] == b[0..n]
 }
 
-// Does the day whose words begin at argument i print what is expected?
-fn agrees(i: usize) -> bool
-    requires { i ≤ 100000 }
-{
-    let mut input = input_room();
-    let n = read_file(i, &mut input);
+// Does the day of these words print what is expected?
+fn agrees(rt: &impl Files, input: &str, expected: &str, room: &str) -> io::Result<bool> {
+    let mut read = input_room();
+    let n = read_file(rt, input, &mut read)?;
     let mut printed = print_room();
-    let m = replay_with(&input[..n], room_of(i + 2), &mut printed);
-    let mut expected = print_room();
-    let e = read_file(i + 1, &mut expected);
-    same_first(&printed, m, &expected, e)
+    let m = replay_with(&read[..n], room_of(room), &mut printed);
+    let mut wanted = print_room();
+    let e = read_file(rt, expected, &mut wanted)?;
+    Ok(same_first(&printed, m, &wanted, e))
 }
 
-// Says it of the day whose words begin at argument i.
-fn tell(i: usize)
-    requires { i ≤ 100000 }
-{
-    let mut word = [0u8; 64];
-    let n = os::arg(i + 1, &mut word);
-    io::write_all(STDOUT_FILENO, &word[..n]);
-    if agrees(i) {
-        io::write_all(STDOUT_FILENO, b" agrees\n");
+// Says it of the day of these words.
+fn tell(rt: &(impl Files + Print), input: &str, expected: &str, room: &str) -> io::Result<()> {
+    if agrees(rt, input, expected, room)? {
+        println!(rt; "{expected} agrees")
     } else {
-        io::write_all(STDOUT_FILENO, b" differs\n");
+        println!(rt; "{expected} differs")
     }
 }
 
-fn main() {
-    let count = os::arg_count();
-    let mut i: usize = 1;
-    while i < 100000 {
-        if i >= count {
-            return;
+fn main(rt: HostRuntime) -> io::Result<()> {
+    let words: Vec<String> = env::args(&rt)?.skip(1).collect(rt.alloc())?;
+    for day in words.chunks(3) {
+        if let [input, expected, room] = day {
+            tell(&rt, input.as_str(), expected.as_str(), room.as_str())?;
         }
-        tell(i);
-        i += 3;
     }
+    Ok(())
 }
