@@ -91,8 +91,13 @@ fn tell(rt: &(impl Files + Print), input: &str, expected: &str, room: &str) -> i
 fn main(rt: HostRuntime) -> io::Result<()> {
     let words: Vec<String> = env::args(&rt)?.skip(1).collect(rt.alloc())?;
     for day in words.chunks(3) {
-        if let [input, expected, room] = day {
-            tell(&rt, input.as_str(), expected.as_str(), room.as_str())?;
+        match day {
+            [input, expected, room] => {
+                tell(&rt, input.as_str(), expected.as_str(), room.as_str())?;
+            }
+            [input, expected] => tell(&rt, input.as_str(), expected.as_str(), "")?,
+            [input] => tell(&rt, input.as_str(), "", "")?,
+            _ => {}
         }
     }
     Ok(())
