@@ -8,7 +8,7 @@ use Rattle.rules.specs.Messages.{field21, currency32b}
 use Rattle.rules.specs.Calls.{bad_sum, foreign_payer}
 use Rattle.field_conditions.specs.Stops.{lowest, no_stop}
 
--- the lowest of 5 to 8 whose test holds, or `noStop`
+-- the lowest of 5 to 8 whose test holds, or `no_stop`
 abbrev pub pick : Bool → Bool → Bool → Bool → ℕ
 pick a b c d = cond a 5 (cond b 6 (cond c 7 (cond d 8 no_stop)))
 

@@ -66,7 +66,7 @@ transfer_stops s temporary t =
 abbrev pub no_stop : ℕ
 no_stop = 9
 
--- 5 to 8 of one detail of a bank, day being the date of the first; `noStop` where none holds
+-- 5 to 8 of one detail of a bank, day being the date of the first; `no_stop` where none holds
 unfoldable pub lowest : List ℕ → ℕ → M.Detail → ℕ
 lowest bank day d =
     cond (slashed (field21 d)) 5

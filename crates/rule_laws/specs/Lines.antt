@@ -1,4 +1,4 @@
--- The lines of a text, taken apart: a text in lines is its lines, each with its CR LF, and a line holds no CR or LF. The first line alone, `takeLine`, and all of them, `lines`.
+-- The lines of a text, taken apart: a text in lines is its lines, each with its CR LF, and a line holds no CR or LF. The first line alone, `take_line`, and all of them, `lines`.
 use Rattle.std.specs.Prelude.{◌≡◌, refl, Bool, true, false, ◌&&◌, not, List, [], ◌∷◌, ◌++◌, ℕ, ◌+◌, ◌<◌, eqb, length}
 use Rattle.std.proofs.Common.{sym, ap, ◌∙◌, append_assoc, arith, lit<, length-append, eqb-true}
 use Rattle.std.proofs.Math.Option.{Option, none, some, map}

@@ -26,7 +26,7 @@ unfoldable pub rows_text : List Line → List ℕ
 rows_text [] = []
 rows_text (l ∷ ls) = row_text l ++ rows_text ls
 
--- ---- MT103, by `transferRows`
+-- ---- MT103, by `transfer_rows`
 
 -- a transfer: its lines by rows, and 32A's date and amount
 pub record Transfer : Type 0 where
@@ -65,7 +65,7 @@ transfer_of from ls =
     then (date (baeref_date103 ls)) (λ b.
     some record { sender = from; rows = ls; date = d; amount = a })))
 
--- ---- a detail of an MT101, by `detailRows`
+-- ---- a detail of an MT101, by `detail_rows`
 
 -- a detail: its lines by rows, 70's CENTRB date and 32B's amount
 pub record Detail : Type 0 where
