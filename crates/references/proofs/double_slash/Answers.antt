@@ -1,4 +1,3 @@
--- `references::double_slash` meets its contract. The loop's invariant: what is left from the last byte read has such slashes where the whole has them.
 use borrow.Author.Rules.{rules}
 use Rattle.references.specs.Slashes.{slashes}
 use Rattle.references.proofs.double_slash.Goals as goal

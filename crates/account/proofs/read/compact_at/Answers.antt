@@ -1,4 +1,3 @@
--- `account::read::compact_at` meets its contract. The loop's invariant: the first k characters are those of the compact form.
 use borrow.Author.Rules.{rules}
 use Rattle.account.specs.Read.{readings}
 use Rattle.account.proofs.read.compact_at.Goals as goal

@@ -1,4 +1,3 @@
--- `banking_days::list::dates_rise` meets its contract. The loop's invariant: what is left rises behind the last date where the whole list rises.
 use native.Mathlib.Nat.{le_of_lt}
 use borrow.Author.Rules.{rules}
 use Rattle.banking_days.specs.Rising.{rise_early, rises}

@@ -1,4 +1,3 @@
--- `banking_days::list::stands_in` meets its contract. The loop's invariant: the bytes are one of the dates that are left where they are one of all.
 use borrow.Author.Rules.{rules}
 use Rattle.banking_days.specs.Seeking.{seeks}
 use Rattle.banking_days.proofs.list.stands_in.Goals as goal

@@ -1,4 +1,3 @@
--- `banking_days::weekday::days_before` meets its contract. The loop's invariant: the days are those of the months before m.
 use borrow.Author.Rules.{rules}
 use Rattle.banking_days.specs.Weekdays.{weekdays}
 use Rattle.banking_days.proofs.weekday.days_before.Goals as goal

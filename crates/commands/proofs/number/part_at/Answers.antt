@@ -1,4 +1,3 @@
--- The bytes up to k are no commas, and the rest decides.
 use borrow.Author.Rules.{rules}
 use Rattle.laws.specs.Places.{placing}
 use Rattle.rule_laws.specs.Commas.{in_part}

@@ -1,4 +1,3 @@
--- A length is one or more digits and at most 8192: a number that is larger stays so, and the loop ends there.
 use borrow.Author.Rules.{rules}
 use Rattle.commands.specs.Numbers.{numbers}
 use Rattle.commands.proofs.number.read_length.Goals as goal

@@ -1,4 +1,3 @@
--- From place to place: whether the window has idle zeros is told by what stands at p and behind it.
 use borrow.Author.Rules.{rules}
 use Rattle.commands.specs.Seeking.{seeking}
 use Rattle.commands.proofs.window.idle_place.Goals as goal

@@ -1,4 +1,3 @@
--- The bytes up to k are zeros, and the rest decides.
 use borrow.Author.Rules.{rules}
 use Rattle.laws.specs.Places.{placing}
 use Rattle.commands.specs.Window.{is_null}

@@ -1,4 +1,3 @@
--- `conditions::tally::tally_details` meets its contract. The loop's invariant: some details are told, judged and kept, the sum is that of their amounts, and with those that are left they are all.
 use Rattle.conditions.specs.Tally.{tallying}
 use borrow.Author.Rules.{rules}
 use Rattle.conditions.proofs.tally.tally_details.Goals as goal

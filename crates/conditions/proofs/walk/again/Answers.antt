@@ -1,4 +1,3 @@
--- `conditions::walk::again` meets its contract. The loop's invariant: what is left of the fields gives the answer.
 use Rattle.conditions.specs.Walk.{walking}
 use borrow.Author.Rules.{rules}
 use Rattle.conditions.proofs.walk.again.Goals as goal

@@ -1,4 +1,3 @@
--- What is left to carry out and to print is the replay_from from the place reached.
 use native.Mathlib.Omega.{arith}
 use Rattle.day.specs.Replaying.{replay_starts}
 use borrow.Author.Rules.{rules}

@@ -1,4 +1,3 @@
--- `detail_lines::chosen::count_verdicts` meets its contract. The loop's invariant, for the listed and for the returned: those counted and those left are all.
 use borrow.Author.Rules.{rules}
 use Rattle.detail_lines.specs.Chosen.{counting_on, choosing}
 use Rattle.detail_lines.proofs.chosen.count_verdicts.Goals as goal

@@ -1,4 +1,3 @@
--- `detail_lines::chosen::next_returned` meets its contract. The loop's invariant: those from detail i on are all from the first on.
 use borrow.Author.Rules.{rules}
 use Rattle.detail_lines.specs.Chosen.{choosing}
 use Rattle.detail_lines.proofs.chosen.next_returned.Goals as goal

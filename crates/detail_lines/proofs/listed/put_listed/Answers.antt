@@ -1,4 +1,3 @@
--- `detail_lines::listed::put_listed` meets its contract. The loop's invariant: the rows of the listed from detail i on are left to write, m of them at most.
 use native.Mathlib.Omega.{arith}
 use Rattle.laws.specs.Pieces.{left_all}
 use Rattle.detail_lines.specs.Listed.{skip_start, skip_more, skip_on, rows_more, rows_pass, listing}

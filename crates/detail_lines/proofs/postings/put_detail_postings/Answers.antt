@@ -1,4 +1,3 @@
--- `detail_lines::postings::put_detail_postings` meets its contract. The loop's invariant: the posting lines of the details from i on are left to write.
 use native.Mathlib.Omega.{arith}
 use Rattle.laws.specs.Pieces.{left_all}
 use Rattle.detail_lines.specs.Postings.{crediting}

@@ -1,4 +1,3 @@
--- A walk past the positions that stand before a key. The loop's invariant: what is booked is booked among those left.
 use borrow.Author.Rules.{rules}
 use Rattle.engine.specs.Records.{placing}
 use Rattle.engine.proofs.places.place_of.Goals as goal

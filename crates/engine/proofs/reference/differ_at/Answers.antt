@@ -1,4 +1,3 @@
--- Bytes compared with each other from the last on: behind k they are equal.
 use borrow.Author.Rules.{rules}
 use Rattle.laws.specs.Back.{backing}
 use Rattle.engine.proofs.reference.differ_at.Goals as goal

@@ -1,4 +1,3 @@
--- The records from a place on answer for all of them.
 use borrow.Author.Rules.{rules}
 use Rattle.engine.specs.References.{used}
 use Rattle.engine.proofs.reference.reference_used.Goals as goal

@@ -1,4 +1,3 @@
--- The place of text i, then of the next by its length, up to text k.
 use Rattle.engine.specs.Texts.{lettering}
 use borrow.Author.Rules.{rules}
 use Rattle.engine.proofs.texts.text_place.Goals as goal

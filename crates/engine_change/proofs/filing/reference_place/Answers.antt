@@ -1,4 +1,3 @@
--- A walk past the references that precede it. The loop's invariant: it is put among those left.
 use borrow.Author.Rules.{rules}
 use Rattle.engine_change.specs.Sets.{filing}
 use Rattle.engine_change.proofs.filing.reference_place.Goals as goal

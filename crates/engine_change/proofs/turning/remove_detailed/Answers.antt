@@ -1,4 +1,3 @@
--- Positions without details, moved to the front one by one; then zeros over what they leave. The loop's invariant: of those passed, the ones that stay are at the front.
 use Rattle.laws.specs.Moving.{keeping_keep, keeping_end}
 use borrow.Author.Rules.{rules}
 use Rattle.engine_change.specs.Sets.{turning}

@@ -1,4 +1,3 @@
--- `engine_check::accepted::references_fit` meets its contract. The loop's invariant: the records that are left pass where all of them do.
 use borrow.Author.Rules.{rules}
 use Rattle.engine_laws.specs.Ways.{limiting}
 use Rattle.engine_check.proofs.accepted.references_fit.Goals as goal

@@ -1,4 +1,3 @@
--- `engine_check::accepted::references_ordered` meets its contract. The loop's invariant: the references that are left stand in order where all of them do.
 use borrow.Author.Rules.{rules}
 use Rattle.engine_laws.specs.Ways.{limiting}
 use Rattle.engine_check.proofs.accepted.references_ordered.Goals as goal

@@ -1,4 +1,3 @@
--- `engine_check::header::eights_at` meets its contract. The loop's invariant: the eights that are left are zero where all of them are.
 use native.Mathlib.Nat.{add-zero}
 use borrow.Author.Rules.{rules}
 use Rattle.laws.specs.Eights.{eights}

@@ -1,4 +1,3 @@
--- `engine_check::header::zeros_at` meets its contract. The loop's invariant: the bytes up to k are zero, and the rest decides.
 use borrow.Author.Rules.{rules}
 use Rattle.laws.specs.Places.{placing}
 use Rattle.engine_laws.specs.Tests.{is_zero}

@@ -1,4 +1,3 @@
--- `engine_check::positions::positions_fit` meets its contract. The loop's invariant: the positions that are left pass where all of them do.
 use borrow.Author.Rules.{rules}
 use Rattle.engine_laws.specs.Ways.{limiting}
 use Rattle.engine_check.proofs.positions.positions_fit.Goals as goal

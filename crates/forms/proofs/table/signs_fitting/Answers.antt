@@ -1,4 +1,3 @@
--- `forms::table::signs_fitting` meets its contract. The loop's invariant: what is left fits where the whole does.
 use borrow.Author.Rules.{rules}
 use Rattle.forms.specs.Table.{signs}
 use Rattle.forms.proofs.table.signs_fitting.Goals as goal

@@ -1,4 +1,3 @@
--- `lines::line::far_end` meets its contract. The loop's invariant: the bytes passed, before the first line of what is left, are the line.
 use borrow.Author.Rules.{rules}
 use Rattle.lines.specs.Laws.{framing}
 use Rattle.lines.proofs.line.far_end.Goals as goal

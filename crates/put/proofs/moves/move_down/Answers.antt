@@ -1,4 +1,3 @@
--- Bytes moved down, the first first: a byte not yet moved is loaded from behind all those that are.
 use borrow.Author.Rules.{rules}
 use Rattle.laws.specs.Sets.{moving}
 use Rattle.put.proofs.moves.move_down.Goals as goal

@@ -1,4 +1,3 @@
--- Bytes moved up, the last first: a byte not yet moved is loaded from before all those that are.
 use borrow.Author.Rules.{rules}
 use Rattle.laws.specs.Sets.{moving}
 use Rattle.put.proofs.moves.move_up.Goals as goal

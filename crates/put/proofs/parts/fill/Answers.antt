@@ -1,4 +1,3 @@
--- A byte again and again: those not yet stored are left to write.
 use native.Mathlib.Omega.{arith}
 use borrow.Author.Rules.{rules}
 use Rattle.laws.specs.Sets.{writing}

@@ -1,4 +1,3 @@
--- A part of a slice: what is left of it is what is left to write.
 use native.Mathlib.Omega.{arith}
 use borrow.Author.Rules.{rules}
 use Rattle.laws.specs.Sets.{writing}

@@ -1,4 +1,3 @@
--- `register::check::has_foreign` meets its contract. The loop's invariant: an account is foreign among those that are left where one is among all.
 use borrow.Author.Rules.{rules}
 use Rattle.register.specs.Sets.{checking}
 use Rattle.register.proofs.check.has_foreign.Goals as goal

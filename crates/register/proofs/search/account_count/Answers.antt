@@ -1,4 +1,3 @@
--- `register::search::account_count` meets its contract. The loop's invariant: from its place on there are code lines alone.
 use borrow.Author.Rules.{rules}
 use Rattle.rule_laws.specs.Registers.{register_length}
 use Rattle.register.specs.Sets.{seeking}

@@ -1,4 +1,3 @@
--- `register::search::find_account` meets its contract. The loop's invariant: the line is found among those that are left as among all.
 use borrow.Author.Rules.{rules}
 use Rattle.register.specs.Sets.{seeking}
 use Rattle.register.proofs.search.find_account.Goals as goal

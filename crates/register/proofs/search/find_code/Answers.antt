@@ -1,4 +1,3 @@
--- `register::search::find_code` meets its contract. The loop's invariant: the code stands beside the same IBAN among the lines that are left as among all.
 use borrow.Author.Rules.{rules}
 use Rattle.register.specs.Sets.{seeking}
 use Rattle.register.proofs.search.find_code.Goals as goal

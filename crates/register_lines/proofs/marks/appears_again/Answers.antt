@@ -1,4 +1,3 @@
--- `register_lines::marks::appears_again` meets its contract. The loop's invariant: a key appears twice among those that are left where it does among all.
 use borrow.Author.Rules.{rules}
 use Rattle.register_lines.specs.Sets.{marking}
 use Rattle.register_lines.proofs.marks.appears_again.Goals as goal

@@ -1,4 +1,3 @@
--- `register_lines::marks::mark_of` meets its contract. The loop's invariant: the mark of the bytes read, and the rest decides.
 use borrow.Author.Rules.{rules}
 use Rattle.register_lines.specs.Sets.{marking}
 use Rattle.register_lines.proofs.marks.mark_of.Goals as goal

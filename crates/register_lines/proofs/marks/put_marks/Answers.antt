@@ -1,4 +1,3 @@
--- `register_lines::marks::put_marks` meets its contract. The loop's invariant: the lines before its place have their marks.
 use borrow.Author.Rules.{rules}
 use Rattle.register_lines.specs.Sets.{marking}
 use Rattle.register_lines.proofs.marks.put_marks.Goals as goal

@@ -1,4 +1,3 @@
--- `register_lines::marks::stands_in` meets its contract. The loop's invariant: the key is one of those that are left where it is one of all.
 use borrow.Author.Rules.{rules}
 use Rattle.register_lines.specs.Sets.{marking}
 use Rattle.register_lines.proofs.marks.stands_in.Goals as goal

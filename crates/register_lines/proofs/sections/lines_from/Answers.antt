@@ -1,4 +1,3 @@
--- `register_lines::sections::lines_from` meets its contract. The loop's invariant: the lines counted and those from its place on are all.
 use borrow.Author.Rules.{rules}
 use Rattle.register_lines.specs.Sets.{sectioning}
 use Rattle.register_lines.proofs.sections.lines_from.Goals as goal

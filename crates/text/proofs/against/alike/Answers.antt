@@ -1,4 +1,3 @@
--- `text::against::alike` meets its contract. The loop's invariant: what is left of both parts is equal where they are.
 use lib.Dec.{eqb}
 use borrow.Author.Rules.{rules}
 use Rattle.rules.specs.Text.{equal}

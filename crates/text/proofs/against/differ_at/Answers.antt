@@ -1,4 +1,3 @@
--- `text::against::differ_at` meets its contract. The loop's invariant: behind k both parts are equal.
 use borrow.Author.Rules.{rules}
 use Rattle.laws.specs.Back.{backing}
 use Rattle.text.proofs.against.differ_at.Goals as goal

@@ -1,4 +1,3 @@
--- `text::against::fits_part` meets its contract. The loop's invariant: what is left fits where the whole does.
 use borrow.Author.Rules.{rules}
 use Rattle.rules.specs.Text.{fits, fits_sign}
 use Rattle.laws.specs.Reading.{reading, pairs_more, fits_pairs}

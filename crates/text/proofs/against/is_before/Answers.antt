@@ -1,4 +1,3 @@
--- The loop's invariant: what is left of both parts decides.
 use borrow.Author.Rules.{rules}
 use Rattle.laws.specs.Before.{ordering}
 use Rattle.text.proofs.against.is_before.Goals as goal

@@ -1,4 +1,3 @@
--- `text::classes::letters_at` meets its contract. The loop's invariant: k bytes have passed, and what is left decides for the whole part.
 use borrow.Author.Rules.{rules}
 use Rattle.laws.specs.Places.{placing}
 use Rattle.text.proofs.classes.letters_at.Goals as goal

@@ -1,4 +1,3 @@
--- `text::numbers::read_be` meets its contract: the number so far, with the bytes that are left behind it, is the number of the part.
 use borrow.Author.Rules.{rules}
 use Rattle.laws.specs.Reading.{reading}
 use Rattle.text.proofs.numbers.read_be.Goals as goal

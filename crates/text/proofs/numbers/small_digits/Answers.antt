@@ -1,4 +1,3 @@
--- `text::numbers::small_digits` meets its contract. The loop's invariant: the number so far, with the digits that are left behind it, is the number of the part.
 use borrow.Author.Rules.{rules}
 use Rattle.laws.specs.Values.{valuing}
 use Rattle.text.proofs.numbers.small_digits.Goals as goal

@@ -1,4 +1,3 @@
--- `turn_text::sums::sums_of` meets its contract. The loop's invariant: what is left of the positions completes the sums.
 use borrow.Author.Rules.{rules}
 use Rattle.turn_text.specs.Sums.{summing}
 use Rattle.turn_text.proofs.sums.sums_of.Goals as goal

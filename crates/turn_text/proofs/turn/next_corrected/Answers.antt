@@ -1,4 +1,3 @@
--- The loop's invariant: of the positions before the i-th none is to correct.
 use borrow.Author.Rules.{rules}
 use Rattle.turn_text.specs.Turn.{turning}
 use Rattle.turn_text.proofs.turn.next_corrected.Goals as goal

@@ -1,4 +1,3 @@
--- `turn_text::turn::put_correction_postings` meets its contract. The loop's invariant: the posting lines of the positions from the i-th on are left to write.
 use borrow.Author.Rules.{rules}
 use native.Mathlib.Omega.{arith}
 use Rattle.laws.specs.Pieces.{left_all}
