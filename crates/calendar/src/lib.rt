@@ -4,13 +4,12 @@
 ghost use Rattle.std.specs.Prelude.{◌≡◌, true, ◌+◌, ◌/◌, ◌%◌, ◌≤◌, length};
 ghost use Rattle.laws.specs.Parts.{cut};
 ghost use Rattle.laws.specs.Values.{Valued};
-ghost use Rattle.text.specs.Answers.{num_of};
+ghost use Rattle.laws.specs.Told.{told};
 ghost use Rattle.rules.specs.Text.{is_digit, every};
 ghost use Rattle.rules.specs.Dates.{month_length, date};
 ghost use Rattle.rules.specs.Dates as D;
 ghost use Rattle.calendar.specs.Days.{RowOf, is_date, dated_of};
 
-use text::Num;
 
 // The lengths of the months, one row for leap years.
 const MONTHS: [[u8; 12]; 2] = [
@@ -108,13 +107,13 @@ pub fn date_at(s: &[u8], at: usize) -> u32
 }
 
 // The date at a place: the number of its six digits, where it exists.
-pub fn read_date(s: &[u8], at: usize) -> Num
+pub fn read_date(s: &[u8], at: usize) -> Option<u64>
     requires { at + 6 ≤ length s.now }
-    ensures { num_of result ≡ date (cut s.now at (at + 6)) }
+    ensures { told result ≡ date (cut s.now at (at + 6)) }
 {
     let n = date_at(s, at);
     if n == 0 {
-        return Num::Bad;
+        return None;
     }
-    Num::Value(n as u64)
+    Some(n as u64)
 }

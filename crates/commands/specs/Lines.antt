@@ -15,9 +15,9 @@ use Rattle.laws.specs.Tests.{never}
 use Rattle.lines.specs.Answers.{LineAt, line_told, no_line_told}
 use Rattle.lines.specs.declared.line.Next.{Next}
 use Rattle.lines.specs.declared.line.Next.TheVariants.{Line, Bad as NoNext}
-use Rattle.text.specs.Answers.{num_of}
-use Rattle.text.specs.declared.numbers.Num.{Num}
-use Rattle.text.specs.declared.numbers.Num.TheVariants.{Value, Bad}
+use Rattle.laws.specs.Told.{told}
+use Rattle.std.specs.Prelude as P
+use Rattle.std.specs.Prelude.{Some, None}
 use Rattle.commands.specs.declared.number.Lengths.{Lengths}
 use Rattle.commands.specs.declared.number.Lengths.TheVariants.{Two, Bad as NoLengths}
 use Rattle.commands.specs.declared.command.Command.{Command}
@@ -81,15 +81,15 @@ module _ (s : List ℕ) (at : ℕ) (f : List (List ℕ) → Rattle.rules.specs.R
 
 -- ---- one length and its text
 
-module _ (h : Handed) (s : List ℕ) (at e : ℕ) (q : Num) (u : num_of q ≡ length_of (cut s (at + 2) e)) where
-  pub text_none : q ≡ Bad → Commanding s (text_line h s at e) End
+module _ (h : Handed) (s : List ℕ) (at e : ℕ) (q : P.Option ℕ) (u : told q ≡ length_of (cut s (at + 2) e)) where
+  pub text_none : q ≡ None → Commanding s (text_line h s at e) End
   unfolding text_line texts_behind commanded_of Placed
-  text_none w = record { same = let z : length_of (cut s (at + 2) e) ≡ none = sym u ∙ ap num_of w in rw (lengths_last (cut s (at + 2) e), z) refl; places = tt }
+  text_none w = record { same = let z : length_of (cut s (at + 2) e) ≡ none = sym u ∙ ap told w in rw (lengths_last (cut s (at + 2) e), z) refl; places = tt }
 
-  module _ (n : ℕ) (w : q ≡ Value n) where
+  module _ (n : ℕ) (w : q ≡ Some n) where
     text_is : text_line h s at e ≡ with_texts (single (making h)) (n ∷ []) (from s (e + 2))
     unfolding text_line texts_behind
-    text_is = let z : length_of (cut s (at + 2) e) ≡ some n = sym u ∙ ap num_of w in rw (lengths_last (cut s (at + 2) e), z) refl
+    text_is = let z : length_of (cut s (at + 2) e) ≡ some n = sym u ∙ ap told w in rw (lengths_last (cut s (at + 2) e), z) refl
 
     pub text_short : length s - (e + 2) < n → Commanding s (text_line h s at e) End
     unfolding commanded_of Placed added_up
@@ -104,14 +104,14 @@ module _ (h : Handed) (s : List ℕ) (at e : ℕ) (q : Num) (u : num_of q ≡ le
 
 -- ---- `T,day`
 
-module _ (s : List ℕ) (at e : ℕ) (q : Num) (u : num_of q ≡ six_digits (cut s (at + 2) e)) where
-  pub turn_none : q ≡ Bad → Commanding s (turn_line s at e) End
+module _ (s : List ℕ) (at e : ℕ) (q : P.Option ℕ) (u : told q ≡ six_digits (cut s (at + 2) e)) where
+  pub turn_none : q ≡ None → Commanding s (turn_line s at e) End
   unfolding turn_line commanded_of Placed
-  turn_none w = record { same = let z : six_digits (cut s (at + 2) e) ≡ none = sym u ∙ ap num_of w in rw z refl; places = tt }
+  turn_none w = record { same = let z : six_digits (cut s (at + 2) e) ≡ none = sym u ∙ ap told w in rw z refl; places = tt }
 
-  pub turn_day : (n : ℕ) → q ≡ Value n → e + 2 ≤ length s → Commanding s (turn_line s at e) (Turns n (e + 2))
+  pub turn_day : (n : ℕ) → q ≡ Some n → e + 2 ≤ length s → Commanding s (turn_line s at e) (Turns n (e + 2))
   unfolding turn_line commanded_of Placed
-  turn_day n w k = record { same = let z : six_digits (cut s (at + 2) e) ≡ some n = sym u ∙ ap num_of w in rw z refl; places = k }
+  turn_day n w k = record { same = let z : six_digits (cut s (at + 2) e) ≡ some n = sym u ∙ ap told w in rw z refl; places = k }
 
 -- ---- `O,day,length,length`
 
@@ -133,21 +133,21 @@ module _ (s : List ℕ) (at e : ℕ) where
     unfolding open_line commanded_of Placed equal
     open_other n = record { same = rw (comma, ne_eqb _ _ n) refl; places = tt }
 
-    module _ (m : get_or s (at + 8) 0 ≡ 44) (q : Num) (u : num_of q ≡ six_digits (cut s (at + 2) (at + 8))) where
+    module _ (m : get_or s (at + 8) 0 ≡ 44) (q : P.Option ℕ) (u : told q ≡ six_digits (cut s (at + 2) (at + 8))) where
       line_is : open_line s at e ≡ then (six_digits (cut s (at + 2) (at + 8))) (λ d. texts_behind (opening d) 2 (cut s (at + 9) e) (from s (e + 2)))
       unfolding open_line equal
       line_is =
           let z : take 6 (cut s (at + 2) e) ≡ cut s (at + 2) (at + 8) = cut_take s (at + 2) e 6 (omega arith) ∙ ap (cut s (at + 2)) (omega arith) in
           rw (comma, eq-eqb _ _ m, z) refl
 
-      pub open_no_day : q ≡ Bad → Commanding s (open_line s at e) End
+      pub open_no_day : q ≡ None → Commanding s (open_line s at e) End
       unfolding commanded_of Placed
-      open_no_day w = record { same = let z : six_digits (cut s (at + 2) (at + 8)) ≡ none = sym u ∙ ap num_of w in rw (line_is, z) refl; places = tt }
+      open_no_day w = record { same = let z : six_digits (cut s (at + 2) (at + 8)) ≡ none = sym u ∙ ap told w in rw (line_is, z) refl; places = tt }
 
-      module _ (d : ℕ) (w : q ≡ Value d) (p : Lengths) (v : lengths_in p ≡ parted_lengths 2 (cut s (at + 9) e)) where
+      module _ (d : ℕ) (w : q ≡ Some d) (p : Lengths) (v : lengths_in p ≡ parted_lengths 2 (cut s (at + 9) e)) where
         day_is : open_line s at e ≡ then (lengths_in p) (λ ns. with_texts (opening d) ns (from s (e + 2)))
         unfolding texts_behind
-        day_is = let z : six_digits (cut s (at + 2) (at + 8)) ≡ some d = sym u ∙ ap num_of w in rw (line_is, z, v)
+        day_is = let z : six_digits (cut s (at + 2) (at + 8)) ≡ some d = sym u ∙ ap told w in rw (line_is, z, v)
 
         pub open_no_lengths : p ≡ NoLengths → Commanding s (open_line s at e) End
         unfolding commanded_of Placed

@@ -11,9 +11,9 @@ use Rattle.std.proofs.Math.ListN.{get_or}
 use borrow.Author.Tests.{le-leb, lt-leb, leb-true, eqb-true, ne_eqb, not-false}
 use borrow.Author.Rules.{Fits-under}
 use mir.Syntax.{w32, w64}
-use Rattle.text.specs.Answers.{num_of}
-use Rattle.text.specs.declared.numbers.Num.{Num}
-use Rattle.text.specs.declared.numbers.Num.TheVariants.{Value, Bad}
+use Rattle.laws.specs.Told.{told}
+use Rattle.std.specs.Prelude as P
+use Rattle.std.specs.Prelude.{Some, None}
 use Rattle.commands.specs.declared.number.Lengths.{Lengths}
 use Rattle.commands.specs.declared.number.Lengths.TheVariants.{Two, Bad as NoLengths}
 use Rattle.rules.specs.Text.{ascii, is_digit, digits_from, digits, every, fits, fits_sign, then, given, read_each, added_up}
@@ -159,19 +159,19 @@ module _ (s : List ℕ) (a e k : ℕ) (w : Passed in_part s a (e - a) k) (h : a 
     lengths_are : parted_lengths 2 (cut s a e) ≡ then (length_of (cut s a (a + k))) (λ n. map (λ more. n ∷ more) (then (length_of (cut s (a + k + 1) e)) (λ m. some (m ∷ []))))
     lengths_are = rw (part_here, lengths_next 1 (cut s a (a + k)) (cut s (a + k + 1) e) w.front, lengths_last (cut s (a + k + 1) e))
 
-    module _ (q : Num) (v : num_of q ≡ length_of (cut s a (a + k))) where
-      pub lengths_bad : q ≡ Bad → none ≡ parted_lengths 2 (cut s a e)
-      lengths_bad b = let z : length_of (cut s a (a + k)) ≡ none = sym v ∙ ap num_of b in rw (lengths_are, z)
+    module _ (q : P.Option ℕ) (v : told q ≡ length_of (cut s a (a + k))) where
+      pub lengths_bad : q ≡ None → none ≡ parted_lengths 2 (cut s a e)
+      lengths_bad b = let z : length_of (cut s a (a + k)) ≡ none = sym v ∙ ap told b in rw (lengths_are, z)
 
-      module _ (n : ℕ) (b : q ≡ Value n) (p : Num) (y : num_of p ≡ length_of (cut s (a + k + 1) e)) where
+      module _ (n : ℕ) (b : q ≡ Some n) (p : P.Option ℕ) (y : told p ≡ length_of (cut s (a + k + 1) e)) where
         length_first : length_of (cut s a (a + k)) ≡ some n
-        length_first = sym v ∙ ap num_of b
+        length_first = sym v ∙ ap told b
 
-        pub lengths_second_bad : p ≡ Bad → none ≡ parted_lengths 2 (cut s a e)
-        lengths_second_bad d = let z : length_of (cut s (a + k + 1) e) ≡ none = sym y ∙ ap num_of d in rw (lengths_are, length_first, z)
+        pub lengths_second_bad : p ≡ None → none ≡ parted_lengths 2 (cut s a e)
+        lengths_second_bad d = let z : length_of (cut s (a + k + 1) e) ≡ none = sym y ∙ ap told d in rw (lengths_are, length_first, z)
 
-        pub lengths_two : (m : ℕ) → p ≡ Value m → some (n ∷ m ∷ []) ≡ parted_lengths 2 (cut s a e)
-        lengths_two m d = let z : length_of (cut s (a + k + 1) e) ≡ some m = sym y ∙ ap num_of d in rw (lengths_are, length_first, z)
+        pub lengths_two : (m : ℕ) → p ≡ Some m → some (n ∷ m ∷ []) ≡ parted_lengths 2 (cut s a e)
+        lengths_two m d = let z : length_of (cut s (a + k + 1) e) ≡ some m = sym y ∙ ap told d in rw (lengths_are, length_first, z)
 
 -- ---- digits
 
@@ -248,10 +248,10 @@ lengths_read n l ns e =
     record { many = m; parts = p; limit = rw m at (parts_limit p) }
 
 -- as they were read, they fit their machine numbers
-module _ (s : List ℕ) (a b : ℕ) (q : Num) (n : ℕ) (w : q ≡ Value n) where
-  pub six_small : num_of q ≡ six_digits (cut s a b) → Fits w32 n
+module _ (s : List ℕ) (a b : ℕ) (q : P.Option ℕ) (n : ℕ) (w : q ≡ Some n) where
+  pub six_small : told q ≡ six_digits (cut s a b) → Fits w32 n
   unfolding six_digits
-  six_small u = Fits-under w32 n 1000000 (go (fits (ascii "nnnnnn") (cut s a b)) refl (sym u ∙ ap num_of w)) tt
+  six_small u = Fits-under w32 n 1000000 (go (fits (ascii "nnnnnn") (cut s a b)) refl (sym u ∙ ap told w)) tt
     where
       go : (t : Bool) → fits (ascii "nnnnnn") (cut s a b) ≡ t → cond t (digits (cut s a b)) none ≡ some n → n < 1000000
       go true z e = rw (← fits_length (ascii "nnnnnn") (cut s a b) z) at (digits_small (cut s a b) n e)
@@ -274,24 +274,24 @@ module _ (s : List ℕ) (a b : ℕ) (l : b ≤ length s) where
   unfolding room_of
   room_long h = rw (cut_length s a b l, lt-leb _ _ h, le-leb 1 (b - a) (omega arith))
 
-  module _ (h : a ≤ b) (n : (a ≡ b → ⊥)) (k : b - a ≤ 7) (q : Num) (u : num_of q ≡ digits (cut s a b)) where
-    room_is : room_of (cut s a b) ≡ then (num_of q) (λ n. given (leb n 1048576) n)
+  module _ (h : a ≤ b) (n : (a ≡ b → ⊥)) (k : b - a ≤ 7) (q : P.Option ℕ) (u : told q ≡ digits (cut s a b)) where
+    room_is : room_of (cut s a b) ≡ then (told q) (λ n. given (leb n 1048576) n)
     unfolding room_of
     room_is = rw (u, cut_length s a b l, le-leb _ _ k, le-leb 1 (b - a) (omega arith))
 
-    pub room_bad : q ≡ Bad → none ≡ room_of (cut s a b)
+    pub room_bad : q ≡ None → none ≡ room_of (cut s a b)
     room_bad w = sym (room_is ∙ rw w)
 
-    module _ (v : ℕ) (w : q ≡ Value v) where
+    module _ (v : ℕ) (w : q ≡ Some v) where
       pub room_large : 1048576 < v → none ≡ room_of (cut s a b)
       room_large m = sym (room_is ∙ rw (w, lt-leb _ _ m))
 
       pub room_read : v ≤ 1048576 → some v ≡ room_of (cut s a b)
       room_read m = sym (room_is ∙ rw (w, le-leb _ _ m))
 
-pub room_small : (cs : List ℕ) (q : Num) (v : ℕ) → num_of q ≡ room_of cs → q ≡ Value v → v ≤ 1048576
+pub room_small : (cs : List ℕ) (q : P.Option ℕ) (v : ℕ) → told q ≡ room_of cs → q ≡ Some v → v ≤ 1048576
 unfolding room_of
-room_small cs q v u w = go (leb 1 (length cs) && leb (length cs) 7) (sym u ∙ ap num_of w)
+room_small cs q v u w = go (leb 1 (length cs) && leb (length cs) 7) (sym u ∙ ap told w)
   where
     go : (t : Bool) → cond t (then (digits cs) (λ n. given (leb n 1048576) n)) none ≡ some v → v ≤ 1048576
     go true k = given_within (digits cs) 1048576 v k

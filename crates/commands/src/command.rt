@@ -7,7 +7,6 @@ ghost use Rattle.commands.specs.Answers.{Commanding, text_line, turn_line, open_
 use crate::letter::{Handed, Letter, begins, letter_at};
 use crate::number::{Lengths, read_length, six_digits, two_lengths};
 use lines::Next;
-use text::Num;
 
 // A command, by its places in the input.
 #[derive(Clone, Copy)]
@@ -27,7 +26,7 @@ fn text_command(s: &[u8], at: usize, e: usize, h: Handed) -> Command
     requires { (at + 2 ≤ e) × (e + 2 ≤ length s.now) }
     ensures { Commanding s.now (text_line h s.now at e) result }
 {
-    let Num::Value(n) = read_length(s, at + 2, e) else {
+    let Some(n) = read_length(s, at + 2, e) else {
         return Command::End;
     };
     let start = e + 2;
@@ -42,7 +41,7 @@ fn turn_command(s: &[u8], at: usize, e: usize) -> Command
     requires { (at + 2 ≤ e) × (e + 2 ≤ length s.now) }
     ensures { Commanding s.now (turn_line s.now at e) result }
 {
-    let Num::Value(day) = six_digits(s, at + 2, e) else {
+    let Some(day) = six_digits(s, at + 2, e) else {
         return Command::End;
     };
     Command::Turns(day as u32, e + 2)
@@ -59,7 +58,7 @@ fn open_command(s: &[u8], at: usize, e: usize) -> Command
     if s[at + 8] != 44 {
         return Command::End;
     }
-    let Num::Value(day) = six_digits(s, at + 2, at + 8) else {
+    let Some(day) = six_digits(s, at + 2, at + 8) else {
         return Command::End;
     };
     let Lengths::Two(m, n) = two_lengths(s, at + 9, e) else {

@@ -4,10 +4,9 @@ ghost use Rattle.rules.specs.Replay.{length_of, parted_lengths, six_digits};
 ghost use Rattle.laws.specs.Parts.{cut};
 ghost use Rattle.laws.specs.Places.{Passed};
 ghost use Rattle.rule_laws.specs.Commas.{in_part};
-ghost use Rattle.text.specs.Answers.{num_of};
+ghost use Rattle.laws.specs.Told.{told};
 ghost use Rattle.commands.specs.Numbers.{lengths_in, room_of};
 
-use text::Num;
 
 // The reading of the lengths of an opening.
 #[derive(Clone, Copy)]
@@ -19,31 +18,31 @@ pub enum Lengths {
 }
 
 // A length: one or more digits, at most 8192.
-pub fn read_length(s: &[u8], a: usize, b: usize) -> Num
+pub fn read_length(s: &[u8], a: usize, b: usize) -> Option<u64>
     requires { (a ≤ b) × (b ≤ length s.now) }
-    ensures { num_of result ≡ length_of (cut s.now a b) }
+    ensures { told result ≡ length_of (cut s.now a b) }
 {
     if a == b {
-        return Num::Bad;
+        return None;
     }
     let mut v: u64 = 0;
     let mut i = a;
     while i < b {
         if v > 8192 {
-            return Num::Bad;
+            return None;
         }
         let c = s[i];
         if text::is_digit(c) {
             v = text::with_digit(v, c);
             i += 1;
         } else {
-            return Num::Bad;
+            return None;
         }
     }
     if v > 8192 {
-        return Num::Bad;
+        return None;
     }
-    Num::Value(v)
+    Some(v)
 }
 
 // How many of the n bytes from a stand before a comma.
@@ -72,43 +71,43 @@ pub fn two_lengths(s: &[u8], a: usize, e: usize) -> Lengths
     if k == e - a {
         return Lengths::Bad;
     }
-    let Num::Value(m) = read_length(s, a, a + k) else {
+    let Some(m) = read_length(s, a, a + k) else {
         return Lengths::Bad;
     };
-    let Num::Value(n) = read_length(s, a + k + 1, e) else {
+    let Some(n) = read_length(s, a + k + 1, e) else {
         return Lengths::Bad;
     };
     Lengths::Two(m, n)
 }
 
 // A day: six digits.
-pub fn six_digits(s: &[u8], a: usize, b: usize) -> Num
+pub fn six_digits(s: &[u8], a: usize, b: usize) -> Option<u64>
     requires { (a ≤ b) × (b ≤ length s.now) }
-    ensures { num_of result ≡ six_digits (cut s.now a b) }
+    ensures { told result ≡ six_digits (cut s.now a b) }
 {
     if b - a != 6 {
-        return Num::Bad;
+        return None;
     }
     text::read_digits(s, a, b)
 }
 
 // A room of the output: one to seven digits, at most 1,048,576.
-pub fn read_room(s: &[u8], a: usize, b: usize) -> Num
+pub fn read_room(s: &[u8], a: usize, b: usize) -> Option<u64>
     requires a_le_b { a ≤ b }
     requires b_in_bounds { b ≤ length s.now }
-    ensures { num_of result ≡ room_of (cut s.now a b) }
+    ensures { told result ≡ room_of (cut s.now a b) }
 {
     if a == b {
-        return Num::Bad;
+        return None;
     }
     if b - a > 7 {
-        return Num::Bad;
+        return None;
     }
-    let Num::Value(v) = text::read_digits(s, a, b) else {
-        return Num::Bad;
+    let Some(v) = text::read_digits(s, a, b) else {
+        return None;
     };
     if v > 1048576 {
-        return Num::Bad;
+        return None;
     }
-    Num::Value(v)
+    Some(v)
 }

@@ -5,7 +5,6 @@ ghost use Rattle.forms.specs.Details.{DetailAt};
 use crate::fields::{amount_in, date_in};
 use crate::names::{DETAIL_32B, DETAIL_BAEREF, DETAIL_CENTRB, DETAIL_ROWS, TRANSFER_ROWS};
 use crate::rows::{Span, read_rows};
-use text::Num;
 
 // A detail as it is read.
 #[derive(Clone, Copy)]
@@ -31,9 +30,9 @@ pub fn read_detail(s: &[u8], at: usize) -> Detail
     let rows = read_rows(s, at, TRANSFER_ROWS, DETAIL_ROWS);
     let spans = rows.spans;
     if rows.ok {
-        if let Num::Value(amount) = amount_in(s, spans[DETAIL_32B], 8) {
-            if let Num::Value(date) = date_in(s, spans[DETAIL_CENTRB], 10) {
-                if let Num::Value(_) = date_in(s, spans[DETAIL_BAEREF], 6) {
+        if let Some(amount) = amount_in(s, spans[DETAIL_32B], 8) {
+            if let Some(date) = date_in(s, spans[DETAIL_CENTRB], 10) {
+                if let Some(_) = date_in(s, spans[DETAIL_BAEREF], 6) {
                     return Detail {
                         ok: true,
                         next: rows.next,

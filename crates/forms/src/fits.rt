@@ -5,7 +5,7 @@ ghost use Rattle.laws.specs.Parts.{cut};
 ghost use Rattle.forms.specs.Table.{rest_of, row_of};
 
 use crate::table::{Rest, Row, head_fits};
-use text::{Class, run_in};
+use text::{Alnum, Text, run_in};
 
 // Is a text line T there, from a up to e: 1 to 35 such bytes, the first neither `:` nor `-`?
 fn text_line(s: &[u8], a: usize, e: usize) -> bool
@@ -21,7 +21,7 @@ fn text_line(s: &[u8], a: usize, e: usize) -> bool
         if c == 45 {
             return false;
         }
-        return run_in(Class::Text, 1, 35, s, a, e);
+        return run_in::<Text>(1, 35, s, a, e);
     }
     false
 }
@@ -35,9 +35,9 @@ fn rest_fits(rest: Rest, s: &[u8], a: usize, e: usize) -> bool
     match rest {
         Rest::Nothing => e - a == 0,
         Rest::Text => text_line(s, a, e),
-        Rest::Reference => run_in(Class::Text, 1, 16, s, a, e),
-        Rest::Account => run_in(Class::Text, 1, 34, s, a, e),
-        Rest::Name => run_in(Class::Alnum, 1, 12, s, a, e),
+        Rest::Reference => run_in::<Text>(1, 16, s, a, e),
+        Rest::Account => run_in::<Text>(1, 34, s, a, e),
+        Rest::Name => run_in::<Alnum>(1, 12, s, a, e),
         Rest::Sum => true,
     }
 }

@@ -6,7 +6,6 @@ use crate::fields::{amount_in, date_in};
 use crate::names::{TRANSFER_32A, TRANSFER_BAEREF, TRANSFER_ROWS};
 use crate::rows::{Span, read_rows};
 use lines::closes_at;
-use text::Num;
 
 // A transfer as it is read.
 #[derive(Clone, Copy)]
@@ -31,9 +30,9 @@ pub fn read_transfer(s: &[u8]) -> Transfer
     let spans = rows.spans;
     if rows.ok {
         if closes_at(s, rows.next) {
-            if let Num::Value(date) = date_in(s, spans[TRANSFER_32A], 5) {
-                if let Num::Value(amount) = amount_in(s, spans[TRANSFER_32A], 14) {
-                    if let Num::Value(_) = date_in(s, spans[TRANSFER_BAEREF], 8) {
+            if let Some(date) = date_in(s, spans[TRANSFER_32A], 5) {
+                if let Some(amount) = amount_in(s, spans[TRANSFER_32A], 14) {
+                    if let Some(_) = date_in(s, spans[TRANSFER_BAEREF], 8) {
                         return Transfer {
                             ok: true,
                             date,

@@ -9,21 +9,21 @@ use Rattle.rules.specs.Text.{digits}
 use Rattle.rules.specs.Accounts.{passes}
 use Rattle.laws.specs.Parts.{cut}
 use Rattle.laws.specs.Tests.{and_right, not_holds}
-use Rattle.text.specs.Answers.{num_of}
-use Rattle.text.specs.declared.numbers.Num.{Num}
-use Rattle.text.specs.declared.numbers.Num.TheVariants.{Value, Bad}
+use Rattle.laws.specs.Told.{told}
+use Rattle.std.specs.Prelude as P
+use Rattle.std.specs.Prelude.{Some, None}
 use Rattle.register_lines.specs.AccountLine.{bound}
 use Rattle.register_lines.specs.Places.{ends_at, bound_at, account_stands, first_in}
 use Rattle.register_lines.specs.Formed.{bounds_at, form_bounds}
 use Rattle.register_lines.specs.Forms.{ends_room}
 
 -- a bound, as its digits were read
-module _ (s : List ℕ) (at : ℕ) (q : Num) (e : num_of q ≡ digits (cut s at (at + 6))) where
-  pub bound_read : (n : ℕ) → q ≡ Value n → n ≡ bound_at s at
+module _ (s : List ℕ) (at : ℕ) (q : P.Option ℕ) (e : told q ≡ digits (cut s at (at + 6))) where
+  pub bound_read : (n : ℕ) → q ≡ Some n → n ≡ bound_at s at
   unfolding bound_at bound
   bound_read n w = rw (← e, w)
 
-  pub bound_none : q ≡ Bad → 0 ≡ bound_at s at
+  pub bound_none : q ≡ None → 0 ≡ bound_at s at
   unfolding bound_at bound
   bound_none w = rw (← e, w)
 

@@ -3,7 +3,6 @@ ghost use Rattle.std.specs.Prelude.{◌≡◌, true, ◌+◌, ◌≤◌, leb, le
 ghost use Rattle.register_lines.specs.Places.{ends_at, bound_at, first_in, account_stands, code_stands};
 ghost use Rattle.register_lines.specs.Formed.{bounds_at};
 
-use text::Num;
 
 // The bound at a place: six digits.
 pub fn bound_at(text: &[u8], at: usize) -> u64
@@ -11,8 +10,8 @@ pub fn bound_at(text: &[u8], at: usize) -> u64
     ensures { result ≡ bound_at text.now at }
 {
     match text::read_digits(text, at, at + 6) {
-        Num::Value(n) => n,
-        Num::Bad => 0,
+        Some(n) => n,
+        None => 0,
     }
 }
 

@@ -3,9 +3,9 @@ use Rattle.std.specs.Prelude.{◌≡◌, refl, List, ℕ, ◌+◌, ◌-◌, ◌�
 use Rattle.std.proofs.Common.{◌∙◌, subst, arith, length-take}
 use borrow.Rule.Slice.PartMut.{put_mid, take_put}
 use Rattle.laws.specs.Parts.{cut}
-use Rattle.text.specs.Answers.{num_of}
-use Rattle.text.specs.declared.numbers.Num.{Num}
-use Rattle.text.specs.declared.numbers.Num.TheVariants.{Value}
+use Rattle.laws.specs.Told.{told}
+use Rattle.std.specs.Prelude as P
+use Rattle.std.specs.Prelude.{Some}
 use Rattle.commands.specs.Numbers.{room_of, room_small}
 use Rattle.day.specs.declared.onward.Onward.{Onward}
 use Rattle.day.specs.declared.onward.Onward.TheVariants.{Answered, Wants}
@@ -21,7 +21,7 @@ WithinTold Unknown = Unit {0}
 pub record RoomWithin (r : Room) : Type 0 where
   pub told : WithinTold r
 
-pub room_within : (cs : List ℕ) (q : Num) (v : ℕ) → num_of q ≡ room_of cs → q ≡ Value v → RoomWithin (Bytes v)
+pub room_within : (cs : List ℕ) (q : P.Option ℕ) (v : ℕ) → told q ≡ room_of cs → q ≡ Some v → RoomWithin (Bytes v)
 room_within cs q v u w = record { told = room_small cs q v u w }
 
 pub room_known : (r : Room) → RoomWithin r → (n : ℕ) → r ≡ Bytes n → n ≤ 1048576

@@ -2,7 +2,6 @@
 ghost use Rattle.replay.specs.Going.{RoomWithin};
 
 use std::env::{Env, FillError};
-use text::Num;
 
 // What the words on the command line ask for.
 #[derive(Clone, Copy)]
@@ -40,7 +39,7 @@ fn room_word(rt: &impl Env) -> Room
     let Ok(n) = rt.arg(2, &mut word) else {
         return Room::Unknown;
     };
-    let Num::Value(room) = commands::read_room(&word, 0, n) else {
+    let Some(room) = commands::read_room(&word, 0, n) else {
         return Room::Unknown;
     };
     Room::Bytes(room as usize)

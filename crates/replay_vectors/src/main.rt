@@ -6,7 +6,6 @@ ghost use Rattle.std.specs.Prelude.{◌≡◌, ◌≤◌, length, take};
 use std::io::Read;
 use std::rt::Files;
 use std::{env, fs, io};
-use text::Num;
 
 // Room for an input.
 fn input_room() -> [u8; 131072]
@@ -47,7 +46,7 @@ fn read_file(rt: &impl Files, name: &str, buf: &mut [u8]) -> usize
 fn room_of(word: &str) -> usize
     ensures { result ≤ 1048576 }
 {
-    let Num::Value(room) = commands::read_room(word.as_bytes(), 0, word.len()) else {
+    let Some(room) = commands::read_room(word.as_bytes(), 0, word.len()) else {
         return 32768;
     };
     room as usize

@@ -4,13 +4,12 @@
 ghost use Rattle.std.specs.Prelude.{◌+◌, ◌≤◌, length};
 
 use std::io::{self, Read};
-use text::Num;
 
 // A number that was read, or none.
-fn say_number(rt: &impl Print, r: Num) -> io::Result<()> {
+fn say_number(rt: &impl Print, r: Option<u64>) -> io::Result<()> {
     match r {
-        Num::Value(v) => rt.print(v),
-        Num::Bad => rt.write_all(b"none"),
+        Some(v) => rt.print(v),
+        None => rt.write_all(b"none"),
     }
 }
 
@@ -31,7 +30,7 @@ fn try_date(rt: &impl Print, s: &[u8], a: usize, b: usize) -> io::Result<()>
     if b - a == 6 {
         say_number(rt, calendar::read_date(s, a))
     } else {
-        say_number(rt, Num::Bad)
+        say_number(rt, None)
     }
 }
 
@@ -42,12 +41,12 @@ fn try_day(rt: &impl Print, s: &[u8], a: usize, b: usize) -> io::Result<()>
 {
     if b - a <= 18 {
         match text::read_digits(s, a, b) {
-            Num::Value(n) => {
+            Some(n) => {
                 if n <= 4294967295 {
                     say(rt, calendar::exists(n as u32), b"exists", b"none")?;
                 }
             }
-            Num::Bad => {}
+            None => {}
         }
     }
     Ok(())

@@ -13,40 +13,22 @@ bounds-spans-1 c = search (detailing, rules)
 pub amount_in-requires : goal.amount_in-requires
 amount_in-requires c = search (detailing, rules)
 
-pub enum_known-amount : goal.enum_known-amount
-enum_known-amount c = search (detailing, rules)
-
 pub bounds-spans-13 : goal.bounds-spans-13
 bounds-spans-13 c = search (detailing, rules)
 
 pub date_in-requires : goal.date_in-requires
 date_in-requires c = search (detailing, rules)
 
-pub enum_known-date : goal.enum_known-date
-enum_known-date c = search (detailing, rules)
-
 pub bounds-spans-14 : goal.bounds-spans-14
 bounds-spans-14 c = search (detailing, rules)
 
-pub date_in-requires-in-Value-date_in : goal.date_in-requires-in-Value-date_in
-date_in-requires-in-Value-date_in c = search (detailing, rules)
+pub date_in-requires-in-Some-date_in : goal.date_in-requires-in-Some-date_in
+date_in-requires-in-Some-date_in c = search (detailing, rules)
 
-pub enum_told-1 : goal.enum_told-1
-enum_told-1 c = search (detailing, rules)
-
-pub returns-in-Value-date_in-2 : goal.returns-in-Value-date_in-2
-returns-in-Value-date_in-2 c = let k = (
+pub returns-in-Some-date_in-2 : goal.returns-in-Some-date_in-2
+returns-in-Some-date_in-2 c = let k = (
     detail_three _ _ _ c.read_rows-rows.ensures c.if-rows.true) in
     search (detailing, rules)
-
-pub enum_told-in_default-date_in-2 : goal.enum_told-in_default-date_in-2
-enum_told-in_default-date_in-2 c = search (detailing, rules)
-
-pub enum_told-in_default-date_in : goal.enum_told-in_default-date_in
-enum_told-in_default-date_in c = search (detailing, rules)
-
-pub enum_told-in_default : goal.enum_told-in_default
-enum_told-in_default c = search (detailing, rules)
 
 pub returns-in_default-date_in-2 : goal.returns-in_default-date_in-2
 returns-in_default-date_in-2 c = let k = (

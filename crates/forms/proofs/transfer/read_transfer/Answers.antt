@@ -17,40 +17,22 @@ bounds-spans-2 c = search (transferring, rules)
 pub date_in-requires : goal.date_in-requires
 date_in-requires c = search (transferring, rules)
 
-pub enum_known-date : goal.enum_known-date
-enum_known-date c = search (transferring, rules)
-
-pub bounds-spans-2-in-Value : goal.bounds-spans-2-in-Value
-bounds-spans-2-in-Value c = search (transferring, rules)
+pub bounds-spans-2-in-Some : goal.bounds-spans-2-in-Some
+bounds-spans-2-in-Some c = search (transferring, rules)
 
 pub amount_in-requires : goal.amount_in-requires
 amount_in-requires c = search (transferring, rules)
 
-pub enum_known-amount : goal.enum_known-amount
-enum_known-amount c = search (transferring, rules)
-
 pub bounds-spans-21 : goal.bounds-spans-21
 bounds-spans-21 c = search (transferring, rules)
 
-pub date_in-requires-in-Value-amount_in : goal.date_in-requires-in-Value-amount_in
-date_in-requires-in-Value-amount_in c = search (transferring, rules)
+pub date_in-requires-in-Some-amount_in : goal.date_in-requires-in-Some-amount_in
+date_in-requires-in-Some-amount_in c = search (transferring, rules)
 
-pub enum_told-1 : goal.enum_told-1
-enum_told-1 c = search (transferring, rules)
-
-pub returns-in-Value-date_in : goal.returns-in-Value-date_in
-returns-in-Value-date_in c = let k = (
+pub returns-in-Some-date_in : goal.returns-in-Some-date_in
+returns-in-Some-date_in c = let k = (
     transfer_three _ _ c.read_rows-rows.ensures c.if-rows.true _ c.closes_at.ensures c.if-closes_at.true) in
     search (transferring, rules)
-
-pub enum_told-in_default-date_in : goal.enum_told-in_default-date_in
-enum_told-in_default-date_in c = search (transferring, rules)
-
-pub enum_told-in_default-amount_in : goal.enum_told-in_default-amount_in
-enum_told-in_default-amount_in c = search (transferring, rules)
-
-pub enum_told-in_default : goal.enum_told-in_default
-enum_told-in_default c = search (transferring, rules)
 
 pub returns-in_default-date_in : goal.returns-in_default-date_in
 returns-in_default-date_in c = let k = (

@@ -9,14 +9,8 @@ overflow_add-at c = search (lining, rules)
 pub read_digits-requires : goal.read_digits-requires
 read_digits-requires c = search (lining, rules)
 
-pub enum_known-n : goal.enum_known-n
-enum_known-n c = search (lining, rules)
+pub returns-in-Some : goal.returns-in-Some
+returns-in-Some c = search (lining, rules)
 
-pub enum_told-1 : goal.enum_told-1
-enum_told-1 c = search (lining, rules)
-
-pub returns-in-Value : goal.returns-in-Value
-returns-in-Value c = search (lining, rules)
-
-pub returns-in-Bad : goal.returns-in-Bad
-returns-in-Bad c = search (lining, rules)
+pub returns-in-None : goal.returns-in-None
+returns-in-None c = search (lining, rules)

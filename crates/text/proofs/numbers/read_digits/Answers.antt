@@ -1,22 +1,16 @@
--- `text::numbers::read_digits` meets its contract: where each byte is a digit, their number, else none.
-use Rattle.laws.specs.Values.{valuing}
-use borrow.Author.Rules.{rules}
+use Rattle.std.proofs.Common.{rules, ◌≡◌, ◌∙◌, ◌+◌, ◌-◌, sym, ap, arith}
+use Rattle.rules.specs.Text.{is_digit, every}
+use Rattle.laws.specs.Slices.{part_cut}
+use Rattle.laws.specs.Values.{valuing, every_none}
 use Rattle.text.proofs.numbers.read_digits.Goals as goal
 
-pub overflow_sub-n : goal.overflow_sub-n
-overflow_sub-n c = search (valuing, rules)
+pub returns-then-not-is_all : goal.returns-then-not-is_all
+returns-then-not-is_all c = every_none _ (ap (every is_digit) (sym (part_cut c.args.s.now c.args.a c.args.b c.requires.a_le_b)) ∙ sym c.is_all.ensures ∙ c.if-not-is_all.true)
 
-pub overflow_cast-n : goal.overflow_cast-n
-overflow_cast-n c = search (valuing, rules)
-
-pub digits_at-requires : goal.digits_at-requires
-digits_at-requires c = search (valuing, rules)
-
-pub returns-then-digits_at-n : goal.returns-then-digits_at-n
-returns-then-digits_at-n c = search (valuing, rules)
-
-pub digits_value-requires : goal.digits_value-requires
-digits_value-requires c = search (valuing, rules)
+pub digits_value-requires-clause-n_value : goal.digits_value-requires-clause-n_value
+digits_value-requires-clause-n_value c =
+    let e : c.args.a + (c.args.b - c.args.a) ≡ c.args.b = omega arith in
+    rw (e, ← part_cut c.args.s.now c.args.a c.args.b c.requires.a_le_b) (sym c.is_all.ensures ∙ c.if-not-is_all.false)
 
 pub returns : goal.returns
 returns c = search (valuing, rules)
