@@ -5,7 +5,7 @@ use Rattle.std.proofs.Common.{sym, ap, ◌∙◌, zero-add, one-add, suc-add, ne
 use Rattle.std.proofs.Math.Dec.{eqb-suc-suc}
 use Rattle.std.proofs.lemmas.List.Sums.{prefix_len_stops}
 use Rattle.rules.specs.Text.{every}
-use Rattle.laws.specs.Parts.{cut, cut_length, cut_take, cut_get}
+use Rattle.laws.specs.Parts.{cut, cut_all, cut_length, cut_take, cut_get}
 use Rattle.laws.specs.Places.{Passed}
 use Rattle.laws.specs.Slices.{part_cut}
 
@@ -64,3 +64,7 @@ module _ (p : ℕ → Bool) where
 -- counted in the slice of a part
 pub front_passed_at : (p : ℕ → Bool) (s : List ℕ) (a n r : ℕ) → a + n ≤ length s → r ≡ prefix_len p (take (a + n - a) (drop a s)) → Passed p s a n r
 front_passed_at p s a n r h e = let q : r ≡ prefix_len p (cut s a (a + n)) = rw (part_cut s a (a + n) (omega arith)) at e in rw q (front_passed p s a n h)
+
+-- of the whole
+pub front_passed_all : (p : ℕ → Bool) (s : List ℕ) (r : ℕ) → r ≡ prefix_len p s → Passed p s 0 (length s) r
+front_passed_all p s r e = rw e (rw (zero-add, cut_all s) at (front_passed p s 0 (length s) (omega arith)))

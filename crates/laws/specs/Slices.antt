@@ -5,7 +5,7 @@ use Rattle.std.specs.Ordering.{partial_lt, nat_cmp, partial_ordering_then, is_lt
 use Rattle.std.specs.declared.cmp.Ordering.{Ordering}
 use Rattle.std.specs.declared.cmp.Ordering.TheVariants.{Less, Equal, Greater}
 use Rattle.std.specs.List.{list_all, zip}
-use Rattle.std.proofs.Common.{sym, ap, ◌∙◌, zero-add, arith, leb-true, ltb-true, eq-eqb, ne_eqb, inl, inr}
+use Rattle.std.proofs.Common.{sym, ap, ◌∙◌, zero-add, take_all, length-drop, arith, leb-true, ltb-true, eq-eqb, ne_eqb, inl, inr}
 use Rattle.std.proofs.lemmas.Bool.{cases_lt, cases_eq}
 use borrow.Author.Tests.{le-leb, lt-leb}
 use Rattle.rules.specs.Text.{equal, text_before, fits, fits_sign, every}
@@ -15,6 +15,10 @@ use Rattle.laws.specs.Parts.{cut, from, from_take}
 pub part_cut : (s : List ℕ) (a b : ℕ) → a ≤ b → take (b - a) (drop a s) ≡ cut s a b
 unfolding from
 part_cut s a b h = let e : a + (b - a) ≡ b = omega arith in rw e at (from_take s a (b - a))
+
+-- the slice from index a on
+pub rest_whole : (s : List ℕ) (a : ℕ) → take (length s - a) (drop a s) ≡ drop a s
+rest_whole s a = take_all (length s - a) (drop a s) (omega (arith, length-drop a s))
 
 -- `==`
 pub equal_is : (s t : List ℕ) → pointwise eqb s t ≡ equal s t
