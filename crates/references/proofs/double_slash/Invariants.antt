@@ -6,5 +6,3 @@ use Rattle.references.proofs.double_slash.Given as goal
 abbrev pub invariant-loop-k : goal.invariant-loop-k
 invariant-loop-k l = Doubling l.s l.a l.n l.k
 
-abbrev pub decreases-loop-k : goal.decreases-loop-k
-decreases-loop-k l = l.n - l.k
