@@ -63,7 +63,7 @@ pub fn first_line_passes(text: &[u8]) -> bool
     if text.len() < 24 {
         return false;
     }
-    if account::iban_passes(text, 0) {
+    if account::iban_passes(&text[0..22]) {
         return ends_at(text, 22);
     }
     false
@@ -74,7 +74,7 @@ pub fn account_line_stands(text: &[u8], at: usize) -> bool
     requires { at + 38 ≤ length text.now }
     ensures { result ≡ account_stands text.now at }
 {
-    if !account::iban_passes(text, at) {
+    if !account::iban_passes(&text[at..at + 22]) {
         return false;
     }
     if !bounds_at(text, at + 22) {
