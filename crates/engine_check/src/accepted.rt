@@ -39,7 +39,7 @@ fn reference_fits(area: &[u8], p: usize) -> bool
     requires { p + record_size ≤ length area.now }
     ensures { result ≡ reference_test area.now p }
 {
-    if !account::is_bic(area, p) {
+    if !account::is_bic(&area[p..p + 8]) {
         return false;
     }
     text_fits(area, p + TEXT)

@@ -38,7 +38,7 @@ fn position_fits(area: &[u8], p: usize, day: u32) -> bool
     requires { p + record_size ≤ length area.now }
     ensures { result ≡ position_test day area.now p }
 {
-    if !account::is_bic(area, p) {
+    if !account::is_bic(&area[p..p + 8]) {
         return false;
     }
     if !zeros_hold(area, p + BLOCK, p + TRANSFERRED) {

@@ -6,5 +6,5 @@ mod search;
 
 pub use check::{LONGEST, old_register_passes, register_passes};
 pub use search::{
-    Found, account_high, account_low, account_place, find_account, find_code, has_codes,
+    account_high, account_low, account_place, find_account, find_code, has_codes,
 };

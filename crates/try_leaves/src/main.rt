@@ -60,18 +60,18 @@ fn try_iban(rt: &impl Print, s: &[u8], a: usize, b: usize) -> io::Result<()>
     if b - a != 22 {
         say(rt, true, b"shape", b"")
     } else {
-        if account::iban_passes(s, a) {
+        if account::iban_passes(&s[a..b]) {
             say(
                 rt,
-                account::iban_shape(s, a),
+                account::iban_shape(&s[a..b]),
                 b"passes",
                 b"passes, and no shape",
             )
         } else {
-            if account::iban_shape(s, a) {
+            if account::iban_shape(&s[a..b]) {
                 say(
                     rt,
-                    account::iban_control(s, a),
+                    account::iban_control(&s[a..b]),
                     b"control holds, and does not pass",
                     b"control",
                 )
@@ -87,7 +87,7 @@ fn try_bic(rt: &impl Print, s: &[u8], a: usize, b: usize) -> io::Result<()>
     requires a_le_b { a ≤ b }
     requires b_in_bounds { b ≤ length s.now }
 {
-    say(rt, b - a == 8 && account::is_bic(s, a), b"bic", b"none")
+    say(rt, account::is_bic(&s[a..b]), b"bic", b"none")
 }
 
 // The text from a up to b, by its kind.

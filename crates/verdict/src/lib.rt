@@ -11,7 +11,6 @@ ghost use Rattle.laws.specs.Parts.{cut};
 ghost use Rattle.verdict.specs.Answers.{verdict_of};
 
 pub use detail::{Judged, judge_line, judged_at, verdict_by};
-use register::Found;
 
 // Why a detail is returned: the first cause that holds.
 #[derive(Clone, Copy)]
@@ -45,12 +44,12 @@ fn is_shaped(s: &[u8], a: usize, b: usize) -> bool
 {
     let n = b - a;
     if n == 22 {
-        return account::iban_shape(s, a);
+        return account::iban_shape(&s[a..a + 22]);
     }
     if n != 31 {
         return false;
     }
-    if account::iban_shape(s, a) {
+    if account::iban_shape(&s[a..a + 22]) {
         return text::fits_pattern(b"PAYnnnnnn", s, a + 22);
     }
     false
@@ -85,17 +84,17 @@ pub fn judge(text: &[u8], s: &[u8], a: usize, b: usize) -> Verdict
     if !is_shaped(s, a, b) {
         return Verdict::Returned(Cause::WrongShape);
     }
-    if !account::iban_control(s, a) {
+    if !account::iban_control(&s[a..a + 22]) {
         return Verdict::Returned(Cause::WrongControl);
     }
-    match register::find_account(text, s, a) {
-        Found::At(i) => {
+    match register::find_account(text, &s[a..a + 22]) {
+        Some(i) => {
             if is_in_bounds(text, i, s, a, b) {
                 return Verdict::Credited(i);
             }
             Verdict::Returned(Cause::OutOfBounds)
         }
-        Found::Nothing => Verdict::Returned(Cause::NotInRegister),
+        None => Verdict::Returned(Cause::NotInRegister),
     }
 }
 
@@ -107,9 +106,9 @@ pub fn by_code(text: &[u8], s: &[u8], v: Verdict, a: usize, b: usize) -> Verdict
     ensures { verdict_of result ≡ by_code (register_of text.now) (cut s.now a b) (verdict_of v) }
 {
     match v {
-        Verdict::Returned(c) => match register::find_code(text, s, a, b) {
-            Found::At(i) => Verdict::CreditedByCode(i, c),
-            Found::Nothing => v,
+        Verdict::Returned(c) => match register::find_code(text, &s[a..b]) {
+            Some(i) => Verdict::CreditedByCode(i, c),
+            None => v,
         },
         Verdict::Credited(_) => v,
         Verdict::CreditedByCode(_, _) => v,
