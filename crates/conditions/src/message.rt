@@ -31,16 +31,15 @@ fn check_transfer(s: &[u8], temporary: &[u8]) -> Checked
     requires s_len_bound { length s.now ≤ 4096 }
     ensures { TransferChecked temporary.now s.now result }
 {
-    let t = read_transfer(s);
-    if t.ok {
-        let k = transfer_stop(s, temporary, t);
-        if k == 0 {
-            let reference = behind(t.spans[MESSAGE_20], 4);
-            return Checked::Passed(booking_of(s, true, reference, t.date, t.amount, 0));
-        }
-        return Checked::Refused(k);
+    let Some(t) = read_transfer(s) else {
+        return Checked::Refused(3);
+    };
+    let k = transfer_stop(s, temporary, t);
+    if k == 0 {
+        let reference = behind(t.spans[MESSAGE_20], 4);
+        return Checked::Passed(booking_of(s, true, reference, t.date, t.amount, 0));
     }
-    Checked::Refused(3)
+    Checked::Refused(k)
 }
 
 // 3 to 8 of an MT101, its details judged by the register's text.
@@ -56,20 +55,19 @@ fn check_order(
     requires judging_room { JudgingRoom text.now amounts.old places.old verdicts.old }
     ensures { CheckedBy s.now text.now (read_order s.now) result amounts.new places.new verdicts.new }
 {
-    let rows = read_rows(s, 23, 0, 1);
-    if rows.ok {
-        let line = rows.spans[MESSAGE_20];
-        let mut fields = [0u16; 32];
-        let t = tally_details(s, rows.next, text, amounts, places, verdicts, &mut fields);
-        if t.ok {
-            let k = order_stop(s, line, &fields, t);
-            if k == 0 {
-                let reference = behind(line, 4);
-                return Checked::Passed(booking_of(s, false, reference, t.date, t.sum, t.count));
-            }
-            return Checked::Refused(k);
-        }
+    let Some(rows) = read_rows(s, 23, 0, 1) else {
         return Checked::Refused(3);
+    };
+    let line = rows.spans[MESSAGE_20];
+    let mut fields = [0u16; 32];
+    let t = tally_details(s, rows.next, text, amounts, places, verdicts, &mut fields);
+    if t.ok {
+        let k = order_stop(s, line, &fields, t);
+        if k == 0 {
+            let reference = behind(line, 4);
+            return Checked::Passed(booking_of(s, false, reference, t.date, t.sum, t.count));
+        }
+        return Checked::Refused(k);
     }
     Checked::Refused(3)
 }

@@ -117,16 +117,14 @@ pub fn tally_details(
     let mut t = none;
     let mut pos = at;
     while t.count < 4096 {
-        let d = read_detail(s, pos);
-        if d.ok {
-            keep_first(s, text, amounts, places, verdicts, fields, t.count, d);
-            t = after(s, t, d);
-            pos = d.next;
-            if closes_at(s, pos) {
-                return t;
-            }
-        } else {
+        let Some(d) = read_detail(s, pos) else {
             return none;
+        };
+        keep_first(s, text, amounts, places, verdicts, fields, t.count, d);
+        t = after(s, t, d);
+        pos = d.next;
+        if closes_at(s, pos) {
+            return t;
         }
     }
     none
