@@ -59,13 +59,13 @@ field_20 s l n q h w b = rw (span_line s l n message20 h) (behind_bytes s _ 4 w 
 pub record TransferChecked (temporary s : List ℕ) (r : Checked) : Type 0 where
   pub with : (text amounts places verdicts : List ℕ) → temporary ≡ temporary_in text → CheckedBy s text (read_transfer s) r amounts places verdicts
 
-module _ (s temporary : List ℕ) (t : T.Transfer) (w : TransferIn s t) where
-  pub transfer_formless : t.ok ≡ false → TransferChecked temporary s (Refused 3)
-  transfer_formless h = record { with = λ text amounts places verdicts v. formless s text (read_transfer s) (answer_not _ _ _ w.same h) }
+pub transfer_formless : (s temporary : List ℕ) → read_transfer s ≡ none → TransferChecked temporary s (Refused 3)
+transfer_formless s temporary h = record { with = λ text amounts places verdicts v. formless s text (read_transfer s) h }
 
-  module _ (h : t.ok ≡ true) where
+module _ (s temporary : List ℕ) (t : T.Transfer) (w : TransferIn s t) where
+  module _ where
     transfer_read : read_transfer s ≡ some (mt103 (transfer_in s t))
-    transfer_read = answer_is _ _ _ w.same h
+    transfer_read = w.same
 
     transfer_its : Has s (mt103 (transfer_in s t))
     transfer_its = transfer_has s _ transfer_read
@@ -110,21 +110,22 @@ all_stops : (temporary bank : List ℕ) (rows : List Line) (ds : List M.Detail) 
     → order_stop n b low t ≡ first_of (form_stops temporary (some (mt101 record { sender = bank; rows = rows; details = ds })))
 all_stops temporary bank rows ds n low b t e f g h = rw (e, f, g) (order_many (length ds) (slashed (field20 rows)) (lowest_any bank (first_date ds) ds) t (twice alike ds) h ∙ order_stops temporary bank rows ds)
 
+pub order_rowless : (s text : List ℕ) {amounts places verdicts : List ℕ} → take_rows (part 0 1) (from s 23) ≡ none → CheckedBy s text (read_order s) (Refused 3) amounts places verdicts
+unfolding read_order
+order_rowless s text h = let e : take_rows order_rows (body s) ≡ none = rw (order_rows_lem, body_from) at h in formless s text (read_order s) (rw e)
+
 module _ (s text : List ℕ) (rows : Rows) (w : RowsAt s 23 0 1 rows) where
-  pub order_rowless : {amounts places verdicts : List ℕ} → rows.ok ≡ false → CheckedBy s text (read_order s) (Refused 3) amounts places verdicts
-  unfolding read_order
-  order_rowless h = let e : none ≡ take_rows order_rows (body s) = rw (h, order_rows_lem, body_from) at w.same in formless s text (read_order s) (rw (← e))
 
   -- the message of some details
   abbrev order : List M.Detail → M.Order
   order ds = record { sender = sender s; rows = lines_at s rows.spans 1; details = ds }
 
-  module _ (h : rows.ok ≡ true) (t : Tally) {amounts places verdicts fields : List ℕ} (v : TallyAt s text rows.next t amounts places verdicts fields) where
+  module _ (t : Tally) {amounts places verdicts fields : List ℕ} (v : TallyAt s text rows.next t amounts places verdicts fields) where
     order_read : read_order s ≡ then (M.details 4096 (from s rows.next)) (λ ds. some (mt101 (order ds)))
     unfolding read_order
     order_read =
-        let e : some record { rows = lines_at s rows.spans 1; others = from s rows.next } ≡ take_rows order_rows (body s) = rw (h, order_rows_lem, body_from) at w.same in
-        rw (← e)
+        let e : take_rows order_rows (body s) ≡ some record { rows = lines_at s rows.spans 1; others = from s rows.next } = rw (order_rows_lem, body_from) at w.same in
+        rw e
 
     pub order_formless : t.ok ≡ false → CheckedBy s text (read_order s) (Refused 3) amounts places verdicts
     order_formless k = formless s text (read_order s) (order_read ∙ (rw (v.none_there k)))
