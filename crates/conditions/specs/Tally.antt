@@ -1,5 +1,5 @@
 -- The details of an MT101 read, judged, kept and summed one by one, and what is then told of all of them.
-use Rattle.std.specs.Prelude.{◌≡◌, refl, Bool, true, false, cond, List, [], ◌∷◌, ◌++◌, eqb, length, get_or, take, set}
+use Rattle.std.specs.Prelude.{◌≡◌, refl, Bool, true, false, cond, List, [], ◌∷◌, ◌++◌, eqb, length, get_or, take, set, Result, Ok, Err}
 use Rattle.std.proofs.Math.Path.{sym}
 use Rattle.std.proofs.Common.{ap, ◌∙◌, append_assoc, eq-eqb, ne_eqb}
 use Rattle.std.proofs.Math.Option.{Option, none, some, map}
@@ -21,10 +21,52 @@ use Rattle.forms.specs.declared.detail.Detail.{Detail}
 use Rattle.details.specs.Lines.{with_line, line_length}
 use Rattle.details.specs.Kept.{Keeps, OfFirst, first_none, first_full, first_more, more_length}
 use Rattle.verdict.specs.Details.{JudgingRoom, VerdictOn, JudgedAt, judged_room, judged_own, judged_other}
-use Rattle.field_conditions.specs.Stops.{lowest, detail_stop, detail_lowest, no_stop}
+use Rattle.field_conditions.specs.Stops.{lowest, detail_stop, detail_lowest, no_stop, low_of}
+use Rattle.refusal.specs.Numbers.{number_of}
+use Rattle.refusal.specs.declared.Refusal.{Refusal}
+use Rattle.refusal.specs.declared.Refusal.TheVariants.{NotFramed, NotAddressed, NotInForm, TooManyDetails, BadReference, BadAmount, BadAccount, ManyDates, BadRegister, NoEngine, Misdated, AlreadyAccepted, TooManyMessages, TooManyPositions, OverLimit, OutputTooShort, NotBankingDay, BadHolidays, HasCodes}
 use Rattle.conditions.specs.Lowest.{lowest_any, any_none, any_last}
 use Rattle.conditions.specs.Walk.{FieldAt, FieldsIn, field_own, field_other}
 use Rattle.conditions.specs.declared.tally.Tally.{Tally}
+
+-- ---- the lower of two refusals
+
+number_low : (r : Refusal) → number_of r < no_stop
+number_low NotFramed = omega arith
+number_low NotAddressed = omega arith
+number_low NotInForm = omega arith
+number_low TooManyDetails = omega arith
+number_low BadReference = omega arith
+number_low BadAmount = omega arith
+number_low BadAccount = omega arith
+number_low ManyDates = omega arith
+number_low BadRegister = omega arith
+number_low NoEngine = omega arith
+number_low Misdated = omega arith
+number_low AlreadyAccepted = omega arith
+number_low TooManyMessages = omega arith
+number_low TooManyPositions = omega arith
+number_low OverLimit = omega arith
+number_low OutputTooShort = omega arith
+number_low NotBankingDay = omega arith
+number_low BadHolidays = omega arith
+number_low HasCodes = omega arith
+
+pub lower_first : (a b : Result Unit Refusal) (x y : Refusal) → a ≡ Err x → b ≡ Err y → number_of x < number_of y → low_of a ≡ min (low_of a) (low_of b)
+lower_first a b x y e f h = rw (e, f) (omega arith)
+
+pub lower_second : (a b : Result Unit Refusal) (x y : Refusal) → a ≡ Err x → b ≡ Err y → number_of y ≤ number_of x → low_of b ≡ min (low_of a) (low_of b)
+lower_second a b x y e f h = rw (e, f) (omega arith)
+
+low_most : (a : Result Unit Refusal) → low_of a ≤ no_stop
+low_most (Ok v) = omega arith
+low_most (Err r) = omega (arith, number_low r)
+
+pub lower_none : (a b : Result Unit Refusal) → low_of a ≡ no_stop → low_of b ≡ min (low_of a) (low_of b)
+lower_none a b e = omega (arith, low_most b)
+
+pub lower_one : (a b : Result Unit Refusal) → low_of b ≡ no_stop → low_of a ≡ min (low_of a) (low_of b)
+lower_one a b e = omega (arith, low_most a)
 
 -- ---- one more detail, n being before it
 
@@ -46,7 +88,7 @@ pub record After (s : List ℕ) (t : Tally) (d : Detail) (r : Tally) : Type 0 wh
   pub count : r.count ≡ t.count + 1
   pub sum : r.sum ≡ t.sum + d.amount
   pub date : r.date ≡ day_of t.count t.date d.date
-  pub low : r.low ≡ min t.low (detail_stop s r.date d)
+  pub low : low_of r.low ≡ min (low_of t.low) (detail_stop s r.date d)
 
 -- detail n, where it is one of the first 16, is d now, judged by its field 59 and its code, and its field 21 found; else all stays
 pub data KeepsFirst (s text : List ℕ) (n : ℕ) (d : Detail) (amounts places verdicts fields : List ℕ) : List ℕ → List ℕ → List ℕ → List ℕ → Type 0 where
@@ -69,7 +111,7 @@ pub record TallyTold (s text : List ℕ) (ds : List M.Detail) (t : Tally) (amoun
   pub sum : t.sum ≡ sum_of_amounts ds
   pub bound : t.sum ≤ t.count * 10 ^ 16
   pub date : t.date ≡ first_date ds
-  pub low : t.low ≡ lowest_any (sender s) (first_date ds) ds
+  pub low : low_of t.low ≡ lowest_any (sender s) (first_date ds) ds
   pub first : FirstKept s text ds amounts places verdicts fields
 
 -- ---- one detail more is told
@@ -100,7 +142,7 @@ first_told s text ds d w {fields = fields} o (keeps {q = q} h k j b e) = record 
   named = rw e (first_more ds o.named (detail_in s d) (field_other s fields q) (field_own s fields q o.size h d w b));
 }
 
-pub told_none : (s text : List ℕ) {t : Tally} {amounts places verdicts fields : List ℕ} → t.count ≡ 0 → t.sum ≡ 0 → t.date ≡ 0 → t.low ≡ no_stop → JudgingRoom text amounts places verdicts → length fields ≡ 32 → TallyTold s text [] t amounts places verdicts fields
+pub told_none : (s text : List ℕ) {t : Tally} {amounts places verdicts fields : List ℕ} → t.count ≡ 0 → t.sum ≡ 0 → t.date ≡ 0 → low_of t.low ≡ no_stop → JudgingRoom text amounts places verdicts → length fields ≡ 32 → TallyTold s text [] t amounts places verdicts fields
 unfolding sum_of_amounts first_date
 told_none s text a b c d e f = record { count = a; sum = b; bound = omega (arith, b); date = c; low = rw (any_none) d; first = record { room = e; size = f; judged = first_none; named = first_none } }
 
@@ -151,7 +193,7 @@ map_one xs x (some ds) = ap (λ (l : List _). some l) (sym (append_assoc xs (x �
 done_first : {A : Type 0} (done : List A) (o : Option (List A)) (n : ℕ) (ds : List A) → n ≡ length done → map (λ es. done ++ es) o ≡ some ds → take n ds ≡ done
 done_first done o n ds e h = let m : Mapped (λ es. done ++ es) o ds = mapped _ _ h in rw (← m.gives, e) (take-append_seam done m.value)
 
-pub walk_start : (s text : List ℕ) (at : ℕ) {t : Tally} {amounts places verdicts fields : List ℕ} → t.count ≡ 0 → t.sum ≡ 0 → t.date ≡ 0 → t.low ≡ no_stop → JudgingRoom text amounts places verdicts → length fields ≡ 32
+pub walk_start : (s text : List ℕ) (at : ℕ) {t : Tally} {amounts places verdicts fields : List ℕ} → t.count ≡ 0 → t.sum ≡ 0 → t.date ≡ 0 → low_of t.low ≡ no_stop → JudgingRoom text amounts places verdicts → length fields ≡ 32
     → Walking s text at at t amounts places verdicts fields
 unfolding sum_of_amounts
 walk_start s text at a b c d e f = record {

@@ -64,9 +64,9 @@ transfer_stops s temporary t =
 
 -- ---- a detail
 
--- above the conditions of a detail: none of them holds
+-- above all conditions of refusal: none holds
 abbrev pub no_stop : ℕ
-no_stop = 9
+no_stop = 20
 
 -- the number of what refuses a detail, and `no_stop` where nothing does
 abbrev pub low_of : {A : Type 0} → Result A Refusal → ℕ

@@ -1,19 +1,24 @@
 -- Each way out is a law of the check.
+use Rattle.std.proofs.Common.{refl}
+use Rattle.std.proofs.lemmas.Bool.{not-true, not-false}
+use Rattle.std.proofs.lemmas.Result.{err_from_is_err_and}
 use Rattle.conditions.specs.Checks.{order_rowless, order_formless, order_date, order_stopped, order_good}
 use Rattle.conditions.proofs.message.check_order.Goals as goal
 
 pub returns-in_default : goal.returns-in_default
 returns-in_default c = order_rowless _ _ (c.in_default.ensures {u = tt})
 
+pub returns-then-not-t : goal.returns-then-not-t
+returns-then-not-t c = order_formless _ _ _ (c.in-Some.ensures {u = tt}) _ c.tally_details-t.ensures (not-true _ c.if-not-t.true)
+
+pub returns-in_err-order_stop : goal.returns-in_err-order_stop
+returns-in_err-order_stop c =
+    let p = err_from_is_err_and c.from_residual.result c.from_residual.ensures.1 in
+    rw (p.1, p.2) (order_stopped _ _ _ (c.in-Some.ensures {u = tt}) _ c.tally_details-t.ensures (not-false _ c.if-not-t.false) _ (c.in_err-order_stop.ensures {u = tt}) _ refl)
+
 pub booking_of-requires-clause-date_bound : goal.booking_of-requires-clause-date_bound
-booking_of-requires-clause-date_bound c = order_date _ _ _ (c.in-Some.ensures {u = tt}) _ c.tally_details-t.ensures c.if-t.true
-
-pub returns-then-k-eq0 : goal.returns-then-k-eq0
-returns-then-k-eq0 c = order_good _ _ _ (c.in-Some.ensures {u = tt}) _ c.tally_details-t.ensures c.if-t.true _ c.order_stop-k.ensures c.if-k-eq0.true _
-    c.behind-reference.ensures _ c.booking_of.ensures
-
-pub returns-then-t : goal.returns-then-t
-returns-then-t c = order_stopped _ _ _ (c.in-Some.ensures {u = tt}) _ c.tally_details-t.ensures c.if-t.true _ c.order_stop-k.ensures c.if-k-eq0.false
+booking_of-requires-clause-date_bound c = order_date _ _ _ (c.in-Some.ensures {u = tt}) _ c.tally_details-t.ensures (not-false _ c.if-not-t.false)
 
 pub returns : goal.returns
-returns c = order_formless _ _ _ (c.in-Some.ensures {u = tt}) _ c.tally_details-t.ensures c.if-t.false
+returns c = order_good _ _ _ (c.in-Some.ensures {u = tt}) _ c.tally_details-t.ensures (not-false _ c.if-not-t.false) _ (c.in_ok-order_stop.ensures {u = tt}) refl _
+    c.behind-reference.ensures _ c.booking_of.ensures
