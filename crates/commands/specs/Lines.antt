@@ -1,5 +1,5 @@
 -- Command lines: one law for each way out of the functions that read them.
-use Rattle.std.specs.Prelude.{◌≡◌, Bool, ℕ, ◌+◌, ◌-◌, ◌≤◌, ◌<◌, leb, eqb, length, get_or, drop}
+use Rattle.std.specs.Prelude.{◌≡◌, Bool, ℕ, ◌+◌, ◌-◌, ◌≤◌, ◌<◌, leb, eqb, length, get_or, drop, Option, Some, None}
 use Rattle.std.proofs.Math.Path.{refl, sym, ap}
 use Rattle.std.proofs.Common.{◌∙◌}
 use Rattle.std.proofs.Math.Bool.{true, false, cond}
@@ -13,8 +13,6 @@ use Rattle.rules.specs.Replay.{length_of, parted_lengths, six_digits, texts_in, 
 use Rattle.laws.specs.Parts.{cut, from, cut_step, cut_length, cut_take, cut_drop, from_take, from_drop, from_length}
 use Rattle.laws.specs.Tests.{never}
 use Rattle.lines.specs.Answers.{LineAt, line_told, no_line_told}
-use Rattle.lines.specs.declared.line.Next.{Next}
-use Rattle.lines.specs.declared.line.Next.TheVariants.{Line, Bad as NoNext}
 use Rattle.laws.specs.Told.{told}
 use Rattle.std.specs.Prelude as P
 use Rattle.std.specs.Prelude.{Some, None}
@@ -201,18 +199,18 @@ module _ (s : List ℕ) (at e : ℕ) (q : Letter) (w : q ≡ letter_in (cut s at
 
 -- ---- by its line
 
-module _ (s : List ℕ) (at : ℕ) (l : Next) (h : LineAt s at l) where
-  pub line_start : (e : ℕ) → l ≡ Line e → at ≤ e
+module _ (s : List ℕ) (at : ℕ) (l : Option ℕ) (h : LineAt s at l) where
+  pub line_start : (e : ℕ) → l ≡ Some e → at ≤ e
   line_start e k = (line_told s at l h e k).start
 
-  pub line_room : (e : ℕ) → l ≡ Line e → e + 2 ≤ length s
+  pub line_room : (e : ℕ) → l ≡ Some e → e + 2 ≤ length s
   line_room e k = (line_told s at l h e k).room
 
-  pub command_line : (e : ℕ) → l ≡ Line e → {r : Command} → Commanding s (command_of (cut s at e) (from s (e + 2))) r → Commanding s (command (from s at)) r
+  pub command_line : (e : ℕ) → l ≡ Some e → {r : Command} → Commanding s (command_of (cut s at e) (from s (e + 2))) r → Commanding s (command (from s at)) r
   unfolding command
   command_line e k c = record { same = rw (line_told s at l h e k).same c.same; places = c.places }
 
-  pub command_none : l ≡ NoNext → Commanding s (command (from s at)) End
+  pub command_none : l ≡ None → Commanding s (command (from s at)) End
   unfolding command commanded_of Placed
   command_none k = record { same = rw (no_line_told s at l h k).same refl; places = tt }
 

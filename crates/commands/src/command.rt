@@ -6,7 +6,7 @@ ghost use Rattle.commands.specs.Answers.{Commanding, text_line, turn_line, open_
 
 use crate::letter::{Handed, Letter, begins, letter_at};
 use crate::number::{Lengths, read_length, six_digits, two_lengths};
-use lines::Next;
+use lines::next_line;
 
 // A command, by its places in the input.
 #[derive(Clone, Copy)]
@@ -94,8 +94,8 @@ pub fn read_command(s: &[u8], at: usize) -> Command
     requires { at ≤ length s.now }
     ensures { Commanding s.now (command (from s.now at)) result }
 {
-    match lines::next_line(s, at) {
-        Next::Line(e) => line_command(s, at, e),
-        Next::Bad => Command::End,
+    match next_line(s, at) {
+        Some(e) => line_command(s, at, e),
+        None => Command::End,
     }
 }

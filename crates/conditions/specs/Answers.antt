@@ -1,5 +1,5 @@
 -- What the answer of the check says: document 01's number for each case, and what booking a message that passed needs.
-use Rattle.std.specs.Prelude.{◌≡◌, List, ℕ, ◌≤◌, ◌<◌, length}
+use Rattle.std.specs.Prelude.{◌≡◌, List, ℕ, ◌≤◌, ◌<◌, length, Result, Ok, Err}
 use Rattle.std.proofs.Common.{sym, ap, ◌∙◌, subst}
 use Rattle.std.proofs.Math.Option.{Option, some}
 use Rattle.rules.specs.Messages.{Message, read, details_of}
@@ -9,13 +9,12 @@ use Rattle.details.specs.Message.{or_none, message_in, detail_at}
 use Rattle.verdict.specs.Details.{JudgedAt, JudgedIn}
 use Rattle.conditions.specs.Books.{Books}
 use Rattle.conditions.specs.declared.booking.Booking.{Booking}
-use Rattle.conditions.specs.declared.message.Checked.{Checked}
-use Rattle.conditions.specs.declared.message.Checked.TheVariants.{Refused, Passed}
+use Rattle.refusal.specs.Numbers.{number_of, stop_of}
+use Rattle.refusal.specs.declared.Refusal.{Refusal}
 
--- the number that an answer stands for: a refusal's own, 0 where none of 1 to 8 holds
-abbrev pub number_of : Checked → ℕ
-number_of (Refused k) = k
-number_of (Passed b) = 0
+-- an answer of the check: one of 1 to 8 holds, or what booking the message needs
+abbrev pub Checked : Type 0
+Checked = Result Booking Refusal
 
 -- b books what was read, and its details are kept, judged by a register's text
 pub record Reads (s text : List ℕ) (o : Option Message) (b : Booking) (amounts places verdicts : List ℕ) : Type 0 where
@@ -27,8 +26,8 @@ pub record Reads (s text : List ℕ) (o : Option Message) (b : Booking) (amounts
   pub each : (i : ℕ) → i < b.count → JudgedAt text s amounts places verdicts (detail_at (details_of message) i) i
 
 abbrev pub Parts : List ℕ → List ℕ → Option Message → List ℕ → List ℕ → List ℕ → Checked → Type 0
-Parts s text o amounts places verdicts (Refused k) = 0 < k
-Parts s text o amounts places verdicts (Passed b) = Reads s text o b amounts places verdicts
+Parts s text o amounts places verdicts (Err r) = 0 < number_of r
+Parts s text o amounts places verdicts (Ok b) = Reads s text o b amounts places verdicts
 
 -- the temporary account of a register's text
 abbrev pub temporary_in : List ℕ → List ℕ
@@ -36,12 +35,12 @@ temporary_in text = (register_of text).temporary
 
 -- r answers 3 to 8 of what was read, and has its parts
 pub record CheckedBy (s text : List ℕ) (o : Option Message) (r : Checked) (amounts places verdicts : List ℕ) : Type 0 where
-  pub number : number_of r ≡ first_of (form_stops (temporary_in text) o)
+  pub number : stop_of r ≡ first_of (form_stops (temporary_in text) o)
   pub parts : Parts s text o amounts places verdicts r
 
 -- r answers 1 to 8 of the message's bytes, and has its parts
 pub record CheckedAs (s text : List ℕ) (r : Checked) (amounts places verdicts : List ℕ) : Type 0 where
-  pub number : number_of r ≡ first_of (input_stops (temporary_in text) s)
+  pub number : stop_of r ≡ first_of (input_stops (temporary_in text) s)
   pub parts : Parts s text (read s) amounts places verdicts r
 
 -- ---- by the case that a match found
@@ -71,11 +70,11 @@ reads_told s text b amounts places verdicts z p =
     }
 
 module _ (s text : List ℕ) (r : Checked) (amounts places verdicts : List ℕ) (h : CheckedAs s text r amounts places verdicts) where
-  pub refused_told : (k : ℕ) → r ≡ Refused k → k ≡ first_of (input_stops (temporary_in text) s)
-  refused_told k e = sym (ap number_of e) ∙ h.number
+  pub refused_told : (k : Refusal) → r ≡ Err k → number_of k ≡ first_of (input_stops (temporary_in text) s)
+  refused_told k e = sym (ap (λ (x : Checked). stop_of x) e) ∙ h.number
 
-  pub refused_some : (k : ℕ) → r ≡ Refused k → 0 < k
+  pub refused_some : (k : Refusal) → r ≡ Err k → 0 < number_of k
   refused_some k e = subst (Parts s text (read s) amounts places verdicts) e h.parts
 
-  pub passed_told : (b : Booking) → r ≡ Passed b → Passes s text b amounts places verdicts
-  passed_told b e = reads_told s text b amounts places verdicts (sym h.number ∙ ap number_of e) (subst (Parts s text (read s) amounts places verdicts) e h.parts)
+  pub passed_told : (b : Booking) → r ≡ Ok b → Passes s text b amounts places verdicts
+  passed_told b e = reads_told s text b amounts places verdicts (sym h.number ∙ ap (λ (x : Checked). stop_of x) e) (subst (Parts s text (read s) amounts places verdicts) e h.parts)

@@ -1,5 +1,5 @@
 -- The check of a message, one law for each way that the code goes.
-use Rattle.std.specs.Prelude.{◌≡◌, refl, Bool, true, false, ◌&&◌, List, ℕ, ◌-◌, ◌≤◌, ◌<◌, leb, get_or, take, drop}
+use Rattle.std.specs.Prelude.{◌≡◌, refl, Bool, true, false, ◌&&◌, List, ℕ, ◌-◌, ◌≤◌, ◌<◌, leb, get_or, take, drop, Result, Ok, Err}
 use Rattle.std.proofs.Math.Path.{sym}
 use Rattle.std.proofs.Common.{ap, ◌∙◌, subst}
 use Rattle.std.proofs.Math.Bool.{and-true, and-false}
@@ -29,24 +29,25 @@ use Rattle.forms.specs.declared.transfer.Transfer as T
 use Rattle.rule_laws.specs.Lines.{body_from}
 use Rattle.register.specs.Passed.{text_first, temporary_at_lem}
 use Rattle.verdict.specs.Details.{JudgingRoom}
-use Rattle.field_conditions.specs.Stops.{transfer_stop, transfer_stops}
+use Rattle.field_conditions.specs.Stops.{transfer_stop, transfer_stops, low_of}
 use Rattle.conditions.specs.Walk.{FieldsIn, fields_from, alike, named_twice}
 use Rattle.conditions.specs.Lowest.{lowest_any}
 use Rattle.conditions.specs.Tally.{TallyTold, DetailsTallied, TallyAt, told_fields}
 use Rattle.conditions.specs.Order.{order_stop, order_stops, order_many, order_few}
 use Rattle.conditions.specs.Books.{date_six, transfer_books, order_books, booking_of}
-use Rattle.conditions.specs.Answers.{Parts, temporary_in, CheckedBy, CheckedAs}
+use Rattle.conditions.specs.Answers.{Checked, Parts, temporary_in, CheckedBy, CheckedAs}
 use Rattle.conditions.specs.declared.booking.Booking.{Booking}
 use Rattle.conditions.specs.declared.tally.Tally.{Tally}
-use Rattle.conditions.specs.declared.message.Checked.{Checked}
-use Rattle.conditions.specs.declared.message.Checked.TheVariants.{Refused, Passed}
+use Rattle.refusal.specs.Numbers.{number_of, number_some}
+use Rattle.refusal.specs.declared.Refusal.{Refusal}
+use Rattle.refusal.specs.declared.Refusal.TheVariants.{NotFramed, NotAddressed, NotInForm}
 
 -- nothing was read: 3
 unread : (temporary : List ℕ) → first_of (form_stops temporary none) ≡ 3
 unfolding form_stops first_of
 unread temporary = refl
 
-formless : (s text : List ℕ) (o : Option Message) {amounts places verdicts : List ℕ} → o ≡ none → CheckedBy s text o (Refused 3) amounts places verdicts
+formless : (s text : List ℕ) (o : Option Message) {amounts places verdicts : List ℕ} → o ≡ none → CheckedBy s text o (Err NotInForm) amounts places verdicts
 formless s text o e = record { number = rw e (sym (unread (temporary_in text))); parts = omega arith }
 
 -- field 20, behind its line's first four bytes
@@ -59,13 +60,13 @@ field_20 s l n q h w b = rw (span_line s l n message20 h) (behind_bytes s _ 4 w 
 pub record TransferChecked (temporary s : List ℕ) (r : Checked) : Type 0 where
   pub with : (text amounts places verdicts : List ℕ) → temporary ≡ temporary_in text → CheckedBy s text (read_transfer s) r amounts places verdicts
 
-module _ (s temporary : List ℕ) (t : T.Transfer) (w : TransferIn s t) where
-  pub transfer_formless : t.ok ≡ false → TransferChecked temporary s (Refused 3)
-  transfer_formless h = record { with = λ text amounts places verdicts v. formless s text (read_transfer s) (answer_not _ _ _ w.same h) }
+pub transfer_formless : (s temporary : List ℕ) → read_transfer s ≡ none → TransferChecked temporary s (Err NotInForm)
+transfer_formless s temporary h = record { with = λ text amounts places verdicts v. formless s text (read_transfer s) h }
 
-  module _ (h : t.ok ≡ true) where
+module _ (s temporary : List ℕ) (t : T.Transfer) (w : TransferIn s t) where
+  module _ where
     transfer_read : read_transfer s ≡ some (mt103 (transfer_in s t))
-    transfer_read = answer_is _ _ _ w.same h
+    transfer_read = w.same
 
     transfer_its : Has s (mt103 (transfer_in s t))
     transfer_its = transfer_has s _ transfer_read
@@ -78,11 +79,11 @@ module _ (s temporary : List ℕ) (t : T.Transfer) (w : TransferIn s t) where
       transfer_number : (text : List ℕ) → temporary ≡ temporary_in text → k ≡ first_of (form_stops (temporary_in text) (read_transfer s))
       transfer_number text v = rw transfer_read (u ∙ transfer_stops s temporary t ∙ ap (λ (x : List ℕ). first_of (form_stops x (some (mt103 (transfer_in s t))))) v)
 
-      pub transfer_stopped : (k ≡ 0 → ⊥) → TransferChecked temporary s (Refused k)
-      transfer_stopped z = record { with = λ text amounts places verdicts v. record { number = transfer_number text v; parts = omega arith } }
+      pub transfer_stopped : (r : Refusal) → number_of r ≡ k → TransferChecked temporary s (Err r)
+      transfer_stopped r e = record { with = λ text amounts places verdicts v. record { number = e ∙ transfer_number text v; parts = number_some r } }
 
       pub transfer_good : k ≡ 0 → (q : Span) → Behind (get_or t.spans message20 no_span) 4 q → (b : Booking)
-          → b ≡ booking_of s true q t.date t.amount 0 → TransferChecked temporary s (Passed b)
+          → b ≡ booking_of s true q t.date t.amount 0 → TransferChecked temporary s (Ok b)
       unfolding reference_of details_of
       transfer_good z q d b e =
           let f : SpanIn s (get_or t.spans message20 no_span) = within_at s t.spans message20 w.within in record {
@@ -110,23 +111,24 @@ all_stops : (temporary bank : List ℕ) (rows : List Line) (ds : List M.Detail) 
     → order_stop n b low t ≡ first_of (form_stops temporary (some (mt101 record { sender = bank; rows = rows; details = ds })))
 all_stops temporary bank rows ds n low b t e f g h = rw (e, f, g) (order_many (length ds) (slashed (field20 rows)) (lowest_any bank (first_date ds) ds) t (twice alike ds) h ∙ order_stops temporary bank rows ds)
 
+pub order_rowless : (s text : List ℕ) {amounts places verdicts : List ℕ} → take_rows (part 0 1) (from s 23) ≡ none → CheckedBy s text (read_order s) (Err NotInForm) amounts places verdicts
+unfolding read_order
+order_rowless s text h = let e : take_rows order_rows (body s) ≡ none = rw (order_rows_lem, body_from) at h in formless s text (read_order s) (rw e)
+
 module _ (s text : List ℕ) (rows : Rows) (w : RowsAt s 23 0 1 rows) where
-  pub order_rowless : {amounts places verdicts : List ℕ} → rows.ok ≡ false → CheckedBy s text (read_order s) (Refused 3) amounts places verdicts
-  unfolding read_order
-  order_rowless h = let e : none ≡ take_rows order_rows (body s) = rw (h, order_rows_lem, body_from) at w.same in formless s text (read_order s) (rw (← e))
 
   -- the message of some details
   abbrev order : List M.Detail → M.Order
   order ds = record { sender = sender s; rows = lines_at s rows.spans 1; details = ds }
 
-  module _ (h : rows.ok ≡ true) (t : Tally) {amounts places verdicts fields : List ℕ} (v : TallyAt s text rows.next t amounts places verdicts fields) where
+  module _ (t : Tally) {amounts places verdicts fields : List ℕ} (v : TallyAt s text rows.next t amounts places verdicts fields) where
     order_read : read_order s ≡ then (M.details 4096 (from s rows.next)) (λ ds. some (mt101 (order ds)))
     unfolding read_order
     order_read =
-        let e : some record { rows = lines_at s rows.spans 1; others = from s rows.next } ≡ take_rows order_rows (body s) = rw (h, order_rows_lem, body_from) at w.same in
-        rw (← e)
+        let e : take_rows order_rows (body s) ≡ some record { rows = lines_at s rows.spans 1; others = from s rows.next } = rw (order_rows_lem, body_from) at w.same in
+        rw e
 
-    pub order_formless : t.ok ≡ false → CheckedBy s text (read_order s) (Refused 3) amounts places verdicts
+    pub order_formless : t.ok ≡ false → CheckedBy s text (read_order s) (Err NotInForm) amounts places verdicts
     order_formless k = formless s text (read_order s) (order_read ∙ (rw (v.none_there k)))
 
     module _ (k : t.ok ≡ true) where
@@ -149,22 +151,22 @@ module _ (s text : List ℕ) (rows : Rows) (w : RowsAt s 23 0 1 rows) where
       unfolding date_of
       order_date = rw its.date (date_six s _ order_its)
 
-      module _ (c : ℕ) (u : c ≡ order_stop t.count (slashed (past ":20:" (span_of s (get_or rows.spans message20 no_span)))) t.low (twice equal (fields_from s fields 0 t.count))) where
+      module _ (c : ℕ) (u : c ≡ order_stop t.count (slashed (past ":20:" (span_of s (get_or rows.spans message20 no_span)))) (low_of t.low) (twice equal (fields_from s fields 0 t.count))) where
         order_number : c ≡ first_of (form_stops (temporary_in text) (read_order s))
         order_number =
             u
-            ∙ all_stops (temporary_in text) (sender s) (lines_at s rows.spans 1) all.all t.count t.low (slashed (past ":20:" (span_of s (get_or rows.spans message20 no_span)))) (twice equal (fields_from s fields 0 t.count)) its.count its.low (rw (span_line s rows.spans 1 message20 (omega arith)))
+            ∙ all_stops (temporary_in text) (sender s) (lines_at s rows.spans 1) all.all t.count (low_of t.low) (slashed (past ":20:" (span_of s (get_or rows.spans message20 no_span)))) (twice equal (fields_from s fields 0 t.count)) its.count its.low (rw (span_line s rows.spans 1 message20 (omega arith)))
             (λ l. ap (λ (n : ℕ). twice equal (fields_from s fields 0 n)) its.count ∙ named_twice s all.all fields its.first.named l)
             ∙ ap (λ (o : Option Message). first_of (form_stops (temporary_in text) o)) (sym is_order)
 
-        pub order_stopped : (c ≡ 0 → ⊥) → CheckedBy s text (read_order s) (Refused c) amounts places verdicts
-        order_stopped z = record { number = order_number; parts = omega arith }
+        pub order_stopped : (r : Refusal) → number_of r ≡ c → CheckedBy s text (read_order s) (Err r) amounts places verdicts
+        order_stopped r e = record { number = e ∙ order_number; parts = number_some r }
 
         pub order_count : c ≡ 0 → t.count ≤ 16
-        order_count z = order_few t.count (slashed (past ":20:" (span_of s (get_or rows.spans message20 no_span)))) t.low (twice equal (fields_from s fields 0 t.count)) (sym u ∙ z)
+        order_count z = order_few t.count (slashed (past ":20:" (span_of s (get_or rows.spans message20 no_span)))) (low_of t.low) (twice equal (fields_from s fields 0 t.count)) (sym u ∙ z)
 
         pub order_good : c ≡ 0 → (q : Span) → Behind (get_or rows.spans message20 no_span) 4 q → (b : Booking)
-            → b ≡ booking_of s false q t.date t.sum t.count → CheckedBy s text (read_order s) (Passed b) amounts places verdicts
+            → b ≡ booking_of s false q t.date t.sum t.count → CheckedBy s text (read_order s) (Ok b) amounts places verdicts
         unfolding reference_of details_of
         order_good z q d b e =
             let few : t.count ≤ 16 = order_count z in
@@ -237,12 +239,12 @@ module _ (text : List ℕ) {amounts places verdicts : List ℕ} (r : JudgingRoom
   temporary_is t e = e ∙ sym (temporary_at_lem text r.passes)
 
 module _ (s text : List ℕ) (b : Bool) (u : b ≡ framed s) where
-  pub message_unframed : b ≡ false → {amounts places verdicts : List ℕ} → CheckedAs s text (Refused 1) amounts places verdicts
+  pub message_unframed : b ≡ false → {amounts places verdicts : List ℕ} → CheckedAs s text (Err NotFramed) amounts places verdicts
   unfolding input_stops first_of
   message_unframed h = record { number = rw (← u, h); parts = omega arith }
 
   module _ (h : b ≡ true) (c : Bool) (v : c ≡ addressed s) where
-    pub message_unaddressed : c ≡ false → {amounts places verdicts : List ℕ} → CheckedAs s text (Refused 2) amounts places verdicts
+    pub message_unaddressed : c ≡ false → {amounts places verdicts : List ℕ} → CheckedAs s text (Err NotAddressed) amounts places verdicts
     unfolding input_stops first_of
     message_unaddressed k = record { number = rw (← u, h, ← v, k); parts = omega arith }
 

@@ -4,34 +4,31 @@ ghost use Rattle.rules.specs.Text.{equal, twice};
 ghost use Rattle.rules.specs.Messages.{past};
 ghost use Rattle.rules.specs.Engine.{slashed};
 ghost use Rattle.forms.specs.Spans.{span_of, SpanIn};
+ghost use Rattle.refusal.specs.Numbers.{stop_of};
+ghost use Rattle.field_conditions.specs.Stops.{low_of};
 ghost use Rattle.conditions.specs.Walk.{FieldsIn, fields_from};
 ghost use Rattle.conditions.specs.Order.{order_stop};
 
 use crate::tally::Tally;
 use crate::walk::appears_twice;
-use field_conditions::{NO_STOP, slashed_behind};
+use field_conditions::slashed_behind;
 use forms::Span;
+use refusal::Refusal;
 
-// The lowest condition of 4 to 8 that holds, 0 where none does; p is field 20's line, fields the places of the fields 21, t the details' tally.
-pub fn order_stop(s: &[u8], p: Span, fields: &[u16; 32], t: Tally) -> u32
+// The lowest condition of 4 to 8 that holds; p is field 20's line, fields the places of the fields 21, t the details' tally.
+pub fn order_stop(s: &[u8], p: Span, fields: &[u16; 32], t: Tally) -> Result<(), Refusal>
     requires span_in { SpanIn s.now p }
     requires fields_in { FieldsIn s.now fields.now t.count }
-    ensures { result ≡ order_stop t.count (slashed (past ":20:" (span_of s.now p))) t.low (twice equal (fields_from s.now fields.now 0 t.count)) }
+    ensures { stop_of result ≡ order_stop t.count (slashed (past ":20:" (span_of s.now p))) (low_of t.low) (twice equal (fields_from s.now fields.now 0 t.count)) }
 {
     if 16 < t.count {
-        return 4;
+        return Err(Refusal::TooManyDetails);
     }
     if slashed_behind(s, p, 4) {
-        return 5;
-    }
-    if t.low == 5 {
-        return 5;
+        return Err(Refusal::BadReference);
     }
     if appears_twice(s, fields, t.count) {
-        return 5;
-    }
-    if t.low == NO_STOP {
-        return 0;
+        return Err(Refusal::BadReference);
     }
     t.low
 }

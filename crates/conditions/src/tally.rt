@@ -4,12 +4,14 @@ ghost use Rattle.rules.specs.Text.{is_some};
 ghost use Rattle.rules.specs.Register.{register};
 ghost use Rattle.forms.specs.Spans.{SpansWithin};
 ghost use Rattle.verdict.specs.Details.{JudgingRoom};
+ghost use Rattle.field_conditions.specs.Stops.{low_of};
 ghost use Rattle.conditions.specs.Tally.{day_of, After, KeepsFirst, TallyAt};
 
 use details::{keep, set_line};
-use field_conditions::{NO_STOP, detail_stop};
+use field_conditions::detail_stop;
 use forms::{DETAIL_21, DETAIL_59, DETAIL_CODE, Detail, behind, read_detail};
 use lines::closes_at;
+use refusal::Refusal;
 use verdict::judge_line;
 
 // What is told of all details together.
@@ -23,8 +25,8 @@ pub struct Tally {
     pub sum: u64,
     // The centralisation date of the first.
     pub date: u64,
-    // The lowest of 5 to 8 that one of them breaks, or `NO_STOP`.
-    pub low: u32,
+    // The lowest of 5 to 8 that one of them breaks.
+    pub low: Result<(), Refusal>,
 }
 
 // The date of the first detail, n being before this one.
@@ -37,11 +39,17 @@ fn day_of(n: u32, day: u64, date: u64) -> u64
     day
 }
 
-// The lower of two numbers.
-fn least(a: u32, b: u32) -> u32
-    ensures { result ≡ min a b }
+// The lower of what refuses each of two.
+fn lower(a: Result<(), Refusal>, b: Result<(), Refusal>) -> Result<(), Refusal>
+    ensures { low_of result ≡ min (low_of a) (low_of b) }
 {
-    if a < b {
+    let Err(x) = a else {
+        return b;
+    };
+    let Err(y) = b else {
+        return a;
+    };
+    if x.number() < y.number() {
         return a;
     }
     b
@@ -57,7 +65,7 @@ fn after(s: &[u8], t: Tally, d: Detail) -> Tally
 {
     let date = day_of(t.count, t.date, d.date);
     let sum = t.sum + d.amount;
-    let low = least(t.low, detail_stop(s, d, date));
+    let low = lower(t.low, detail_stop(s, d, date));
     let count = t.count + 1;
     Tally {
         ok: true,
@@ -112,21 +120,19 @@ pub fn tally_details(
         count: 0,
         sum: 0,
         date: 0,
-        low: NO_STOP,
+        low: Ok(()),
     };
     let mut t = none;
     let mut pos = at;
     while t.count < 4096 {
-        let d = read_detail(s, pos);
-        if d.ok {
-            keep_first(s, text, amounts, places, verdicts, fields, t.count, d);
-            t = after(s, t, d);
-            pos = d.next;
-            if closes_at(s, pos) {
-                return t;
-            }
-        } else {
+        let Some(d) = read_detail(s, pos) else {
             return none;
+        };
+        keep_first(s, text, amounts, places, verdicts, fields, t.count, d);
+        t = after(s, t, d);
+        pos = d.next;
+        if closes_at(s, pos) {
+            return t;
         }
     }
     none

@@ -11,7 +11,7 @@ use Rattle.laws.specs.Parts.{from}
 use Rattle.rule_laws.specs.Messages.{DetailRead, detail_read}
 use Rattle.forms.specs.Spans.{span_of, no_span, SpanIn, within_at, lines_at, span_line}
 use Rattle.forms.specs.Stretches.{StretchOf, stretch_of_lem}
-use Rattle.forms.specs.Details.{DetailAt, detail_in, detailed_of}
+use Rattle.forms.specs.Details.{DetailAt, detail_in}
 use Rattle.forms.specs.declared.rows.Span.{Span}
 use Rattle.forms.specs.declared.detail.Detail.{Detail}
 use Rattle.details.specs.Lines.{line_at, with_line, with_lines, lines_length, lines_before, lines_set}
@@ -117,14 +117,14 @@ module _ {P : M.Detail → ℕ → Type 0} (ds : List M.Detail) (o : OfFirst P d
   }
 
 -- detail n is d now: it is kept, and those before it are as they were
-module _ (s : List ℕ) {n : ℕ} {amounts places : List ℕ} (r : DetailRoom amounts places) (h : n < 16) (d : Detail) {at : ℕ} (w : DetailAt s at d) (g : d.ok ≡ true) {amounts' places' : List ℕ} (c : Keeps n d amounts places amounts' places') where
+module _ (s : List ℕ) {n : ℕ} {amounts places : List ℕ} (r : DetailRoom amounts places) (h : n < 16) (d : Detail) {at : ℕ} (w : DetailAt s at d) {amounts' places' : List ℕ} (c : Keeps n d amounts places amounts' places') where
   line_of_lem : (j : ℕ) → j < 17 → LineOf s (detail_in s d) j (get_or d.spans j no_span)
   line_of_lem j l = record { inside = within_at s d.spans j w.within; bytes = sym (span_line s d.spans 17 j l) }
 
   rows_of : (j n : ℕ) → j + n < 17 → RowsOf s (detail_in s d) j n (stretch_of d.spans j (j + n))
   unfolding lines_at
   rows_of j n l =
-      let t : StretchOf s (take 17 d.spans) j n = stretch_of_lem (w.stand.stands g) j n (rw (length-take-le 17 d.spans (omega (arith, w.stand.size))) l) in
+      let t : StretchOf s (take 17 d.spans) j n = stretch_of_lem w.stand.stands j n (rw (length-take-le 17 d.spans (omega (arith, w.stand.size))) l) in
       record {
         inside = record { order = rw (get_or-take 17 d.spans j no_span (omega arith), get_or-take 17 d.spans (j + n) no_span l) at t.order; room = omega (arith, (within_at s d.spans (j + n) w.within).order, (within_at s d.spans (j + n) w.within).room) };
         bytes = rw (get_or-take 17 d.spans j no_span (omega arith), get_or-take 17 d.spans (j + n) no_span l) at t.text;
@@ -139,15 +139,12 @@ module _ (s : List ℕ) {n : ℕ} {amounts places : List ℕ} (r : DetailRoom am
 
   own_lines : LinesAs s (detail_in s d) places' (n)
   own_lines = record {
-    read = detail_read (from s at) _ (answered w.same);
+    read = detail_read (from s at) _ w.same;
     payer = rw (rw (add-zero (4 * n)) at (own 0 (omega arith))) (rows_of detail50h 4 (omega arith));
     branch = rw (own 1 (omega arith)) (rows_of detail52d 2 (omega arith));
     account = rw (own 2 (omega arith)) (line_of_lem detail59 (omega arith));
     baeref = rw (own 3 (omega arith)) (line_of_lem detail_baeref (omega arith));
   }
-    where
-      answered : {o : Option TakenDetail} → detailed_of s d ≡ o → o ≡ some record { detail = detail_in s d; others = from s d.next }
-      answered e = sym (rw g at e)
 
   other_lines : (e : M.Detail) (i : ℕ) → i < n → LinesAs s e places i → LinesAs s e places' i
   other_lines e i l a = record {

@@ -37,22 +37,22 @@ three_on g f (some a) (some b) none = refl
 three_on g f (some a) (some b) (some c) = refl
 
 module _ {A : Type 0} (o : Option A) (f : ℕ → ℕ → ℕ → A) (x y z : Option ℕ) (same : o ≡ three f x y z) (p : P.Option ℕ) (u : told p ≡ x) where
-  pub no_first : p ≡ None → none ≡ o
+  pub no_first : p ≡ None → o ≡ none
   unfolding three
-  no_first h = sym (same ∙ (rw (← u, h)))
+  no_first h = same ∙ (rw (← u, h))
 
   module _ (a : ℕ) (h : p ≡ Some a) (q : P.Option ℕ) (v : told q ≡ y) where
-    pub no_second : q ≡ None → none ≡ o
+    pub no_second : q ≡ None → o ≡ none
     unfolding three
-    no_second k = sym (same ∙ (rw (← u, h, ← v, k)))
+    no_second k = same ∙ (rw (← u, h, ← v, k))
 
     module _ (b : ℕ) (k : q ≡ Some b) (r : P.Option ℕ) (w : told r ≡ z) where
-      pub no_third : r ≡ None → none ≡ o
+      pub no_third : r ≡ None → o ≡ none
       unfolding three
-      no_third l = sym (same ∙ (rw (← u, h, ← v, k, ← w, l)))
+      no_third l = same ∙ (rw (← u, h, ← v, k, ← w, l))
 
-      pub all_three : (c : ℕ) → r ≡ Some c → (t : A) → t ≡ f a b c → some t ≡ o
+      pub all_three : (c : ℕ) → r ≡ Some c → (t : A) → t ≡ f a b c → o ≡ some t
       unfolding three
-      all_three c l t e = rw e (sym (same ∙ (rw (← u, h, ← v, k, ← w, l))))
+      all_three c l t e = rw e (same ∙ (rw (← u, h, ← v, k, ← w, l)))
 
 pub ruleset threes = (no_first, no_second, no_third, all_three)

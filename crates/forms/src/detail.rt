@@ -1,5 +1,8 @@
 // A detail of an MT101.
-ghost use Rattle.std.specs.Prelude.{◌≤◌, length};
+ghost use Rattle.std.specs.Prelude.{◌≡◌, ◌≤◌, length, MatchOption};
+ghost use Rattle.std.proofs.Math.Option.{none};
+ghost use Rattle.rules.specs.Messages.{take_detail};
+ghost use Rattle.laws.specs.Parts.{from};
 ghost use Rattle.forms.specs.Details.{DetailAt};
 
 use crate::fields::{amount_in, date_in};
@@ -9,8 +12,6 @@ use crate::rows::{Span, read_rows};
 // A detail as it is read.
 #[derive(Clone, Copy)]
 pub struct Detail {
-    // Is it in form?
-    pub ok: bool,
     // Where the text goes on behind it.
     pub next: usize,
     // 70's CENTRB date.
@@ -22,33 +23,25 @@ pub struct Detail {
 }
 
 // The detail that begins at `at`.
-pub fn read_detail(s: &[u8], at: usize) -> Detail
+pub fn read_detail(s: &[u8], at: usize) -> Option<Detail>
     requires at_in_bounds { at ≤ length s.now }
     requires s_len_bound { length s.now ≤ 4096 }
-    ensures { DetailAt s.now at result }
+    ensures { MatchOption result (take_detail (from s.now at) ≡ none) (λ d. DetailAt s.now at d) }
 {
-    let rows = read_rows(s, at, TRANSFER_ROWS, DETAIL_ROWS);
-    let spans = rows.spans;
-    if rows.ok {
-        if let Some(amount) = amount_in(s, spans[DETAIL_32B], 8) {
-            if let Some(date) = date_in(s, spans[DETAIL_CENTRB], 10) {
-                if let Some(_) = date_in(s, spans[DETAIL_BAEREF], 6) {
-                    return Detail {
-                        ok: true,
-                        next: rows.next,
-                        date,
-                        amount,
-                        spans,
-                    };
-                }
-            }
-        }
-    }
-    Detail {
-        ok: false,
-        next: at,
-        date: 0,
-        amount: 0,
-        spans,
-    }
+    let rows = read_rows(s, at, TRANSFER_ROWS, DETAIL_ROWS)?;
+    let Some(amount) = amount_in(s, rows.spans[DETAIL_32B], 8) else {
+        return None;
+    };
+    let Some(date) = date_in(s, rows.spans[DETAIL_CENTRB], 10) else {
+        return None;
+    };
+    let Some(_) = date_in(s, rows.spans[DETAIL_BAEREF], 6) else {
+        return None;
+    };
+    Some(Detail {
+        next: rows.next,
+        date,
+        amount,
+        spans: rows.spans,
+    })
 }

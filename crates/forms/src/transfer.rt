@@ -1,5 +1,7 @@
 // An MT103.
-ghost use Rattle.std.specs.Prelude.{◌≤◌, length};
+ghost use Rattle.std.specs.Prelude.{◌≡◌, ◌≤◌, length, MatchOption};
+ghost use Rattle.std.proofs.Math.Option.{none};
+ghost use Rattle.rules.specs.Messages.{read_transfer};
 ghost use Rattle.forms.specs.Transfers.{TransferIn};
 
 use crate::fields::{amount_in, date_in};
@@ -10,8 +12,6 @@ use lines::closes_at;
 // A transfer as it is read.
 #[derive(Clone, Copy)]
 pub struct Transfer {
-    // Is it in form?
-    pub ok: bool,
     // 32A's date.
     pub date: u64,
     // 32A's amount.
@@ -21,33 +21,27 @@ pub struct Transfer {
 }
 
 // The transfer that stands behind the first line.
-pub fn read_transfer(s: &[u8]) -> Transfer
+pub fn read_transfer(s: &[u8]) -> Option<Transfer>
     requires in_bounds { 23 ≤ length s.now }
     requires s_len_bound { length s.now ≤ 4096 }
-    ensures { TransferIn s.now result }
+    ensures { MatchOption result (read_transfer s.now ≡ none) (λ t. TransferIn s.now t) }
 {
-    let rows = read_rows(s, 23, 0, TRANSFER_ROWS);
-    let spans = rows.spans;
-    if rows.ok {
-        if closes_at(s, rows.next) {
-            if let Some(date) = date_in(s, spans[TRANSFER_32A], 5) {
-                if let Some(amount) = amount_in(s, spans[TRANSFER_32A], 14) {
-                    if let Some(_) = date_in(s, spans[TRANSFER_BAEREF], 8) {
-                        return Transfer {
-                            ok: true,
-                            date,
-                            amount,
-                            spans,
-                        };
-                    }
-                }
-            }
-        }
+    let rows = read_rows(s, 23, 0, TRANSFER_ROWS)?;
+    if !closes_at(s, rows.next) {
+        return None;
     }
-    Transfer {
-        ok: false,
-        date: 0,
-        amount: 0,
-        spans,
-    }
+    let Some(date) = date_in(s, rows.spans[TRANSFER_32A], 5) else {
+        return None;
+    };
+    let Some(amount) = amount_in(s, rows.spans[TRANSFER_32A], 14) else {
+        return None;
+    };
+    let Some(_) = date_in(s, rows.spans[TRANSFER_BAEREF], 8) else {
+        return None;
+    };
+    Some(Transfer {
+        date,
+        amount,
+        spans: rows.spans,
+    })
 }

@@ -62,7 +62,9 @@ fn say_details(
         if 16 <= i {
             return Ok(());
         }
-        let d = forms::read_detail(s, at);
+        let Some(d) = forms::read_detail(s, at) else {
+            return Ok(());
+        };
         say_part(rt, s, d.spans[DETAIL_21])?;
         say_number(rt, amounts[i as usize])?;
         at = d.next;
@@ -79,8 +81,10 @@ fn first_detail(s: &[u8]) -> usize {
     if 4096 < s.len() {
         return 0;
     }
-    let rows = forms::read_rows(s, 23, 0, 1);
-    rows.next
+    match forms::read_rows(s, 23, 0, 1) {
+        Some(rows) => rows.next,
+        None => 0,
+    }
 }
 
 // The answer of the check, and the amounts that it kept.

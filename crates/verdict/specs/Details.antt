@@ -56,20 +56,20 @@ pub record JudgedAt (text s amounts places verdicts : List ℕ) (d : M.Detail) (
   pub verdict : verdict_at text verdicts d i
 
 -- detail n is d now, and its verdict's number c
-module _ (text s : List ℕ) {n : ℕ} {amounts places verdicts : List ℕ} (r : JudgingRoom text amounts places verdicts) (h : n < 16) (d : Detail) {at : ℕ} (w : DetailAt s at d) (g : d.ok ≡ true) {amounts' places' : List ℕ} (k : Keeps n d amounts places amounts' places')
+module _ (text s : List ℕ) {n : ℕ} {amounts places verdicts : List ℕ} (r : JudgingRoom text amounts places verdicts) (h : n < 16) (d : Detail) {at : ℕ} (w : DetailAt s at d) {amounts' places' : List ℕ} (k : Keeps n d amounts places amounts' places')
     {c : ℕ} (v : VerdictOn text (span_of s (get_or d.spans detail_code no_span)) (past ":59:/" (span_of s (get_or d.spans detail59 no_span))) c) where
   pub judged_room : JudgingRoom text amounts' places' (set verdicts n c)
-  judged_room = record { passes = r.passes; details = keeps_room s r.details h d w g k; size = length-set verdicts n c ∙ r.size }
+  judged_room = record { passes = r.passes; details = keeps_room s r.details h d w k; size = length-set verdicts n c ∙ r.size }
 
   pub judged_own : JudgedAt text s amounts' places' (set verdicts n c) (detail_in s d) n
   judged_own = record {
-    kept = keeps_own s r.details h d w g k;
+    kept = keeps_own s r.details h d w k;
     verdict = ap (λ (x : ℕ). verdict_of (verdict_by x)) (get_or-set_same verdicts n c 0 (omega (arith, r.size))) ∙ rw (span_line s d.spans 17 detail59 (omega arith), span_line s d.spans 17 detail_code (omega arith)) v.same;
   }
 
   pub judged_other : (e : M.Detail) (i : ℕ) → i < n → JudgedAt text s amounts places verdicts e i → JudgedAt text s amounts' places' (set verdicts n c) e i
   judged_other e i l j = record {
-    kept = keeps_other s r.details h d w g k e i l j.kept;
+    kept = keeps_other s r.details h d w k e i l j.kept;
     verdict = ap (λ (x : ℕ). verdict_of (verdict_by x)) (get_or-set_other verdicts n i c 0 (λ z. omega arith)) ∙ j.verdict;
   }
 

@@ -15,8 +15,8 @@ line_command-requires c = search (commanded, rules)
 pub enum_told-1 : goal.enum_told-1
 enum_told-1 c = search (commanded, rules)
 
-pub returns-in-Line : goal.returns-in-Line
-returns-in-Line c = search (commanded, rules)
+pub returns-in-Some : goal.returns-in-Some
+returns-in-Some c = search (commanded, rules)
 
-pub returns-in-Bad : goal.returns-in-Bad
-returns-in-Bad c = search (commanded, rules)
+pub returns-in-None : goal.returns-in-None
+returns-in-None c = search (commanded, rules)

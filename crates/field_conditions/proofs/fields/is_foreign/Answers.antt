@@ -1,6 +1,6 @@
--- `field_conditions::fields::is_foreign` meets its contract: too few bytes for an account, one that does not pass, or as its bank's four bytes are.
+-- Too few bytes for an account, one that does not pass, or as its bank's four bytes are.
+use Rattle.std.proofs.Common.{rules}
 use Rattle.field_conditions.specs.Fields.{fielding}
-use borrow.Author.Rules.{rules}
 use Rattle.field_conditions.proofs.fields.is_foreign.Goals as goal
 
 pub returns-then-e-a : goal.returns-then-e-a
