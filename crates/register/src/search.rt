@@ -1,5 +1,5 @@
 // The search in a register that passed.
-ghost use Rattle.std.specs.Prelude.{◌≡◌, true, ◌<◌, ◌≤◌, length};
+ghost use Rattle.std.specs.Prelude.{◌≡◌, true, ◌<◌, length};
 ghost use Rattle.rules.specs.Text.{is_some};
 ghost use Rattle.rules.specs.Register.{register, register_of};
 ghost use Rattle.rules.specs.Verdict.{found, account_at, line_by_code};
@@ -8,6 +8,7 @@ ghost use Rattle.laws.specs.Told.{told};
 ghost use Rattle.register.specs.Passed.{LinePlace};
 ghost use Rattle.register.specs.Searching.{AccountCount, CodesOf};
 
+use crate::{ACCOUNT_LINE, CODE_LINE, FIRST_LINE};
 use register_lines::bound_at;
 use text::equal_from_end;
 
@@ -19,7 +20,7 @@ fn account_count(text: &[u8]) -> u32
     let mut end = text.len() as u32;
     while end > 29 {
         if text[(end - 30) as usize] == b',' {
-            end -= 35;
+            end -= CODE_LINE;
         } else {
             return ((end - 29) as u16 / 38) as u32;
         }
@@ -27,14 +28,15 @@ fn account_count(text: &[u8]) -> u32
     0
 }
 
-// The account line of an IBAN.
+// The account line of an IBAN, counted from 0.
 pub fn find_account(text: &[u8], iban: &[u8]) -> Option<usize>
     requires passes { is_some (register text.now) ≡ true }
     requires size { length iban.now ≡ 22 }
     ensures { told result ≡ found iban.now 0 (register_of text.now).accounts }
 {
     for i in 0..account_count(text) {
-        if equal_from_end(text, (24 + 38 * i) as usize, iban, 0, 22) {
+        let place = (FIRST_LINE + ACCOUNT_LINE * i) as usize;
+        if equal_from_end(text, place, iban, 0, 22) {
             return Some(i as usize);
         }
     }
@@ -55,7 +57,7 @@ fn codes_of(text: &[u8]) -> Codes
     requires { is_some (register text.now) ≡ true }
     ensures { CodesOf text.now result.at result.lines }
 {
-    let at = 24 + 38 * account_count(text);
+    let at = FIRST_LINE + ACCOUNT_LINE * account_count(text);
     Codes {
         at,
         lines: ((text.len() as u32 - at) as u16 / 35) as u32,
@@ -67,10 +69,10 @@ pub fn has_codes(text: &[u8]) -> bool
     requires { is_some (register text.now) ≡ true }
     ensures { result ≡ has_codes (register_of text.now) }
 {
-    codes_of(text).lines > 0
+    codes_of(text).lines >= 1
 }
 
-// The account line to which a code leads.
+// The account line to which a code leads, counted from 0.
 pub fn find_code(text: &[u8], code: &[u8]) -> Option<usize>
     requires { is_some (register text.now) ≡ true }
     ensures { told result ≡ line_by_code (register_of text.now) code.now }
@@ -80,9 +82,10 @@ pub fn find_code(text: &[u8], code: &[u8]) -> Option<usize>
     }
     let codes = codes_of(text);
     for j in 0..codes.lines {
-        let at = (codes.at + 35 * j) as usize;
-        if equal_from_end(text, at, code, 0, 10) {
-            return find_account(text, &text[at + 11..at + 33]);
+        let place = (codes.at + CODE_LINE * j) as usize;
+        if equal_from_end(text, place, code, 0, 10) {
+            let a = place + 11;
+            return find_account(text, &text[a..a + 22]);
         }
     }
     None
@@ -90,17 +93,17 @@ pub fn find_code(text: &[u8], code: &[u8]) -> Option<usize>
 
 // Where an account line begins.
 pub fn account_place(text: &[u8], i: usize) -> usize
-    requires text_value { is_some (register text.now) ≡ true }
-    requires i_in_bounds { i < length (register_of text.now).accounts }
+    requires passes { is_some (register text.now) ≡ true }
+    requires listed { i < length (register_of text.now).accounts }
     ensures { LinePlace text.now i result }
 {
-    (24 + 38 * i as u32) as usize
+    (FIRST_LINE + ACCOUNT_LINE * i as u32) as usize
 }
 
 // Its low bound.
 pub fn account_low(text: &[u8], i: usize) -> u64
-    requires text_value { is_some (register text.now) ≡ true }
-    requires i_in_bounds { i < length (register_of text.now).accounts }
+    requires passes { is_some (register text.now) ≡ true }
+    requires listed { i < length (register_of text.now).accounts }
     ensures { result ≡ (account_at (register_of text.now) i).low }
 {
     bound_at(text, account_place(text, i) + 23)
@@ -108,8 +111,8 @@ pub fn account_low(text: &[u8], i: usize) -> u64
 
 // Its high bound.
 pub fn account_high(text: &[u8], i: usize) -> u64
-    requires text_value { is_some (register text.now) ≡ true }
-    requires i_in_bounds { i < length (register_of text.now).accounts }
+    requires passes { is_some (register text.now) ≡ true }
+    requires listed { i < length (register_of text.now).accounts }
     ensures { result ≡ (account_at (register_of text.now) i).high }
 {
     bound_at(text, account_place(text, i) + 30)

@@ -7,4 +7,4 @@ mod section;
 
 pub use forms::{AccountLine, CodeLine, LineForm, lines_from};
 pub use lines::{bound_at, first_line_passes};
-pub use section::Section;
+pub use section::{Section, put_marks};

@@ -19,7 +19,20 @@ fn mark_of(key: &[u8]) -> u32
     mark
 }
 
-// Lines of one form.
+// The marks of the IBANs or codes of n lines of a form, the first at a place.
+pub fn put_marks<F: LineForm>(text: &[u8], at: usize, n: u32, marks: &mut [u32; 40])
+    requires few { n ≤ 40 }
+    requires room { at + F.WIDTH * n ≤ length text.now }
+    ensures { MarksOf F.WIDTH F.KEY text.now at n marks.new }
+{
+    let mut place = at;
+    for i in 0..n {
+        marks[i as usize] = mark_of(&text[place..place + F::KEY as usize]);
+        place += F::WIDTH as usize;
+    }
+}
+
+// Lines of one form. Their marks are lent: a struct that held them would be copied, 160 bytes of the stack each time.
 #[derive(Drop)]
 pub struct Section<'a, F: LineForm> {
     // The text.
@@ -29,26 +42,19 @@ pub struct Section<'a, F: LineForm> {
     // How many there are.
     pub count: u32,
     // The marks of their IBANs or codes.
-    marks: [u32; 40],
+    marks: &'a [u32; 40],
     form: PhantomData<F>,
-    ghost marked: { MarksOf F.WIDTH F.KEY text.now at count marks },
+    ghost marked: { MarksOf F.WIDTH F.KEY text.now at count marks.now },
 }
 
 impl<'a, F: LineForm> Section<'a, F> {
-    // So many lines from a place on.
-    pub fn new(text: &'a [u8], at: usize, count: u32) -> Section<'a, F>
-        requires few { count ≤ 40 }
-        requires room { at + F.WIDTH * count ≤ length text.now }
+    // So many lines from a place on, which have their marks.
+    pub fn new(text: &'a [u8], at: usize, count: u32, marks: &'a [u32; 40]) -> Section<'a, F>
+        requires { MarksOf F.WIDTH F.KEY text.now at count marks.now }
         ensures text { result.text.now ≡ text.now }
         ensures at { result.at ≡ at }
         ensures count { result.count ≡ count }
     {
-        let mut marks = [0; 40];
-        let mut place = at;
-        for i in 0..count {
-            marks[i as usize] = mark_of(&text[place..place + F::KEY as usize]);
-            place += F::WIDTH as usize;
-        }
         Section {
             text,
             at,

@@ -1,6 +1,0 @@
--- `Section::new` meets its contract. The loop's invariant: the lines before its place have their marks.
-use Rattle.register_lines.specs.Marks.{Making}
-use Rattle.register_lines.proofs.section.Section.new.Given as goal
-
-abbrev pub invariant-loop-i : goal.invariant-loop-i
-invariant-loop-i g l = Making g.F.LineForm.WIDTH g.F.LineForm.KEY l.text l.at l.count l.i l.place l.marks
