@@ -8,8 +8,8 @@ use Rattle.register_lines.proofs.section.Section.is_key.Goals as goal
 pub returns-then-self-i : goal.returns-then-self-i
 returns-then-self-i g c = let f = g.met.F.LineForm.form in search (marking, rules)
 
-pub equal_from_end-requires-clause-n_in_bounds_2 : goal.equal_from_end-requires-clause-n_in_bounds_2
-equal_from_end-requires-clause-n_in_bounds_2 g c = omega (arith, c.KEY.ensures, ap length c.key.ensures, line_size _ _ _ g.met.F.LineForm.form _ _ _ _ c.args.self.now.marked c.args.i c.requires.listed)
+pub equal_from_end-requires-clause-right_in_bounds : goal.equal_from_end-requires-clause-right_in_bounds
+equal_from_end-requires-clause-right_in_bounds g c = omega (arith, c.KEY.ensures, ap length c.key.ensures, line_size _ _ _ g.met.F.LineForm.form _ _ _ _ c.args.self.now.marked c.args.i c.requires.listed)
 
 pub returns : goal.returns
 returns g c =
