@@ -68,6 +68,7 @@ fn more_row() -> Row
 }
 
 // A row of the table. A match: a constant array is written to the stack each time that it is used.
+#[tactic(auto, using(crate::specs::Table::row_told), unfolding(crate::specs::Table::codes))]
 pub fn row_at(k: usize) -> Row
     requires { k < 40 }
     ensures { RowAt k result }
