@@ -1,5 +1,5 @@
 -- A message, one law for each way out of the call.
-use Rattle.std.specs.Prelude.{◌≡◌, Bool, true, false, not, List, ◌++◌, ℕ, ◌+◌, ◌≤◌, ◌<◌, ◌^◌, eqb, ℤ, pos, length, drop, replicate}
+use Rattle.std.specs.Prelude.{◌≡◌, Bool, true, false, not, List, ◌++◌, ℕ, ◌+◌, ◌≤◌, ◌<◌, ◌^◌, eqb, ℤ, pos, Err, length, drop, replicate}
 use Rattle.std.proofs.Math.Path.{refl}
 use Rattle.std.proofs.Common.{sym, ap, ◌∙◌, le-leb, ne_eqb, arith}
 use Rattle.std.proofs.Math.Option.{some}
@@ -25,10 +25,10 @@ use Rattle.engine.specs.References.{of_bank}
 use Rattle.outgoing_number.specs.declared.Numbered.{Numbered}
 use Rattle.details.specs.Message.{message_in}
 use Rattle.conditions.specs.Books.{Books}
-use Rattle.conditions.specs.Answers.{temporary_in, CheckedAs, Passes, refused_told, refused_some, passed_told}
+use Rattle.conditions.specs.Answers.{Checked, temporary_in, CheckedAs, Passes, refused_told, refused_some, passed_told}
 use Rattle.conditions.specs.declared.booking.Booking.{Booking}
-use Rattle.conditions.specs.declared.message.Checked.{Checked}
-use Rattle.conditions.specs.declared.message.Checked.TheVariants.{Refused}
+use Rattle.refusal.specs.Numbers.{number_of}
+use Rattle.refusal.specs.declared.Refusal.{Refusal}
 use Rattle.verdict.specs.Details.{JudgedIn, JudgingRoom}
 use Rattle.state_conditions.specs.Stops.{addition_by}
 use Rattle.detail_lines.specs.Chosen.{CountsOf}
@@ -199,9 +199,9 @@ text_fits_lem out w m f = size_fits w (length out) m f
 pub check_told : (s area g : List ℕ) (r : Checked) {amounts places verdicts : List ℕ} → RegisterOf area g → CheckedAs s g r amounts places verdicts → CheckedAs s (decode area).register r amounts places verdicts
 check_told s area g r f c = rw f.same at c
 
-pub checked_refused : (s area : List ℕ) → is_some (holds area) ≡ true → (r : Checked) {amounts places verdicts : List ℕ} → CheckedAs s (decode area).register r amounts places verdicts → (out : List ℕ) (k : ℕ) → r ≡ Refused k → Answers (card_message s area out) k 0 (pos 0) area out
-checked_refused s area h r {amounts} {places} {verdicts} c out k e =
-    message_input s area out (decode area) (holds_decode area h) k (sym (refused_told s _ r amounts places verdicts c k e)) (ne_eqb k 0 (λ z. omega (arith, refused_some s _ r amounts places verdicts c k e)))
+pub checked_refused : (s area : List ℕ) → is_some (holds area) ≡ true → (r : Checked) {amounts places verdicts : List ℕ} → CheckedAs s (decode area).register r amounts places verdicts → (out : List ℕ) (k : Refusal) → r ≡ Err k → (n : ℕ) → n ≡ number_of k → Answers (card_message s area out) n 0 (pos 0) area out
+checked_refused s area h r {amounts} {places} {verdicts} c out k e n f =
+    rw f (message_input s area out (decode area) (holds_decode area h) (number_of k) (sym (refused_told s _ r amounts places verdicts c k e)) (ne_eqb (number_of k) 0 (λ z. omega (arith, refused_some s _ r amounts places verdicts c k e))))
 
 -- its register, and room for 16 details
 pub room_made : (area g : List ℕ) → RegisterOf area g → JudgingRoom g (replicate 16 0) (replicate 128 0) (replicate 16 0)

@@ -12,7 +12,7 @@ ghost use Rattle.card.specs.Measured.{Measured};
 ghost use Rattle.card.specs.Message.{Sent, AreaBooked, Leaves, Ready};
 
 use crate::difference::minus;
-use conditions::{Booking, Checked};
+use conditions::Booking;
 use message_text::Due;
 use position::Position;
 
@@ -174,12 +174,12 @@ fn message_engine(
         &mut places,
         &mut verdicts,
     ) {
-        Checked::Refused(k) => {
+        Err(refusal) => {
             *written = 0;
             *difference = 0;
-            k
+            refusal.number()
         }
-        Checked::Passed(b) => book_message(
+        Ok(b) => book_message(
             message, &amounts, &places, &verdicts, b, area, output, written, difference,
         ),
     }

@@ -24,8 +24,8 @@ pub struct Detail {
 
 // The detail that begins at `at`.
 pub fn read_detail(s: &[u8], at: usize) -> Option<Detail>
-    requires at_in_bounds { at ≤ length s.now }
-    requires s_len_bound { length s.now ≤ 4096 }
+    requires place { at ≤ length s.now }
+    requires short { length s.now ≤ 4096 }
     ensures { MatchOption result (take_detail (from s.now at) ≡ none) (λ d. DetailAt s.now at d) }
 {
     let rows = read_rows(s, at, TRANSFER_ROWS, DETAIL_ROWS)?;

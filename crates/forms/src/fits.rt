@@ -15,10 +15,10 @@ fn text_line(s: &[u8], a: usize, e: usize) -> bool
 {
     if a < e {
         let c = s[a];
-        if c == 58 {
+        if c == b':' {
             return false;
         }
-        if c == 45 {
+        if c == b'-' {
             return false;
         }
         return run_in::<Text>(1, 35, s, a, e);

@@ -66,8 +66,8 @@ fn take_row(reader: &mut Reader, k: usize) -> Option<Span>
 
 // The lines from `at` on against count rows of the table, from row first on: one reader hands them out.
 pub fn read_rows(s: &[u8], at: usize, first: usize, count: usize) -> Option<Rows>
-    requires at_in_bounds { at ≤ length s.now }
-    requires s_len_bound { length s.now ≤ 4096 }
+    requires place { at ≤ length s.now }
+    requires short { length s.now ≤ 4096 }
     requires rows_in_table { first + count ≤ 40 }
     requires count_bound { count ≤ 23 }
     ensures { MatchOption result (take_rows (part first count) (from s.now at) ≡ none) (λ r. RowsAt s.now at first count r) }

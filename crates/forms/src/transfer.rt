@@ -22,8 +22,8 @@ pub struct Transfer {
 
 // The transfer that stands behind the first line.
 pub fn read_transfer(s: &[u8]) -> Option<Transfer>
-    requires in_bounds { 23 ≤ length s.now }
-    requires s_len_bound { length s.now ≤ 4096 }
+    requires headed { 23 ≤ length s.now }
+    requires short { length s.now ≤ 4096 }
     ensures { MatchOption result (read_transfer s.now ≡ none) (λ t. TransferIn s.now t) }
 {
     let rows = read_rows(s, 23, 0, TRANSFER_ROWS)?;

@@ -4,8 +4,9 @@
 ghost use Rattle.std.specs.Prelude.{◌≤◌, length};
 ghost use Rattle.try_forms.specs.Places.{Reached};
 
-use conditions::Checked;
+use conditions::Booking;
 use forms::{DETAIL_21, Span};
+use refusal::Refusal;
 use std::io::{self, Read};
 
 // The next place with the byte c, or the end.
@@ -88,10 +89,10 @@ fn first_detail(s: &[u8]) -> usize {
 }
 
 // The answer of the check, and the amounts that it kept.
-fn say_checked(rt: &impl Print, s: &[u8], r: Checked, amounts: &[u64; 16]) -> io::Result<()> {
+fn say_checked(rt: &impl Print, s: &[u8], r: Result<Booking, Refusal>, amounts: &[u64; 16]) -> io::Result<()> {
     match r {
-        Checked::Refused(k) => say_number(rt, k as u64),
-        Checked::Passed(b) => {
+        Err(refusal) => say_number(rt, refusal.number() as u64),
+        Ok(b) => {
             say_number(rt, 0)?;
             say_part(rt, s, b.reference)?;
             say_number(rt, b.key.date as u64)?;

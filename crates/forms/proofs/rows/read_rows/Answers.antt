@@ -4,7 +4,7 @@ use Rattle.forms.specs.Rows.{rows_start, rows_on, rows_stop, rows_done, row_none
 use Rattle.forms.proofs.rows.read_rows.Goals as goal
 
 pub loop-i-init : goal.loop-i-init
-loop-i-init c = rw c.over-reader.ensures record { rowing = rows_start _ _ _ _ c.requires.at_in_bounds; text = refl }
+loop-i-init c = rw c.over-reader.ensures record { rowing = rows_start _ _ _ _ c.requires.place; text = refl }
 
 pub returns-in_err-spans : goal.returns-in_err-spans
 returns-in_err-spans c = let i = c.loop-i.invariant in rw c.from_residual.ensures
