@@ -40,7 +40,7 @@ pub fn read_detail(s: &[u8], at: usize) -> Option<Detail>
     };
     Some(Detail {
         next: rows.next,
-        date,
+        date: date as u64,
         amount,
         spans: rows.spans,
     })

@@ -28,7 +28,7 @@ pub fn behind(p: Span, k: u16) -> Span
 }
 
 // The date that the six bytes behind the first k of a part are.
-pub fn date_in(s: &[u8], p: Span, k: u16) -> Option<u64>
+pub fn date_in(s: &[u8], p: Span, k: u16) -> Option<u32>
     requires { SpanIn s.now p }
     ensures { told result ≡ date (take 6 (drop k (span_of s.now p))) }
 {
@@ -37,7 +37,7 @@ pub fn date_in(s: &[u8], p: Span, k: u16) -> Option<u64>
     if e < a + 6 {
         return None;
     }
-    read_date(s, a)
+    read_date(&s[a..a + 6])
 }
 
 // The amount that stands behind the first k bytes of a part.
@@ -50,5 +50,5 @@ pub fn amount_in(s: &[u8], p: Span, k: u16) -> Option<u64>
     if e < a {
         return None;
     }
-    read_amount(s, a, e)
+    read_amount(&s[a..e])
 }

@@ -40,7 +40,7 @@ pub fn read_transfer(s: &[u8]) -> Option<Transfer>
         return None;
     };
     Some(Transfer {
-        date,
+        date: date as u64,
         amount,
         spans: rows.spans,
     })
