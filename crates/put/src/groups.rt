@@ -1,6 +1,6 @@
 // Eight places of a number, and how many digits it has.
 ghost use Rattle.std.specs.Prelude.{◌≡◌, ◌/◌, ◌<◌};
-ghost use Rattle.rules.specs.Text.{fixed, bytes, width};
+ghost use Rattle.rules.specs.Text.{fixed, width};
 
 // A number below a hundred million without its last four digits: by 16-bit division where that serves.
 fn upper_four(v: u32) -> u16
@@ -35,24 +35,6 @@ pub fn eight(v: u32) -> [u8; 8]
         48 + (e - f * 10) as u8,
         48 + (d - e * 10) as u8,
         48 + (l - d * 10) as u8,
-    ]
-}
-
-// The eight bytes of a number, big-endian.
-pub fn eight_bytes(v: u64) -> [u8; 8]
-    ensures { result ≡ bytes 8 v }
-{
-    let h = (v / 4294967296) as u32;
-    let l = (v % 4294967296) as u32;
-    [
-        (h / 16777216) as u8,
-        (h / 65536 % 256) as u8,
-        (h / 256 % 256) as u8,
-        (h % 256) as u8,
-        (l / 16777216) as u8,
-        (l / 65536 % 256) as u8,
-        (l / 256 % 256) as u8,
-        (l % 256) as u8,
     ]
 }
 

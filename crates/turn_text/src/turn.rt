@@ -10,7 +10,7 @@ ghost use Rattle.turn_text.specs.Area.{TurnPut};
 
 use crate::positions::is_corrected;
 use engine::{header_of, nth_position, temporary};
-use outgoing_number::{Numbered, Outgoing, Reference, issue};
+use outgoing_number::{Numbered, Outgoing, Reference};
 use written::{put_correction, put_correction_posting};
 
 // The posting lines of the n positions, in their order.
@@ -87,7 +87,7 @@ fn put_next(out: &mut [u8], t: Correcting, r: Reference, area: &[u8]) -> Correct
     ensures { CorrectionPut area.now t r out.old result out.new }
 {
     let p = nth_position(area, t.at);
-    let o = put_correction(out, t.out, r.day, temporary(area), r.number, p);
+    let o = put_correction(out, t.out, r, temporary(area), p);
     next_corrected(area, o, t.at + 1, t.left - 1)
 }
 
@@ -99,7 +99,7 @@ fn put_corrections(out: &mut [u8], first: Correcting, day: u32, area: &[u8]) -> 
     let mut o = Outgoing { day, count: 0 };
     let mut t = first;
     while t.left > 0 {
-        let r = issue(&mut o);
+        let r = o.issue();
         t = put_next(out, t, r, area);
     }
     Numbered {
