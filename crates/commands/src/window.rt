@@ -80,7 +80,7 @@ fn shorten(s: &mut [u8], n: usize) -> usize
     let a = p + 1;
     let z = nulls_at(s, a, (n - a) as u32) as usize;
     let m = n - a - z;
-    put::move_down(s, a + z, a, m as u32);
+    put::move_bytes(s, a + z, a, m);
     a + m
 }
 
@@ -90,6 +90,6 @@ pub fn make_room(s: &mut [u8], at: usize, n: usize) -> usize
     requires n_bound { n ≤ 1048576 }
     ensures { Roomed s.old at n result s.new }
 {
-    put::move_down(s, at, 0, (n - at) as u32);
+    put::move_bytes(s, at, 0, n - at);
     shorten(s, n - at)
 }

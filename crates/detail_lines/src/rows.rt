@@ -14,7 +14,7 @@ fn put_behind(out: &mut [u8], at: usize, s: &[u8], p: Span, k: u16) -> usize
     ensures { Wrote (drop k (span_of s.now p)) at out.old result out.new }
 {
     let q = behind(p, k);
-    put::put_part(out, at, s, q.start as usize, q.end as usize)
+    put::put_bytes(out, at, &s[q.start as usize..q.end as usize])
 }
 
 // n bytes behind the first k of a line, or what there is of them.
@@ -24,9 +24,9 @@ fn put_front(out: &mut [u8], at: usize, s: &[u8], p: Span, k: u16, n: u16) -> us
 {
     let q = behind(p, k);
     if q.end - q.start <= n {
-        return put::put_part(out, at, s, q.start as usize, q.end as usize);
+        return put::put_bytes(out, at, &s[q.start as usize..q.end as usize]);
     }
-    put::put_part(out, at, s, q.start as usize, q.start as usize + n as usize)
+    put::put_bytes(out, at, &s[q.start as usize..q.start as usize + n as usize])
 }
 
 // 52D's BAE, a slash, BAEREF's date, a slash.

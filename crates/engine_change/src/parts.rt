@@ -23,6 +23,6 @@ pub fn put_padded(out: &mut [u8], at: usize, n: usize, src: &[u8], a: usize, b: 
     requires a_bound { b - a ≤ n }
     ensures { Wrote (padded n (cut src.now a b)) at out.old result out.new }
 {
-    let o = put::put_part(out, at, src, a, b);
+    let o = put::put_bytes(out, at, &src[a..b]);
     put::put_zeros(out, o, n - (b - a))
 }

@@ -34,12 +34,12 @@ module _ (s : List ℕ) (b : Booking) (k : Books s (message_in s) b) where
 -- ---- its posting lines
 
 module _ (s : List ℕ) (b : Booking) (k : Books s (message_in s) b) (day : ℕ) (p : P.Position) (text : List ℕ) {at r : ℕ} {out out' : List ℕ} where
-  pub transfer_posting : is_some (register text) ≡ true → b.transfer ≡ true → Wrote (from_bank (book_of (take 22 text) (record { day = day; bank = p.key.bank; date = p.key.date })) b.amount) at out r out'
+  pub transfer_posting : is_some (register text) ≡ true → b.transfer ≡ true → Wrote (from_bank (book_of (take 22 text) (record { day = day; key = record { bank = p.key.bank; date = p.key.date } })) b.amount) at out r out'
       → Wrote (postings (register_of text) (book_for day text (position_value p)) (message_in s)) at out r out'
   unfolding postings cut
   transfer_posting h e w = rw ((transfer_is s b k e).same, (transfer_is s b k e).sum) (rw (temporary_at_lem text h) w)
 
-  pub order_postings : b.transfer ≡ false → Wrote (detail_postings (register_of text) (book_by text (record { day = day; bank = p.key.bank; date = p.key.date })) (details_in s)) at out r out'
+  pub order_postings : b.transfer ≡ false → Wrote (detail_postings (register_of text) (book_by text (record { day = day; key = record { bank = p.key.bank; date = p.key.date } })) (details_in s)) at out r out'
       → Wrote (postings (register_of text) (book_for day text (position_value p)) (message_in s)) at out r out'
   unfolding postings details_of
   order_postings e w = rw (order_is s b k e).same (rw (order_is s b k e).same at w)

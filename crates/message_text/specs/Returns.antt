@@ -56,7 +56,7 @@ module _ (u : Due) (text s amounts places verdicts : List ℕ) (t : Progress) (d
     amount_is = rw e (d.from.amounts_kept.each i n.some)
 
     pub return_put : (r : Reference) (p : Position) {a : ℕ} {out out' : List ℕ}
-        → Wrote (return103 (book_of (take 22 text) (record { day = r.day; bank = p.key.bank; date = p.key.date })) r.number j.amount (past ":52D:" (span_of s j.branch)) (past ":50H:" (span_of s j.payer))) t.out out a out'
+        → Wrote (return103 (book_of (take 22 text) (record { day = r.day; key = record { bank = p.key.bank; date = p.key.date } })) r.number j.amount (past ":52D:" (span_of s j.branch)) (past ":50H:" (span_of s j.payer))) t.out out a out'
         → ReturnPut r p u text s verdicts t out (record { out = a; left = t.left - 1; first = t.first; listed = t.listed; returned = i + 1 }) out'
     unfolding cut
     return_put r p w = record {

@@ -4,7 +4,7 @@ ghost use Rattle.message_text.specs.Numbered.{NextDue, NextPut, MessagesDue, Mes
 
 use crate::returns::put_next_return;
 use crate::verdicts::put_part;
-use outgoing_number::{Numbered, Outgoing, Reference, issue};
+use outgoing_number::{Numbered, Outgoing, Reference};
 use position::Position;
 
 // What is due for a message.
@@ -81,7 +81,7 @@ pub fn put_messages(
         returned: 0,
     };
     while t.left > 0 {
-        let r = issue(&mut o);
+        let r = o.issue();
         t = put_next(out, t, r, p, due, text, s, amounts, places, verdicts);
     }
     Numbered {

@@ -34,11 +34,7 @@ pub fn put_postings(
     requires judged_in { JudgedIn text.now s.now amounts.now places.now verdicts.now b.count }
     ensures { Wrote (postings (register_of text.now) (book_for day text.now (position_value p)) (message_in s.now)) at out.old result out.new }
 {
-    let book = Book {
-        day,
-        bank: p.key.bank,
-        date: p.key.date,
-    };
+    let book = Book { day, key: p.key };
     if b.transfer {
         return put_from_bank(out, at, book, &text[0..22], b.amount);
     }

@@ -27,8 +27,7 @@ pub fn put_next_return(
 {
     let book = Book {
         day: r.day,
-        bank: p.key.bank,
-        date: p.key.date,
+        key: p.key,
     };
     let i = next_returned(verdicts, t.returned, due.details);
     let j = judged_at(amounts, places, verdicts, i);

@@ -48,7 +48,7 @@ pub fn put_part(
     let part = due.messages - t.left + 1;
     let n = due.details;
     let first = first_number(part, r, t.first);
-    let a = put_opened199(out, t.out, r.day, first, r.number, p.key.bank, part);
+    let a = put_opened199(out, t.out, r, first, p.key.bank, part);
     let b = put_position79(out, a, p.key.date, p.transferred, p.detailed);
     let c = put_listed(out, b, s, amounts, places, verdicts, t.listed, n, 14);
     let d = put_closed79(out, c.out, part, due.parts);

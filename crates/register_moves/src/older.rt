@@ -34,5 +34,5 @@ pub fn put_older(output: &mut [u8], text: &[u8]) -> usize
     requires { 5 ≤ length text.now }
     ensures { Wrote (without_end text.now) 0 output.old result output.new }
 {
-    put::put_part(output, 0, text, 0, text.len() - 5)
+    put::put_bytes(output, 0, &text[0..text.len() - 5])
 }

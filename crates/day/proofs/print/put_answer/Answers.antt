@@ -1,4 +1,5 @@
 -- Number, comma, difference, end of line, and the bytes written, one behind the other.
+use Rattle.put.specs.Laying.{wrote_cut}
 use Rattle.day.specs.Told.{answer_wrote}
 use Rattle.day.specs.Told.{telling}
 use borrow.Author.Rules.{rules}
@@ -19,11 +20,8 @@ put_signed-q-requires c = search (telling, rules)
 pub put_end-r-requires : goal.put_end-r-requires
 put_end-r-requires c = search (telling, rules)
 
-pub put_part-requires : goal.put_part-requires
-put_part-requires c = search (telling, rules)
-
 pub shape_of-printed : goal.shape_of-printed
 shape_of-printed c = search (telling, rules)
 
 pub returns : goal.returns
-returns c = answer_wrote (c.args.a) _ c.requires.difference_bound c.put_decimal-o.ensures c.put_byte-p.ensures c.put_signed-q.ensures c.put_end-r.ensures c.put_part.ensures
+returns c = answer_wrote (c.args.a) _ c.requires.difference_bound c.put_decimal-o.ensures c.put_byte-p.ensures c.put_signed-q.ensures c.put_end-r.ensures (wrote_cut _ _ _ c.put_bytes.ensures)
