@@ -15,16 +15,12 @@ pub fn zeros_at(s: &[u8], a: usize, n: u32) -> u32
     requires { a + n ≤ length s.now }
     ensures { Passed is_zero s.now a n result }
 {
-    let mut k: u32 = 0;
-    while k < n {
-        let zero = s[a + k as usize] == 0;
-        if zero {
-            k += 1;
-        } else {
+    for k in 0..n {
+        if s[a + k as usize] != 0 {
             return k;
         }
     }
-    k
+    n
 }
 
 // The or of the four bytes there.
@@ -49,15 +45,12 @@ fn eights_at(s: &[u8], a: usize, n: u32) -> u32
     requires n_in_bounds { a + 8 * n ≤ length s.now }
     ensures { eqb result n ≡ every is_zero (cut s.now a (a + 8 * n)) }
 {
-    let mut k: u32 = 0;
-    while k < n {
-        if eight_zero(s, a + (8 * k) as usize) {
-            k += 1;
-        } else {
+    for k in 0..n {
+        if !eight_zero(s, a + (8 * k) as usize) {
             return k;
         }
     }
-    k
+    n
 }
 
 // Is each byte from a up to b zero?

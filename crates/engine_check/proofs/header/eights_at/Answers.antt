@@ -9,8 +9,8 @@ loop-k-init c = search (add-zero, rules)
 pub loop-k-preserved : goal.loop-k-preserved
 loop-k-preserved c = search (eights, rules)
 
-pub returns-else-eight_zero : goal.returns-else-eight_zero
-returns-else-eight_zero c = search (eights, rules)
+pub returns-then-not-eight_zero : goal.returns-then-not-eight_zero
+returns-then-not-eight_zero c = search (eights, rules)
 
 pub returns : goal.returns
 returns c = search (eights, rules)

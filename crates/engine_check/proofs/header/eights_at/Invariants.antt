@@ -8,6 +8,3 @@ use Rattle.engine_check.proofs.header.eights_at.Given as goal
 
 abbrev pub invariant-loop-k : goal.invariant-loop-k
 invariant-loop-k l = (l.k ≤ l.n) × (every is_zero (cut l.s (l.a + 8 * l.k) (l.a + 8 * l.n)) ≡ every is_zero (cut l.s l.a (l.a + 8 * l.n)))
-
-abbrev pub decreases-loop-k : goal.decreases-loop-k
-decreases-loop-k l = l.n - l.k

@@ -10,9 +10,9 @@ pub loop-k-preserved : goal.loop-k-preserved
 unfolding is_zero
 loop-k-preserved c = search (placing, rules)
 
-pub returns-else-zero : goal.returns-else-zero
+pub returns-then-s-a-ne0 : goal.returns-then-s-a-ne0
 unfolding is_zero
-returns-else-zero c = search (placing, rules)
+returns-then-s-a-ne0 c = search (placing, rules)
 
 pub returns : goal.returns
 returns c = search (placing, rules)
