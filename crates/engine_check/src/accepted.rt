@@ -6,7 +6,7 @@ ghost use Rattle.engine_laws.specs.Walk.{walk, always};
 ghost use Rattle.engine_laws.specs.Tests.{text_fits, reference_test, filed_test, references_test};
 ghost use Rattle.engine_laws.specs.Texts.{ended_fits};
 
-use crate::header::{zeros_at, zeros_hold};
+use crate::header::zeros_hold;
 use crate::records::each_passes;
 use engine::layout::{FIRST_POSITION, FIRST_REFERENCE, RECORD, REFERENCES, SIZE, TEXT};
 
@@ -23,7 +23,7 @@ fn ended_fits(s: &[u8], a: usize, n: u32) -> bool
     if references::is_slashed(s, a, end) {
         return false;
     }
-    zeros_at(s, end, 16 - n) == 16 - n
+    zeros_hold(s, end, end + (16 - n) as usize)
 }
 
 // Do the 16 bytes at a hold a reference's text?
