@@ -1,5 +1,5 @@
 -- A message, one law for each way out of the call.
-use Rattle.std.specs.Prelude.{◌≡◌, Bool, true, false, not, List, ◌++◌, ℕ, ◌+◌, ◌≤◌, ◌<◌, ◌^◌, eqb, ℤ, pos, Err, length, drop, replicate}
+use Rattle.std.specs.Prelude.{◌≡◌, Bool, true, false, not, List, ◌++◌, ℕ, ◌+◌, ◌-◌, ◌≤◌, ◌<◌, ◌^◌, eqb, ℤ, pos, length, take, drop, replicate, Option, Err}
 use Rattle.std.proofs.Math.Path.{refl}
 use Rattle.std.proofs.Common.{sym, ap, ◌∙◌, le-leb, ne_eqb, arith}
 use Rattle.std.proofs.Math.Option.{some}
@@ -17,11 +17,10 @@ use Rattle.laws.specs.Writing.{wrote_over, furthest}
 use Rattle.rule_laws.specs.Conditions.{numbered, first_later, first_earlier}
 use Rattle.rule_laws.specs.Clear.{LimitClear, limit_clear}
 use Rattle.engine_laws.specs.Decoded.{decoded, holds_decode}
-use Rattle.engine.specs.Totals.{TotalsOf}
+use Rattle.engine.specs.Totals.{TotalsOf, begun}
 use Rattle.engine.specs.Texts.{RegisterOf}
-use Rattle.engine.specs.declared.lookup.Totals.{Totals}
 use Rattle.engine_change.specs.Booking.{CanBook, booking_clear, booked_with, booked_after}
-use Rattle.engine.specs.References.{of_bank}
+use Rattle.engine.specs.References.{of_bank, part_is}
 use Rattle.outgoing_number.specs.declared.Numbered.{Numbered}
 use Rattle.details.specs.Message.{message_in}
 use Rattle.conditions.specs.Books.{Books}
@@ -118,7 +117,7 @@ pub record Ready (s a : List ℕ) (b : Booking) (p : P.Position) (due : Due) (am
   pub leaves : Leaves a s p
   pub dues : DueIn (decode a) (message_in s) due
 
-pub leaves_told : (a s : List ℕ) (b : Booking) → Books s (message_in s) b → (x : Totals) → TotalsOf (decode a).positions (key_value b.key) x → (p : P.Position) → AfterOf b x p → Leaves a s p
+pub leaves_told : (a s : List ℕ) (b : Booking) → Books s (message_in s) b → (x : Option P.Position) → TotalsOf (decode a).positions b.key x → (p : P.Position) → AfterOf b (begun b.key x) p → Leaves a s p
 leaves_told a s b k x y p q = record {
   same = after_is a s b k x y p q;
   transferred_small = omega (arith, q.transferred, y.transferred_small, amount_part b.transfer b.amount, k.small);
@@ -158,8 +157,8 @@ module _ (s area : List ℕ) (h : is_some (holds area) ≡ true) where
 
       -- the area with the message
       pub booked_done : {a' : List ℕ} {w : ℕ} → w ≡ (decode area).count + messages_written (decode area) (message_in s)
-          → a' ≡ encode (booked_with (decode area) (position_value p) (of_bank p.key.bank (cut s b.reference.start b.reference.end)) w) ++ drop area_size area → AreaBooked s area a'
-      booked_done f c = record { area = c ∙ rw (position_is, bank_is, k.reference, f, booked_after) refl }
+          → a' ≡ encode (booked_with (decode area) (position_value p) (of_bank p.key.bank (take (b.reference.end - b.reference.start) (drop b.reference.start s))) w) ++ drop area_size area → AreaBooked s area a'
+      booked_done f c = record { area = c ∙ rw (part_is s b.reference.start b.reference.end k.order, position_is, bank_is, k.reference, f, booked_after) refl }
 
 pub sent_done : {s area : List ℕ} {b : Booking} {p : P.Position} {due : Due} {amounts places verdicts : List ℕ} → Ready s area b p due amounts places verdicts → {out out' a' : List ℕ} {r : Numbered} {z : ℤ} → length (message_text (decode area) (message_in s)) ≤ length out
     → TextPut (decode area) (message_in s) 0 out r out' → z ≡ sub_ℕ p.transferred p.detailed → AreaBooked s area a' → Sent s area out r.at z a' out'

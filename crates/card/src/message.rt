@@ -57,9 +57,7 @@ fn book_in(message: &[u8], area: &mut [u8], b: Booking, count: u32)
     let reference = b.reference;
     engine_change::book_area(
         area,
-        message,
-        reference.start as usize,
-        reference.end as usize,
+        &message[reference.start as usize..reference.end as usize],
         state_conditions::added_by(b),
         count,
     );

@@ -1,5 +1,5 @@
 -- The text of a message that is booked, off its bytes and the area.
-use Rattle.std.specs.Prelude.{◌≡◌, Bool, not, cond, ℕ, ◌+◌, ◌≤◌, leb}
+use Rattle.std.specs.Prelude.{◌≡◌, Bool, not, cond, ℕ, ◌+◌, ◌≤◌, leb, Option}
 use Rattle.std.proofs.Math.Path.{refl, ap}
 use Rattle.std.proofs.Common.{sym, ◌∙◌, arith}
 use Rattle.std.proofs.Math.Bool.{true, false}
@@ -14,11 +14,10 @@ use Rattle.rules.specs.Written.{mt199s, parts_of, verdicts, returns}
 use Rattle.rules.specs.Calls.{bank_of, has_verdict, position_after, returned_details, listed_details, message_book, postings, message_text, parts_written, messages_written}
 use Rattle.rules.specs.Area.{decode}
 use Rattle.laws.specs.Writing.{Wrote, wrote_then}
-use Rattle.engine.specs.Totals.{TotalsOf}
+use Rattle.engine.specs.Totals.{TotalsOf, begun, total_transferred, total_detailed}
 use Rattle.engine.specs.Header.{HeaderOf}
 use Rattle.engine.specs.Texts.{RegisterOf}
 use Rattle.engine.specs.declared.header.Header.{Header}
-use Rattle.engine.specs.declared.lookup.Totals.{Totals}
 use Rattle.details.specs.Message.{message_in}
 use Rattle.conditions.specs.Books.{Books, amount_if}
 use Rattle.conditions.specs.declared.booking.Booking.{Booking}
@@ -35,7 +34,7 @@ use Rattle.message_text.specs.declared.numbered.Due.{Due}
 
 -- ---- the position as the message leaves it
 
-pub record AfterOf (b : Booking) (x : Totals) (p : P.Position) : Type 0 where
+pub record AfterOf (b : Booking) (x p : P.Position) : Type 0 where
   pub key : p.key ≡ b.key
   pub transferred : p.transferred ≡ x.transferred + amount_if b.transfer b.amount
   pub detailed : p.detailed ≡ x.detailed + amount_if (not b.transfer) b.amount
@@ -107,9 +106,9 @@ module _ (a s : List ℕ) (b : Booking) (k : Books s (message_in s) b) (p : P.Po
 
 -- ---- the position as the message leaves it is the paper's
 
-pub after_is : (a s : List ℕ) (b : Booking) → Books s (message_in s) b → (x : Totals) → TotalsOf (decode a).positions (key_value b.key) x → (p : P.Position) → AfterOf b x p → position_value p ≡ position_after (decode a) (message_in s)
+pub after_is : (a s : List ℕ) (b : Booking) → Books s (message_in s) b → (x : Option P.Position) → TotalsOf (decode a).positions b.key x → (p : P.Position) → AfterOf b (begun b.key x) p → position_value p ≡ position_after (decode a) (message_in s)
 unfolding position_after
-after_is a s b k x y p q = rw (q.key, q.transferred, q.detailed, y.transferred, y.detailed, ← k.transferred, ← k.detailed, k.key)
+after_is a s b k x y p q = rw (q.key, q.transferred, q.detailed, total_transferred y, total_detailed y, ← k.transferred, ← k.detailed, k.key)
 
 -- ---- the text
 

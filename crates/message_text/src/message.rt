@@ -7,6 +7,7 @@ ghost use Rattle.details.specs.Message.{message_in};
 ghost use Rattle.conditions.specs.Books.{Books};
 ghost use Rattle.verdict.specs.Details.{JudgedIn};
 ghost use Rattle.position.specs.Values.{position_value};
+ghost use Rattle.engine.specs.Totals.{begun};
 ghost use Rattle.message_text.specs.Message.{AfterOf, PartsFor, DueFor, DueIn, TextPut, verdict_follows};
 
 use crate::numbered::{Due, put_messages};
@@ -14,19 +15,20 @@ use crate::postings::put_postings;
 use crate::verdicts::parts_of;
 use conditions::Booking;
 use detail_lines::Counts;
-use engine::{Totals, header_of, register_text};
+use engine::{header_of, register_text};
 use outgoing_number::Numbered;
 use position::Position;
 use state_conditions::{detailed_by, transferred_by};
 
-// The position as the message leaves it, from its totals before.
-pub fn position_after(b: Booking, x: Totals) -> Position
-    requires transferred_bound { x.transferred < 2 ^ 48 }
-    requires detailed_bound { x.detailed < 2 ^ 48 }
+// The position as the message leaves it, where it was open or missing before.
+pub fn position_after(b: Booking, before: Option<Position>) -> Position
+    requires transferred_bound { (begun b.key before).transferred < 2 ^ 48 }
+    requires detailed_bound { (begun b.key before).detailed < 2 ^ 48 }
     requires amount_bound { b.amount ≤ 16 * 10 ^ 16 }
-    ensures { AfterOf b x result }
+    ensures { AfterOf b (begun b.key before) result }
 {
     let key = b.key;
+    let x = before.unwrap_or(Position::empty(key));
     Position {
         key,
         transferred: x.transferred + transferred_by(b),
