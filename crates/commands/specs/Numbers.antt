@@ -346,14 +346,6 @@ module _ (part : List ℕ) where
       pub room_read : v ≤ 1048576 → some v ≡ room_of part
       room_read m = sym (room_is ∙ rw (← w, le-leb _ _ m))
 
-pub room_small : (part : List ℕ) (v : ℕ) → some v ≡ room_of part → v ≤ 1048576
-unfolding room_of
-room_small part v u = go (leb 1 (length part) && leb (length part) 7) (sym u)
-  where
-    go : (t : Bool) → cond t (then (digits part) (λ n. given (leb n 1048576) n)) none ≡ some v → v ≤ 1048576
-    go true k = given_within (digits part) 1048576 v k
-    go false k = none_some k
-
 -- a number that is no larger takes a further digit
 pub length_room : (v : ℕ) → v ≤ 8192 → v < power 10 17
 unfolding power

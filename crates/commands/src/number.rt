@@ -1,5 +1,5 @@
 // Days and lengths of command lines.
-ghost use Rattle.std.specs.Prelude.{◌≡◌, ◌==◌, ◌≤◌, length, position};
+ghost use Rattle.std.specs.Prelude.{◌≡◌, ◌==◌, ◌≤◌, IfSome, length, position};
 ghost use Rattle.rules.specs.Text.{digits};
 ghost use Rattle.rules.specs.Replay.{length_of, parted_lengths, six_digits};
 ghost use Rattle.laws.specs.Told.{told};
@@ -67,7 +67,8 @@ pub fn six_digits(part: &[u8]) -> Option<u64>
 
 // A room of the output: one to seven digits, at most 1,048,576.
 pub fn read_room(part: &[u8]) -> Option<usize>
-    ensures { told result ≡ room_of part.now }
+    ensures value { told result ≡ room_of part.now }
+    ensures within { IfSome result (λ room. room ≤ 1048576) }
 {
     if part.is_empty() || part.len() > 7 {
         return None;

@@ -2,16 +2,15 @@
 use borrow.Author.Rules.{rules}
 use Rattle.commands.specs.Numbers.{room_empty, room_long, room_bad, room_large, room_read}
 use Rattle.commands.proofs.number.read_room.Goals as goal
-use Rattle.commands.proofs.number.read_room.Goals.{then-is_empty-via-then-is_empty, then-is_empty-via-else-is_empty+then-part-gt7}
 
 pub returns-then-is_empty : goal.returns-then-is_empty
 returns-then-is_empty c = search (room_empty, room_long, rules)
 
 pub returns-in_err-room : goal.returns-in_err-room
-returns-in_err-room c = rw c.from_residual.ensures (room_bad _ (search rules) c.if-part-gt7.false c.in_err-room.ensures)
+returns-in_err-room c = rw c.from_residual.ensures record { value = room_bad _ (search rules) c.if-part-gt7.false c.in_err-room.ensures; within = tt }
 
 pub returns-then-room-gt1048576 : goal.returns-then-room-gt1048576
-returns-then-room-gt1048576 c = room_large _ (search rules) c.if-part-gt7.false c.in_ok-room.ensures c.if-room-gt1048576.true
+returns-then-room-gt1048576 c = record { value = room_large _ (search rules) c.if-part-gt7.false c.in_ok-room.ensures c.if-room-gt1048576.true; within = tt }
 
 pub returns : goal.returns
-returns c = room_read _ (search rules) c.if-part-gt7.false c.in_ok-room.ensures c.if-room-gt1048576.false
+returns c = record { value = room_read _ (search rules) c.if-part-gt7.false c.in_ok-room.ensures c.if-room-gt1048576.false; within = c.if-room-gt1048576.false }
