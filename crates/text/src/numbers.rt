@@ -56,18 +56,15 @@ pub fn digits_value(s: &[u8], a: usize, n: u32) -> u64
     small_digits(s, a, h) as u64 * 1000000000 + small_digits(s, a + h as usize, 9) as u64
 }
 
-// The number of the digits from a up to b, 18 of them at most.
-pub fn read_digits(s: &[u8], a: usize, b: usize) -> Option<u64>
-    requires a_le_b { a ≤ b }
-    requires b_in_bounds { b ≤ length s.now }
-    requires a_bound { b - a ≤ 18 }
-    ensures { told result ≡ digits (cut s.now a b) }
+// The number of some digits, 18 of them at most.
+pub fn read_digits(s: &[u8]) -> Option<u64>
+    requires { length s.now ≤ 18 }
+    ensures { told result ≡ digits s.now }
 {
-    let n = (b - a) as u32;
-    if !is_all::<Digit>(&s[a..b]) {
+    if !is_all::<Digit>(s) {
         return None;
     }
-    Some(digits_value(s, a, n))
+    Some(digits_value(s, 0, s.len() as u32))
 }
 
 // The number v with a byte behind it.
