@@ -4,6 +4,8 @@ ghost use Rattle.rules.specs.Replay.{length_of, parted_lengths, six_digits};
 ghost use Rattle.laws.specs.Told.{told};
 ghost use Rattle.commands.specs.Numbers.{lengths_in, room_of};
 
+use text::{Class, Digit};
+
 // A length: one or more digits, at most 8192.
 pub fn read_length(part: &[u8]) -> Option<u64>
     ensures { told result ≡ length_of part.now }
@@ -13,7 +15,7 @@ pub fn read_length(part: &[u8]) -> Option<u64>
     }
     let mut n: u64 = 0;
     for &c in part {
-        if !text::is_digit(c) {
+        if !Digit::has(c) {
             return None;
         }
         n = text::with_digit(n, c);

@@ -24,7 +24,7 @@ fn next_length(w: &[u8], p: usize) -> Option<usize>
     requires narrow { length w.now ≤ 1048576 }
     ensures { NextLength w.now p result }
 {
-    let e = p + text::digits_at(w, p, (w.len() - p) as u32) as usize;
+    let e = p + text::leading_at::<text::Digit>(w, p, (w.len() - p) as u32) as usize;
     if e < w.len() && w[e] == b',' {
         return Some(e + 1);
     }

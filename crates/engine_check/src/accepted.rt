@@ -31,7 +31,7 @@ fn text_fits(s: &[u8], a: usize) -> bool
     requires { a + 16 ≤ length s.now }
     ensures { result ≡ text_fits (cut s.now a (a + 16)) }
 {
-    ended_fits(s, a, text::texts_at(s, a, 16))
+    ended_fits(s, a, text::leading_at::<text::Text>(s, a, 16))
 }
 
 // Is the record there a bank's reference?

@@ -11,7 +11,7 @@ use Rattle.laws.specs.Parts.{cut}
 use Rattle.laws.specs.Tests.{and_right, not_holds}
 use Rattle.laws.specs.Told.{told}
 use Rattle.std.specs.Prelude as P
-use Rattle.std.specs.Prelude.{Some, None}
+use Rattle.std.specs.Prelude.{Some, None, unwrap_or}
 use Rattle.account.specs.Part.{part_at}
 use Rattle.register_lines.specs.AccountLine.{bound}
 use Rattle.register_lines.specs.Places.{ends_at, bound_at, account_stands, first_in}
@@ -19,14 +19,13 @@ use Rattle.register_lines.specs.Formed.{bounds_at, form_bounds}
 use Rattle.register_lines.specs.Forms.{ends_room}
 
 -- a bound, as its digits were read
-module _ (s : List ℕ) (at : ℕ) (q : P.Option ℕ) (e : told q ≡ digits (cut s at (at + 6))) where
-  pub bound_read : (n : ℕ) → q ≡ Some n → n ≡ bound_at s at
-  unfolding bound_at bound
-  bound_read n w = rw (← e, w)
+bound_known : (s : List ℕ) (at : ℕ) (q : P.Option ℕ) → told q ≡ digits (cut s at (at + 6)) → unwrap_or q 0 ≡ bound_at s at
+unfolding bound_at bound
+bound_known s at (Some n) e = rw (← e)
+bound_known s at None e = rw (← e)
 
-  pub bound_none : q ≡ None → 0 ≡ bound_at s at
-  unfolding bound_at bound
-  bound_none w = rw (← e, w)
+pub bound_read : (s : List ℕ) (at : ℕ) (q : P.Option ℕ) → told q ≡ digits (take (at + 6 - at) (drop at s)) → unwrap_or q 0 ≡ bound_at s at
+bound_read s at q e = bound_known s at q (rw (part_at s at 6) at e)
 
 -- the first line has its room
 pub first_room : (s : List ℕ) → first_in s ≡ true → 24 ≤ length s
@@ -81,4 +80,4 @@ module _ (s : List ℕ) (at : ℕ) (l : at + 38 ≤ length s) (t : Bool) (u : t 
           pub line_ordered : not t₃ ≡ false → (r : Bool) → r ≡ leb (bound_at s (at + 22 + 1)) (bound_at s (at + 22 + 8)) → r ≡ account_stands s at
           line_ordered d₃ r e = rw (behind, ← u₂, not-false t₂ d₂, ← u₃, not-false t₃ d₃) e
 
-pub ruleset lines = (bound_read, bound_none, first_short, first_passes, first_fails, line_unpassed, line_unbounded, line_unended, line_ordered)
+pub ruleset lines = (bound_read, first_short, first_passes, first_fails, line_unpassed, line_unbounded, line_unended, line_ordered)

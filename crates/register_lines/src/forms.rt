@@ -5,7 +5,7 @@ ghost use Rattle.register_lines.specs.Forms.{FormOf, account_form_of, code_form_
 ghost use Rattle.register_lines.specs.Counts.{LinesFrom};
 
 use crate::lines::{bounds_at, ends_at, in_order};
-use text::{alnums_at, digits_at};
+use text::{Alnum, Digit, leading_at};
 
 // A form of lines.
 pub trait LineForm {
@@ -76,13 +76,13 @@ impl LineForm for CodeLine {
 
     // Ten digits, a comma, 22 letters or digits, its end?
     fn stands(text: &[u8], at: usize) -> bool {
-        if digits_at(text, at, 10) < 10 {
+        if leading_at::<Digit>(text, at, 10) < 10 {
             return false;
         }
         if text[at + 10] != b',' {
             return false;
         }
-        if alnums_at(text, at + 11, 22) < 22 {
+        if leading_at::<Alnum>(text, at + 11, 22) < 22 {
             return false;
         }
         ends_at(text, at + 33)

@@ -3,16 +3,12 @@ ghost use Rattle.std.specs.Prelude.{◌≡◌, true, ◌+◌, ◌≤◌, leb, le
 ghost use Rattle.register_lines.specs.Places.{ends_at, bound_at, first_in};
 ghost use Rattle.register_lines.specs.Formed.{bounds_at};
 
-
 // The bound at a place: six digits.
 pub fn bound_at(text: &[u8], at: usize) -> u64
     requires { at + 6 ≤ length text.now }
     ensures { result ≡ bound_at text.now at }
 {
-    match text::read_digits(text, at, at + 6) {
-        Some(n) => n,
-        None => 0,
-    }
+    text::read_digits(&text[at..at + 6]).unwrap_or(0)
 }
 
 // Do two bounds of six digits stand there, a comma before each?
@@ -23,13 +19,13 @@ pub fn bounds_at(text: &[u8], at: usize) -> bool
     if text[at] != b',' {
         return false;
     }
-    if text::digits_at(text, at + 1, 6) < 6 {
+    if text::leading_at::<text::Digit>(text, at + 1, 6) < 6 {
         return false;
     }
     if text[at + 7] != b',' {
         return false;
     }
-    text::digits_at(text, at + 8, 6) == 6
+    text::leading_at::<text::Digit>(text, at + 8, 6) == 6
 }
 
 // Is the first of them at most the second?

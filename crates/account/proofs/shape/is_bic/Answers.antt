@@ -6,8 +6,8 @@ use Rattle.account.proofs.shape.is_bic.Goals as goal
 pub returns-then-s-ne8 : goal.returns-then-s-ne8
 returns-then-s-ne8 c = search (shapes, rules)
 
-pub returns-then-letters_at-eq6 : goal.returns-then-letters_at-eq6
-returns-then-letters_at-eq6 c = search (shapes, rules)
+pub returns-then-leading_at-eq6 : goal.returns-then-leading_at-eq6
+returns-then-leading_at-eq6 c = search (shapes, rules)
 
-pub returns-else-letters_at-eq6 : goal.returns-else-letters_at-eq6
-returns-else-letters_at-eq6 c = search (shapes, rules)
+pub returns-else-leading_at-eq6 : goal.returns-else-leading_at-eq6
+returns-else-leading_at-eq6 c = search (shapes, rules)
