@@ -28,7 +28,7 @@ fn account_count(text: &[u8]) -> u32
     0
 }
 
-// The account line of an IBAN, counted from 0.
+// The account line of an IBAN, counted from 0. It is compared from the last byte on, where IBANs of one bank differ: `==` of slices begins with the first.
 pub fn find_account(text: &[u8], iban: &[u8]) -> Option<usize>
     requires passes { is_some (register text.now) ≡ true }
     requires size { length iban.now ≡ 22 }
@@ -100,7 +100,7 @@ pub fn account_place(text: &[u8], i: usize) -> usize
     (FIRST_LINE + ACCOUNT_LINE * i as u32) as usize
 }
 
-// Its low bound.
+// Its low bound. (Low and high are two functions: one over the offset would tell by a number which bound it reads.)
 pub fn account_low(text: &[u8], i: usize) -> u64
     requires passes { is_some (register text.now) ≡ true }
     requires listed { i < length (register_of text.now).accounts }
