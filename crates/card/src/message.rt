@@ -141,9 +141,8 @@ fn book_message(
     *written = 0;
     *difference = 0;
     let x = engine::totals_of(area, b.key);
-    let k = state_conditions::state_number(message, area, b, x);
-    if k > 0 {
-        return k;
+    if let Err(refusal) = state_conditions::state_number(message, area, b, x) {
+        return refusal.number();
     }
     let p = message_text::position_after(b, x);
     send_message(
