@@ -9,8 +9,8 @@ use written::Book;
 
 // The output up to a place.
 fn say(rt: &impl Print, out: &[u8], n: usize) -> io::Result<()> {
-    if n <= out.len() {
-        rt.write_all(&out[0..n])?;
+    if let Some(text) = out.get(..n) {
+        rt.write_all(text)?;
     }
     Ok(())
 }
@@ -20,7 +20,7 @@ fn try_postings(rt: &impl Print) -> io::Result<()> {
     let mut out = [0u8; 256];
     let book = Book {
         day: 60302,
-        bank: text::read_be(b"AAAABGSF", 0, 8),
+        bank: u64::from_be_bytes(*b"AAAABGSF"),
         date: 60302,
     };
     let a = written::put_from_bank(&mut out, 0, book, b"BG80BNBG96611020345678", 10000);
@@ -39,7 +39,7 @@ fn try_postings(rt: &impl Print) -> io::Result<()> {
 // A turn to 040607.
 fn try_turn(rt: &impl Print) -> io::Result<()> {
     let mut out = [0u8; 1024];
-    let bank = text::read_be(b"ZHSRPL8S", 0, 8);
+    let bank = u64::from_be_bytes(*b"ZHSRPL8S");
     let p = Position {
         key: Key { bank, date: 40305 },
         transferred: 0,
@@ -60,7 +60,7 @@ fn try_turn(rt: &impl Print) -> io::Result<()> {
 // The listing's MT199, without its returned detail.
 fn try_only_part(rt: &impl Print) -> io::Result<()> {
     let mut out = [0u8; 256];
-    let bank = text::read_be(b"AAAABGSF", 0, 8);
+    let bank = u64::from_be_bytes(*b"AAAABGSF");
     let a = written::put_opened199(&mut out, 0, 60302, 1, 1, bank, 1);
     let b = written::put_position79(&mut out, a, 60302, 10000, 11400);
     let c = written::put_closed79(&mut out, b, 1, 1);
@@ -70,7 +70,7 @@ fn try_only_part(rt: &impl Print) -> io::Result<()> {
 // The second part of an MT199 whose first is 000003.
 fn try_second_part(rt: &impl Print) -> io::Result<()> {
     let mut out = [0u8; 256];
-    let bank = text::read_be(b"FBBMXFIK", 0, 8);
+    let bank = u64::from_be_bytes(*b"FBBMXFIK");
     let a = written::put_opened199(&mut out, 0, 51108, 3, 4, bank, 2);
     let b = written::put_position79(&mut out, a, 51108, 0, 39876122005479);
     let c = written::put_closed79(&mut out, b, 2, 2);
@@ -98,7 +98,7 @@ fn say_return(
 fn try_return(rt: &impl Print) -> io::Result<()> {
     let book = Book {
         day: 60302,
-        bank: text::read_be(b"AAAABGSF", 0, 8),
+        bank: u64::from_be_bytes(*b"AAAABGSF"),
         date: 60302,
     };
     say_return(
@@ -116,7 +116,7 @@ fn try_return(rt: &impl Print) -> io::Result<()> {
 fn try_small_return(rt: &impl Print) -> io::Result<()> {
     let book = Book {
         day: 40607,
-        bank: text::read_be(b"ZHSRPL8S", 0, 8),
+        bank: u64::from_be_bytes(*b"ZHSRPL8S"),
         date: 40305,
     };
     say_return(
@@ -134,7 +134,7 @@ fn try_small_return(rt: &impl Print) -> io::Result<()> {
 fn try_large_return(rt: &impl Print) -> io::Result<()> {
     let book = Book {
         day: 51108,
-        bank: text::read_be(b"FBBMXFIK", 0, 8),
+        bank: u64::from_be_bytes(*b"FBBMXFIK"),
         date: 51107,
     };
     say_return(
