@@ -10,8 +10,8 @@ use written::Book;
 
 // The output up to a place.
 fn say(rt: &impl Print, out: &[u8], n: usize) -> io::Result<()> {
-    if n <= out.len() {
-        rt.write_all(&out[0..n])?;
+    if let Some(text) = out.get(..n) {
+        rt.write_all(text)?;
     }
     Ok(())
 }
@@ -22,7 +22,7 @@ fn try_postings(rt: &impl Print) -> io::Result<()> {
     let book = Book {
         day: 60302,
         key: Key {
-            bank: text::read_be(b"AAAABGSF", 0, 8),
+            bank: u64::from_be_bytes(*b"AAAABGSF"),
             date: 60302,
         },
     };
@@ -42,7 +42,7 @@ fn try_postings(rt: &impl Print) -> io::Result<()> {
 // A turn to 040607.
 fn try_turn(rt: &impl Print) -> io::Result<()> {
     let mut out = [0u8; 1024];
-    let bank = text::read_be(b"ZHSRPL8S", 0, 8);
+    let bank = u64::from_be_bytes(*b"ZHSRPL8S");
     let p = Position {
         key: Key { bank, date: 40305 },
         transferred: 0,
@@ -71,12 +71,8 @@ fn try_turn(rt: &impl Print) -> io::Result<()> {
 // The listing's MT199, without its returned detail.
 fn try_only_part(rt: &impl Print) -> io::Result<()> {
     let mut out = [0u8; 256];
-    let bank = text::read_be(b"AAAABGSF", 0, 8);
-    let r = Reference {
-        day: 60302,
-        number: 1,
-    };
-    let a = written::put_opened199(&mut out, 0, r, 1, bank, 1);
+    let bank = u64::from_be_bytes(*b"AAAABGSF");
+    let a = written::put_opened199(&mut out, 0, 60302, 1, 1, bank, 1);
     let b = written::put_position79(&mut out, a, 60302, 10000, 11400);
     let c = written::put_closed79(&mut out, b, 1, 1);
     say(rt, &out, c)
@@ -85,12 +81,8 @@ fn try_only_part(rt: &impl Print) -> io::Result<()> {
 // The second part of an MT199 whose first is 000003.
 fn try_second_part(rt: &impl Print) -> io::Result<()> {
     let mut out = [0u8; 256];
-    let bank = text::read_be(b"FBBMXFIK", 0, 8);
-    let r = Reference {
-        day: 51108,
-        number: 4,
-    };
-    let a = written::put_opened199(&mut out, 0, r, 3, bank, 2);
+    let bank = u64::from_be_bytes(*b"FBBMXFIK");
+    let a = written::put_opened199(&mut out, 0, 51108, 3, 4, bank, 2);
     let b = written::put_position79(&mut out, a, 51108, 0, 39876122005479);
     let c = written::put_closed79(&mut out, b, 2, 2);
     say(rt, &out, c)
@@ -118,7 +110,7 @@ fn try_return(rt: &impl Print) -> io::Result<()> {
     let book = Book {
         day: 60302,
         key: Key {
-            bank: text::read_be(b"AAAABGSF", 0, 8),
+            bank: u64::from_be_bytes(*b"AAAABGSF"),
             date: 60302,
         },
     };
@@ -138,7 +130,7 @@ fn try_small_return(rt: &impl Print) -> io::Result<()> {
     let book = Book {
         day: 40607,
         key: Key {
-            bank: text::read_be(b"ZHSRPL8S", 0, 8),
+            bank: u64::from_be_bytes(*b"ZHSRPL8S"),
             date: 40305,
         },
     };
@@ -158,7 +150,7 @@ fn try_large_return(rt: &impl Print) -> io::Result<()> {
     let book = Book {
         day: 51108,
         key: Key {
-            bank: text::read_be(b"FBBMXFIK", 0, 8),
+            bank: u64::from_be_bytes(*b"FBBMXFIK"),
             date: 51107,
         },
     };
