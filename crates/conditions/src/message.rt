@@ -15,6 +15,7 @@ use field_conditions::transfer_stop;
 use forms::{MESSAGE_20, behind, read_rows, read_transfer};
 use lines::is_framed;
 use text::equal_parts;
+use verdict::Judged;
 
 // What the check of a message answers.
 #[derive(Clone, Copy)]
@@ -47,22 +48,18 @@ fn check_transfer(s: &[u8], temporary: &[u8]) -> Checked
 fn check_order(
     s: &[u8],
     text: &[u8],
-    amounts: &mut [u64; 16],
-    places: &mut [u16; 128],
-    verdicts: &mut [u8; 16],
+    kept: &mut [Judged; 16],
 ) -> Checked
     requires in_bounds { 23 ≤ length s.now }
     requires s_len_bound { length s.now ≤ 4096 }
-    requires judging_room { JudgingRoom text.now amounts.old places.old verdicts.old }
-    ensures { CheckedBy s.now text.now (read_order s.now) result amounts.new places.new verdicts.new }
+    requires judging_room { JudgingRoom text.now kept.old }
+    ensures { CheckedBy s.now text.now (read_order s.now) result kept.new }
 {
     let rows = read_rows(s, 23, 0, 1);
     if rows.ok {
         let line = rows.spans[MESSAGE_20];
-        let mut fields = [0u16; 32];
-        let t = tally_details(s, rows.next, text, amounts, places, verdicts, &mut fields);
-        if t.ok {
-            let k = order_stop(s, line, &fields, t);
+        if let Some(t) = tally_details(s, rows.next, text, kept) {
+            let k = order_stop(s, line, kept, t);
             if k == 0 {
                 let reference = behind(line, 4);
                 return Checked::Passed(booking_of(s, false, reference, t.date, t.sum, t.count));
@@ -101,12 +98,10 @@ fn is_addressed(s: &[u8]) -> bool
 pub fn check_message(
     s: &[u8],
     text: &[u8],
-    amounts: &mut [u64; 16],
-    places: &mut [u16; 128],
-    verdicts: &mut [u8; 16],
+    kept: &mut [Judged; 16],
 ) -> Checked
-    requires { JudgingRoom text.now amounts.old places.old verdicts.old }
-    ensures { CheckedAs s.now text.now result amounts.new places.new verdicts.new }
+    requires { JudgingRoom text.now kept.old }
+    ensures { CheckedAs s.now text.now result kept.new }
 {
     let temporary = &text[0..22];
     if is_framed(s) {
@@ -114,7 +109,7 @@ pub fn check_message(
             if is_type(s, b"103") {
                 return check_transfer(s, temporary);
             }
-            return check_order(s, text, amounts, places, verdicts);
+            return check_order(s, text, kept);
         }
         return Checked::Refused(2);
     }

@@ -3,24 +3,6 @@ use Rattle.verdict.specs.Judging.{judging}
 use borrow.Author.Rules.{rules}
 use Rattle.verdict.proofs.by_code.Goals as goal
 
-pub enum_known-v : goal.enum_known-v
-enum_known-v c = search (judging, rules)
-
-pub find_code-requires : goal.find_code-requires
-find_code-requires c = search (judging, rules)
-
-pub enum_known-i : goal.enum_known-i
-enum_known-i c = search (judging, rules)
-
-pub enum_told-1 : goal.enum_told-1
-enum_told-1 c = search (judging, rules)
-
-pub enum_told-in-Credited : goal.enum_told-in-Credited
-enum_told-in-Credited c = search (judging, rules)
-
-pub enum_told-in-CreditedByCode : goal.enum_told-in-CreditedByCode
-enum_told-in-CreditedByCode c = search (judging, rules)
-
 pub returns-in-At : goal.returns-in-At
 returns-in-At c = search (judging, rules)
 

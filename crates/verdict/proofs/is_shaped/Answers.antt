@@ -3,26 +3,11 @@ use borrow.Author.Rules.{rules}
 use Rattle.verdict.specs.Judging.{judging}
 use Rattle.verdict.proofs.is_shaped.Goals as goal
 
-pub overflow_sub-n : goal.overflow_sub-n
-overflow_sub-n c = search (judging, rules)
-
-pub iban_shape-requires : goal.iban_shape-requires
-iban_shape-requires c = search (judging, rules)
-
 pub returns-then-n-eq22 : goal.returns-then-n-eq22
 returns-then-n-eq22 c = search (judging, rules)
 
 pub returns-then-n-ne31 : goal.returns-then-n-ne31
 returns-then-n-ne31 c = search (judging, rules)
-
-pub iban_shape-requires-2 : goal.iban_shape-requires-2
-iban_shape-requires-2 c = search (judging, rules)
-
-pub overflow_add-a : goal.overflow_add-a
-overflow_add-a c = search (judging, rules)
-
-pub fits_pattern-requires : goal.fits_pattern-requires
-fits_pattern-requires c = search (judging, rules)
 
 pub returns-then-iban_shape : goal.returns-then-iban_shape
 returns-then-iban_shape c = search (judging, rules)

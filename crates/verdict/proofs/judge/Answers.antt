@@ -1,11 +1,8 @@
 -- `verdict::judge` meets its contract: shape, control, register and bounds are asked in the order of the definition.
 use borrow.Author.Rules.{rules}
-use Rattle.verdict.specs.Judging.{found_known, judge_shaped}
+use Rattle.verdict.specs.Judging.{found_known}
 use Rattle.verdict.specs.Judging.{judging}
 use Rattle.verdict.proofs.judge.Goals as goal
-
-pub is_shaped-requires : goal.is_shaped-requires
-is_shaped-requires c = search (judging, rules)
 
 pub returns-then-not-is_shaped : goal.returns-then-not-is_shaped
 returns-then-not-is_shaped c = search (judging, rules)
@@ -19,20 +16,11 @@ returns-then-not-iban_control c = search (judging, rules)
 pub find_account-requires : goal.find_account-requires
 find_account-requires c = search (judging, rules)
 
-pub enum_known-i : goal.enum_known-i
-enum_known-i c = search (judging, rules)
-
 pub is_in_bounds-requires-clause-i_in_bounds : goal.is_in_bounds-requires-clause-i_in_bounds
 is_in_bounds-requires-clause-i_in_bounds c = search (found_known, rules)
 
-pub is_in_bounds-requires-clause-b_value : goal.is_in_bounds-requires-clause-b_value
-is_in_bounds-requires-clause-b_value c = search (judge_shaped, rules)
-
 pub returns-then-is_in_bounds : goal.returns-then-is_in_bounds
 returns-then-is_in_bounds c = search (judging, rules)
-
-pub enum_told-1 : goal.enum_told-1
-enum_told-1 c = search (judging, rules)
 
 pub returns-else-is_in_bounds : goal.returns-else-is_in_bounds
 returns-else-is_in_bounds c = search (judging, rules)

@@ -9,17 +9,14 @@ read_rows-rows-requires c = search (checking, rules)
 pub bounds-rows-0 : goal.bounds-rows-0
 bounds-rows-0 c = search (checking, rules)
 
-pub tally_details-t-requires-clause-at_in_bounds : goal.tally_details-t-requires-clause-at_in_bounds
-tally_details-t-requires-clause-at_in_bounds c = search (checking, rules)
+pub tally_details-requires-clause-at_in_bounds : goal.tally_details-requires-clause-at_in_bounds
+tally_details-requires-clause-at_in_bounds c = search (checking, rules)
 
-pub tally_details-t-requires-clause-s_len_bound : goal.tally_details-t-requires-clause-s_len_bound
-tally_details-t-requires-clause-s_len_bound c = search (checking, rules)
+pub tally_details-requires-clause-s_len_bound : goal.tally_details-requires-clause-s_len_bound
+tally_details-requires-clause-s_len_bound c = search (checking, rules)
 
-pub tally_details-t-requires-clause-judging_room : goal.tally_details-t-requires-clause-judging_room
-tally_details-t-requires-clause-judging_room c = search (checking, rules)
-
-pub tally_details-t-requires-clause-fields_len : goal.tally_details-t-requires-clause-fields_len
-tally_details-t-requires-clause-fields_len c = search (checking, rules)
+pub tally_details-requires-clause-judging_room : goal.tally_details-requires-clause-judging_room
+tally_details-requires-clause-judging_room c = search (checking, rules)
 
 pub order_stop-k-requires : goal.order_stop-k-requires
 order_stop-k-requires c = search (checking, rules)
@@ -31,11 +28,11 @@ pub booking_of-requires : goal.booking_of-requires
 booking_of-requires c = search (checking, rules)
 
 pub returns-then-k-eq0 : goal.returns-then-k-eq0
-returns-then-k-eq0 c = order_good _ _ _ c.read_rows-rows.ensures c.if-rows.true _ c.tally_details-t.ensures c.if-t.true _ c.order_stop-k.ensures c.if-k-eq0.true _
+returns-then-k-eq0 c = order_good _ _ _ c.read_rows-rows.ensures c.if-rows.true c.tally_details.ensures _ c.in-Some.is _ c.order_stop-k.ensures c.if-k-eq0.true _
     c.behind-reference.ensures _ c.booking_of.ensures
 
-pub returns-then-t : goal.returns-then-t
-returns-then-t c = search (checking, rules)
+pub returns-in-Some : goal.returns-in-Some
+returns-in-Some c = search (checking, rules)
 
 pub returns-then-rows : goal.returns-then-rows
 returns-then-rows c = search (checking, rules)
