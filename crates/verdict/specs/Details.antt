@@ -1,6 +1,7 @@
 -- The details of a message with their verdicts, as the code holds them.
 use Rattle.std.specs.Prelude.{◌≡◌, refl, true, false, List, ℕ, ◌<◌, ◌≤◌, length, get_or, set}
 use Rattle.std.proofs.Common.{ap, ◌∙◌, arith, get_or-set_same, get_or-set_other}
+use Rattle.std.proofs.lemmas.List.{get_or_default}
 use Rattle.rules.specs.Text.{is_some}
 use Rattle.rules.specs.Messages as M
 use Rattle.rules.specs.Calls as C
@@ -45,6 +46,17 @@ pub record KeptIn (s : List ℕ) (kept : List Judged) : Type 0 where
 pub record JudgedIn (text s : List ℕ) (kept : List Judged) : Type 0 where
   pub kept_in : KeptIn s kept
   pub verdicts : (i : ℕ) → i < length kept → verdict_of (judged_at kept i).verdict ≡ C.verdict_of (register_of text) (detail_at (details_in s) i)
+
+-- each, read with any value behind the last
+module _ (s : List ℕ) (kept : List Judged) (k : KeptIn s kept) (i : ℕ) (h : i < length kept) (other : Judged) where
+  at_any : judged_at kept i ≡ get_or kept i other
+  at_any = get_or_default kept i no_judged other h
+
+  pub kept_at : KeptOf s (detail_at (details_in s) i) (get_or kept i other).detail
+  kept_at = rw at_any at (k.each i h)
+
+pub verdict_at : (text s : List ℕ) (kept : List Judged) → JudgedIn text s kept → (i : ℕ) → i < length kept → (other : Judged) → verdict_of (get_or kept i other).verdict ≡ C.verdict_of (register_of text) (detail_at (details_in s) i)
+verdict_at text s kept v i h other = rw (at_any s kept v.kept_in i h other) at (v.verdicts i h)
 
 -- ---- judged one by one
 
