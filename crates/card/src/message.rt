@@ -13,21 +13,18 @@ ghost use Rattle.card.specs.Message.{Sent, AreaBooked, Leaves, Ready};
 
 use crate::difference::minus;
 use conditions::{Booking, Checked};
-use message_text::Due;
 use position::Position;
+use verdict::{Judged, NO_DETAIL};
 
 // How many bytes the message makes the card write.
 fn message_size(
     message: &[u8],
-    amounts: &[u64; 16],
-    places: &[u16; 128],
-    verdicts: &[u8; 16],
+    kept: &[Judged],
     area: &[u8],
     b: Booking,
     p: Position,
-    due: Due,
 ) -> usize
-    requires { Ready message.now area.now b p due amounts.now places.now verdicts.now }
+    requires { Ready message.now area.now b p kept.now }
     ensures { Measured (message_text (decode area.now) (message_in message.now)) result }
 {
     let mut nothing = [0u8; 0];
@@ -35,13 +32,10 @@ fn message_size(
         &mut nothing,
         0,
         message,
-        amounts,
-        places,
-        verdicts,
+        kept,
         area,
         b,
         p,
-        due,
     );
     text.at
 }
@@ -68,23 +62,20 @@ fn book_in(message: &[u8], area: &mut [u8], b: Booking, count: u32)
 // A message that no condition stops: its text is written, its difference told, and it is booked.
 fn accept_message(
     message: &[u8],
-    amounts: &[u64; 16],
-    places: &[u16; 128],
-    verdicts: &[u8; 16],
+    kept: &[Judged],
     b: Booking,
     p: Position,
-    due: Due,
     area: &mut [u8],
     output: &mut [u8],
     written: &mut usize,
     difference: &mut i64,
 )
-    requires ready { Ready message.now area.old b p due amounts.now places.now verdicts.now }
+    requires ready { Ready message.now area.old b p kept.now }
     requires message_in_bounds { length (message_text (decode area.old) (message_in message.now)) ≤ length output.old }
     ensures { Sent message.now area.old output.old written.new difference.new area.new output.new }
 {
     let text = message_text::put_message_text(
-        output, 0, message, amounts, places, verdicts, area, b, p, due,
+        output, 0, message, kept, area, b, p,
     );
     *written = text.at;
     *difference = minus(p.transferred, p.detailed);
@@ -94,9 +85,7 @@ fn accept_message(
 // A message that none of 1 to 15 stops; p is its position as it leaves it.
 fn send_message(
     message: &[u8],
-    amounts: &[u64; 16],
-    places: &[u16; 128],
-    verdicts: &[u8; 16],
+    kept: &[Judged],
     b: Booking,
     p: Position,
     area: &mut [u8],
@@ -105,21 +94,19 @@ fn send_message(
     difference: &mut i64,
 ) -> u32
     requires area_value { is_some (holds area.old) ≡ true }
-    requires passes { Passes message.now (decode area.old).register b amounts.now places.now verdicts.now }
+    requires passes { Passes message.now (decode area.old).register b kept.now }
     requires value { 0 ≡ first_of (limit_stops (decode area.old) (some (message_in message.now))) }
     requires leaves { Leaves area.old message.now p }
     ensures { Answers (card_message message.now area.old output.old) result written.new difference.new area.new output.new }
 {
     *written = 0;
     *difference = 0;
-    let counts = detail_lines::count_verdicts(verdicts, b.count as u32);
-    let due = message_text::due_for(b, p, counts);
-    let size = message_size(message, amounts, places, verdicts, area, b, p, due);
+    let size = message_size(message, kept, area, b, p);
     if output.len() < size {
         return 16;
     }
     accept_message(
-        message, amounts, places, verdicts, b, p, due, area, output, written, difference,
+        message, kept, b, p, area, output, written, difference,
     );
     0
 }
@@ -127,9 +114,7 @@ fn send_message(
 // A message that passed 1 to 8.
 fn book_message(
     message: &[u8],
-    amounts: &[u64; 16],
-    places: &[u16; 128],
-    verdicts: &[u8; 16],
+    kept: &[Judged],
     b: Booking,
     area: &mut [u8],
     output: &mut [u8],
@@ -137,7 +122,7 @@ fn book_message(
     difference: &mut i64,
 ) -> u32
     requires area_value { is_some (holds area.old) ≡ true }
-    requires passes { Passes message.now (decode area.old).register b amounts.now places.now verdicts.now }
+    requires passes { Passes message.now (decode area.old).register b kept.now }
     ensures { Answers (card_message message.now area.old output.old) result written.new difference.new area.new output.new }
 {
     *written = 0;
@@ -149,7 +134,7 @@ fn book_message(
     }
     let p = message_text::position_after(b, x);
     send_message(
-        message, amounts, places, verdicts, b, p, area, output, written, difference,
+        message, kept, b, p, area, output, written, difference,
     )
 }
 
@@ -164,23 +149,15 @@ fn message_engine(
     requires { is_some (holds area.old) ≡ true }
     ensures { Answers (card_message message.now area.old output.old) result written.new difference.new area.new output.new }
 {
-    let mut amounts = [0u64; 16];
-    let mut places = [0u16; 128];
-    let mut verdicts = [0u8; 16];
-    match conditions::check_message(
-        message,
-        engine::register_text(area),
-        &mut amounts,
-        &mut places,
-        &mut verdicts,
-    ) {
+    let mut kept = [NO_DETAIL; 16];
+    match conditions::check_message(message, engine::register_text(area), &mut kept) {
         Checked::Refused(k) => {
             *written = 0;
             *difference = 0;
             k
         }
         Checked::Passed(b) => book_message(
-            message, &amounts, &places, &verdicts, b, area, output, written, difference,
+            message, &kept[0..b.count as usize], b, area, output, written, difference,
         ),
     }
 }

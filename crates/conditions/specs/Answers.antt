@@ -1,7 +1,8 @@
 -- What the answer of the check says: document 01's number for each case, and what booking a message that passed needs.
-use Rattle.std.specs.Prelude.{◌≡◌, List, ℕ, ◌≤◌, ◌<◌, length, take}
+use Rattle.std.specs.Prelude.{◌≡◌, List, ℕ, ◌-◌, ◌≤◌, ◌<◌, length, take}
 use Rattle.std.proofs.Common.{sym, ap, ◌∙◌, subst, arith, length-take-le}
 use Rattle.std.proofs.Math.Seq.{get_or-take}
+use Rattle.std.proofs.Math.Nat.{sub-zero}
 use Rattle.std.proofs.Math.Option.{Option, some}
 use Rattle.rules.specs.Messages.{Message, read, details_of}
 use Rattle.rules.specs.Register.{register_of}
@@ -91,8 +92,9 @@ module _ (s text : List ℕ) (r : Checked) (kept : List Judged) (h : CheckedAs s
   pub refused_some : (k : ℕ) → r ≡ Refused k → 0 < k
   refused_some k e = subst (Parts s text (read s) kept) e h.parts
 
-  pub passed_told : (b : Booking) → r ≡ Passed b → Passes s text b (take b.count kept)
-  passed_told b e = reads_told s text b kept (sym h.number ∙ ap number_of e) (subst (Parts s text (read s) kept) e h.parts)
+  -- the first of what is kept, as a slice
+  pub passed_told : (b : Booking) → r ≡ Passed b → Passes s text b (take (b.count - 0) kept)
+  passed_told b e = rw (sub-zero b.count) (reads_told s text b kept (sym h.number ∙ ap number_of e) (subst (Parts s text (read s) kept) e h.parts))
 
   pub passed_room : (b : Booking) → r ≡ Passed b → b.count ≤ length kept
   passed_room b e = let p : Reads s text (read s) b kept = subst (Parts s text (read s) kept) e h.parts in p.room
