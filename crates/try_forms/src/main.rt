@@ -7,6 +7,7 @@ ghost use Rattle.try_forms.specs.Places.{Reached};
 use conditions::Checked;
 use forms::{DETAIL_21, Span};
 use std::io::{self, Read};
+use verdict::{Judged, NO_DETAIL};
 
 // The next place with the byte c, or the end.
 fn reach(s: &[u8], at: usize, c: u8) -> usize
@@ -46,27 +47,21 @@ fn say_part(rt: &impl Print, s: &[u8], p: Span) -> io::Result<()> {
 fn say_details(
     rt: &impl Print,
     s: &[u8],
-    amounts: &[u64; 16],
+    kept: &[Judged],
     first: usize,
-    count: u8,
 ) -> io::Result<()> {
     let mut at = first;
-    let mut i: u8 = 0;
-    while i < count {
+    for j in kept {
         if s.len() < at {
             return Ok(());
         }
         if 4096 < s.len() {
             return Ok(());
         }
-        if 16 <= i {
-            return Ok(());
-        }
         let d = forms::read_detail(s, at);
         say_part(rt, s, d.spans[DETAIL_21])?;
-        say_number(rt, amounts[i as usize])?;
+        say_number(rt, j.detail.amount)?;
         at = d.next;
-        i += 1;
     }
     Ok(())
 }
@@ -83,8 +78,8 @@ fn first_detail(s: &[u8]) -> usize {
     rows.next
 }
 
-// The answer of the check, and the amounts that it kept.
-fn say_checked(rt: &impl Print, s: &[u8], r: Checked, amounts: &[u64; 16]) -> io::Result<()> {
+// The answer of the check, and the details that it kept.
+fn say_checked(rt: &impl Print, s: &[u8], r: Checked, kept: &[Judged; 16]) -> io::Result<()> {
     match r {
         Checked::Refused(k) => say_number(rt, k as u64),
         Checked::Passed(b) => {
@@ -92,19 +87,20 @@ fn say_checked(rt: &impl Print, s: &[u8], r: Checked, amounts: &[u64; 16]) -> io
             say_part(rt, s, b.reference)?;
             say_number(rt, b.key.date as u64)?;
             say_number(rt, b.amount)?;
-            say_details(rt, s, amounts, first_detail(s), b.count)
+            if 16 < b.count {
+                return Ok(());
+            }
+            say_details(rt, s, &kept[0..b.count as usize], first_detail(s))
         }
     }
 }
 
 // A message to the card with the register of a text.
 fn say_message(rt: &impl Print, s: &[u8], text: &[u8]) -> io::Result<()> {
-    let mut amounts = [0u64; 16];
-    let mut places = [0u16; 128];
-    let mut verdicts = [0u8; 16];
+    let mut kept = [NO_DETAIL; 16];
     if register::register_passes(text) {
-        let r = conditions::check_message(s, text, &mut amounts, &mut places, &mut verdicts);
-        say_checked(rt, s, r, &amounts)?;
+        let r = conditions::check_message(s, text, &mut kept);
+        say_checked(rt, s, r, &kept)?;
     }
     Ok(())
 }

@@ -17,7 +17,7 @@ pub enum_known-b : goal.enum_known-b
 enum_known-b c = search (sending, rules)
 
 pub book_message-requires : goal.book_message-requires
-book_message-requires c = let checked = check_told _ _ _ _ c.register_text.ensures c.check_message.ensures in record { area_value = c.requires; passes = passed_told _ _ _ _ _ _ checked _ (search rules) }
+book_message-requires c = let checked = check_told _ _ _ _ c.register_text.ensures c.check_message.ensures in record { area_value = c.requires; passes = passed_told _ _ _ _ checked _ (search rules) }
 
 pub shape_of-area-in-Refused : goal.shape_of-area-in-Refused
 shape_of-area-in-Refused c = search (sending, rules)
