@@ -17,26 +17,12 @@ use position::Position;
 use verdict::{Judged, NO_DETAIL};
 
 // How many bytes the message makes the card write.
-fn message_size(
-    message: &[u8],
-    kept: &[Judged],
-    area: &[u8],
-    b: Booking,
-    p: Position,
-) -> usize
+fn message_size(message: &[u8], kept: &[Judged], area: &[u8], b: Booking, p: Position) -> usize
     requires { Ready message.now area.now b p kept.now }
     ensures { Measured (message_text (decode area.now) (message_in message.now)) result }
 {
     let mut nothing = [0u8; 0];
-    let text = message_text::put_message_text(
-        &mut nothing,
-        0,
-        message,
-        kept,
-        area,
-        b,
-        p,
-    );
+    let text = message_text::put_message_text(&mut nothing, 0, message, kept, area, b, p);
     text.at
 }
 
@@ -74,9 +60,7 @@ fn accept_message(
     requires message_in_bounds { length (message_text (decode area.old) (message_in message.now)) ≤ length output.old }
     ensures { Sent message.now area.old output.old written.new difference.new area.new output.new }
 {
-    let text = message_text::put_message_text(
-        output, 0, message, kept, area, b, p,
-    );
+    let text = message_text::put_message_text(output, 0, message, kept, area, b, p);
     *written = text.at;
     *difference = minus(p.transferred, p.detailed);
     book_in(message, area, b, text.count);
@@ -105,9 +89,7 @@ fn send_message(
     if output.len() < size {
         return 16;
     }
-    accept_message(
-        message, kept, b, p, area, output, written, difference,
-    );
+    accept_message(message, kept, b, p, area, output, written, difference);
     0
 }
 
@@ -133,9 +115,7 @@ fn book_message(
         return k;
     }
     let p = message_text::position_after(b, x);
-    send_message(
-        message, kept, b, p, area, output, written, difference,
-    )
+    send_message(message, kept, b, p, area, output, written, difference)
 }
 
 // A message to an area that holds an engine.
@@ -157,7 +137,13 @@ fn message_engine(
             k
         }
         Checked::Passed(b) => book_message(
-            message, &kept[0..b.count as usize], b, area, output, written, difference,
+            message,
+            &kept[0..b.count as usize],
+            b,
+            area,
+            output,
+            written,
+            difference,
         ),
     }
 }

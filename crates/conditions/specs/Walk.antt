@@ -1,7 +1,7 @@
 -- The fields 21 of the details that are kept, and which of them are the same. What is left of a walk over them gives the answer.
-use Rattle.std.specs.Prelude.{◌≡◌, refl, Bool, true, false, List, [], ◌∷◌, map, ℕ, zero, suc, ◌+◌, ◌-◌, ◌≤◌, ◌<◌, length, get_or, take, drop}
-use Rattle.std.proofs.Common.{sym, ◌∙◌, arith, add-one, take_all, length-drop, drop-cons, drop_of_length-le}
-use Rattle.std.proofs.Math.Seq.{take-suc, get_or-take}
+use Rattle.std.specs.Prelude.{◌≡◌, refl, Bool, true, false, List, [], ◌∷◌, map, ℕ, suc, ◌+◌, ◌-◌, ◌≤◌, ◌<◌, length, get_or, take, drop}
+use Rattle.std.proofs.Common.{sym, arith, add-one, take_all, length-drop, drop-cons, drop_of_length-le}
+use Rattle.std.proofs.Math.Seq.{get_or-take}
 use Rattle.std.proofs.Math.ListN.{length-take}
 use Rattle.rules.specs.Text.{equal, any, twice}
 use Rattle.rules.specs.Messages as M

@@ -45,11 +45,7 @@ fn check_transfer(s: &[u8], temporary: &[u8]) -> Checked
 }
 
 // 3 to 8 of an MT101, its details judged by the register's text.
-fn check_order(
-    s: &[u8],
-    text: &[u8],
-    kept: &mut [Judged; 16],
-) -> Checked
+fn check_order(s: &[u8], text: &[u8], kept: &mut [Judged; 16]) -> Checked
     requires in_bounds { 23 ≤ length s.now }
     requires s_len_bound { length s.now ≤ 4096 }
     requires judging_room { JudgingRoom text.now kept.old }
@@ -95,11 +91,7 @@ fn is_addressed(s: &[u8]) -> bool
 }
 
 // 1 to 8 of any bytes, by the text of a register, whose first line is the temporary account; the details judged by it.
-pub fn check_message(
-    s: &[u8],
-    text: &[u8],
-    kept: &mut [Judged; 16],
-) -> Checked
+pub fn check_message(s: &[u8], text: &[u8], kept: &mut [Judged; 16]) -> Checked
     requires { JudgingRoom text.now kept.old }
     ensures { CheckedAs s.now text.now result kept.new }
 {

@@ -54,12 +54,7 @@ fn keep_first(s: &[u8], text: &[u8], kept: &mut [Judged; 16], n: u32, d: Detail)
 }
 
 // The tally of all details from `at` up to the closing line, the first 16 judged by the register's text and kept; none where one is not in form.
-pub fn tally_details(
-    s: &[u8],
-    at: usize,
-    text: &[u8],
-    kept: &mut [Judged; 16],
-) -> Option<Tally>
+pub fn tally_details(s: &[u8], at: usize, text: &[u8], kept: &mut [Judged; 16]) -> Option<Tally>
     requires at_in_bounds { at ≤ length s.now }
     requires s_len_bound { length s.now ≤ 4096 }
     requires judging_room { JudgingRoom text.now kept.old }

@@ -1,7 +1,7 @@
 -- The details of a message whose verdicts pass a test, as the code's loops come to them. What is left of the walk gives the answer.
 use Rattle.std.specs.Prelude.{◌≡◌, refl, Bool, true, false, cond, List, [], ◌∷◌, ℕ, suc, ◌+◌, ◌≤◌, ◌<◌, length, get_or, drop}
 use Rattle.std.specs.List.{count_by}
-use Rattle.std.proofs.Common.{sym, ap, ◌∙◌, arith, add-one, drop-cons, drop_of_length-le, length-drop}
+use Rattle.std.proofs.Common.{sym, ap, ◌∙◌, arith, add-one, drop-cons, drop_of_length-le}
 use Rattle.std.proofs.lemmas.List.Sums.{sum_by-cons}
 use Rattle.rules.specs.Text.{passing}
 use Rattle.rules.specs.Messages.{Detail}
@@ -11,7 +11,7 @@ use Rattle.rules.specs.Verdict as paper
 use Rattle.rules.specs.Calls.{verdict_is, judged_to}
 use Rattle.details.specs.Message.{details_in, no_detail, detail_at}
 use Rattle.verdict.specs.Answers.{verdict_of}
-use Rattle.verdict.specs.Details.{no_judged, judged_at, KeptIn, JudgedIn}
+use Rattle.verdict.specs.Details.{judged_at, KeptIn, JudgedIn}
 use Rattle.verdict.specs.declared.detail.Judged.{Judged}
 
 -- does the verdict that is kept pass a test?

@@ -34,7 +34,7 @@ pub fn put_listed(
         if left == 0 {
             return Place { out: o, at: i };
         }
-        let j = kept[i];
+        let j = &kept[i];
         if j.verdict.is_listed() {
             o = put_listed_rows(
                 out,

@@ -44,12 +44,7 @@ fn say_part(rt: &impl Print, s: &[u8], p: Span) -> io::Result<()> {
 }
 
 // The details from first on: field 21's line, and the amount that is kept.
-fn say_details(
-    rt: &impl Print,
-    s: &[u8],
-    kept: &[Judged],
-    first: usize,
-) -> io::Result<()> {
+fn say_details(rt: &impl Print, s: &[u8], kept: &[Judged], first: usize) -> io::Result<()> {
     let mut at = first;
     for j in kept {
         if s.len() < at {

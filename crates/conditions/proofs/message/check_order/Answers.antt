@@ -3,26 +3,8 @@ use Rattle.conditions.specs.Checks.{order_good, checking}
 use borrow.Author.Rules.{rules}
 use Rattle.conditions.proofs.message.check_order.Goals as goal
 
-pub read_rows-rows-requires : goal.read_rows-rows-requires
-read_rows-rows-requires c = search (checking, rules)
-
-pub bounds-rows-0 : goal.bounds-rows-0
-bounds-rows-0 c = search (checking, rules)
-
-pub tally_details-requires-clause-at_in_bounds : goal.tally_details-requires-clause-at_in_bounds
-tally_details-requires-clause-at_in_bounds c = search (checking, rules)
-
-pub tally_details-requires-clause-s_len_bound : goal.tally_details-requires-clause-s_len_bound
-tally_details-requires-clause-s_len_bound c = search (checking, rules)
-
-pub tally_details-requires-clause-judging_room : goal.tally_details-requires-clause-judging_room
-tally_details-requires-clause-judging_room c = search (checking, rules)
-
 pub order_stop-k-requires : goal.order_stop-k-requires
 order_stop-k-requires c = search (checking, rules)
-
-pub behind-reference-requires : goal.behind-reference-requires
-behind-reference-requires c = search (checking, rules)
 
 pub booking_of-requires : goal.booking_of-requires
 booking_of-requires c = search (checking, rules)

@@ -3,18 +3,6 @@ use Rattle.conditions.specs.Checks.{checking}
 use borrow.Author.Rules.{rules}
 use Rattle.conditions.proofs.message.check_transfer.Goals as goal
 
-pub read_transfer-t-requires : goal.read_transfer-t-requires
-read_transfer-t-requires c = search (checking, rules)
-
-pub transfer_stop-k-requires : goal.transfer_stop-k-requires
-transfer_stop-k-requires c = search (checking, rules)
-
-pub bounds-t-0 : goal.bounds-t-0
-bounds-t-0 c = search (checking, rules)
-
-pub behind-reference-requires : goal.behind-reference-requires
-behind-reference-requires c = search (checking, rules)
-
 pub booking_of-requires : goal.booking_of-requires
 booking_of-requires c = search (checking, rules)
 

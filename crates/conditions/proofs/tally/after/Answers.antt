@@ -1,6 +1,6 @@
 -- `conditions::tally::after` meets its contract: the first detail's date is kept, and the lower of two numbers.
 use Rattle.std.proofs.Common.{refl}
-use Rattle.conditions.specs.Tally.{After, day_first, day_later}
+use Rattle.conditions.specs.Tally.{day_first, day_later}
 use Rattle.conditions.proofs.tally.after.Goals as goal
 use Rattle.conditions.proofs.tally.after.Goals.{then-t-eq0, else-t-eq0}
 

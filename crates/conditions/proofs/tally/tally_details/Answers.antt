@@ -1,6 +1,6 @@
 use Rattle.std.proofs.Common.{refl}
 use native.Mathlib.Omega.{arith}
-use Rattle.conditions.specs.Tally.{walk_start, walk_out, walk_bad, walk_few, walk_last, walk_on}
+use Rattle.conditions.specs.Tally.{walk_start, walk_bad, walk_few, walk_last, walk_on}
 use Rattle.conditions.proofs.tally.tally_details.Goals as goal
 
 pub loop-n-init : goal.loop-n-init
