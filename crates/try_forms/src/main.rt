@@ -8,6 +8,7 @@ use conditions::Booking;
 use forms::{DETAIL_21, Span};
 use refusal::Refusal;
 use std::io::{self, Read};
+use verdict::{Judged, NO_DETAIL};
 
 // The next place with the byte c, or the end.
 fn reach(s: &[u8], at: usize, c: u8) -> usize
@@ -44,32 +45,21 @@ fn say_part(rt: &impl Print, s: &[u8], p: Span) -> io::Result<()> {
 }
 
 // The details from first on: field 21's line, and the amount that is kept.
-fn say_details(
-    rt: &impl Print,
-    s: &[u8],
-    amounts: &[u64; 16],
-    first: usize,
-    count: u8,
-) -> io::Result<()> {
+fn say_details(rt: &impl Print, s: &[u8], kept: &[Judged], first: usize) -> io::Result<()> {
     let mut at = first;
-    let mut i: u8 = 0;
-    while i < count {
+    for j in kept {
         if s.len() < at {
             return Ok(());
         }
         if 4096 < s.len() {
             return Ok(());
         }
-        if 16 <= i {
-            return Ok(());
-        }
         let Some(d) = forms::read_detail(s, at) else {
             return Ok(());
         };
         say_part(rt, s, d.spans[DETAIL_21])?;
-        say_number(rt, amounts[i as usize])?;
+        say_number(rt, j.detail.amount)?;
         at = d.next;
-        i += 1;
     }
     Ok(())
 }
@@ -88,8 +78,13 @@ fn first_detail(s: &[u8]) -> usize {
     }
 }
 
-// The answer of the check, and the amounts that it kept.
-fn say_checked(rt: &impl Print, s: &[u8], r: Result<Booking, Refusal>, amounts: &[u64; 16]) -> io::Result<()> {
+// The answer of the check, and the details that it kept.
+fn say_checked(
+    rt: &impl Print,
+    s: &[u8],
+    r: Result<Booking, Refusal>,
+    kept: &[Judged; 16],
+) -> io::Result<()> {
     match r {
         Err(refusal) => say_number(rt, refusal.number() as u64),
         Ok(b) => {
@@ -97,19 +92,20 @@ fn say_checked(rt: &impl Print, s: &[u8], r: Result<Booking, Refusal>, amounts: 
             say_part(rt, s, b.reference)?;
             say_number(rt, b.key.date as u64)?;
             say_number(rt, b.amount)?;
-            say_details(rt, s, amounts, first_detail(s), b.count)
+            if 16 < b.count {
+                return Ok(());
+            }
+            say_details(rt, s, &kept[0..b.count as usize], first_detail(s))
         }
     }
 }
 
 // A message to the card with the register of a text.
 fn say_message(rt: &impl Print, s: &[u8], text: &[u8]) -> io::Result<()> {
-    let mut amounts = [0u64; 16];
-    let mut places = [0u16; 128];
-    let mut verdicts = [0u8; 16];
+    let mut kept = [NO_DETAIL; 16];
     if register::register_passes(text) {
-        let r = conditions::check_message(s, text, &mut amounts, &mut places, &mut verdicts);
-        say_checked(rt, s, r, &amounts)?;
+        let r = conditions::check_message(s, text, &mut kept);
+        say_checked(rt, s, r, &kept)?;
     }
     Ok(())
 }

@@ -8,16 +8,9 @@ use Rattle.conditions.proofs.message.check_order.Goals as goal
 pub returns-in_default : goal.returns-in_default
 returns-in_default c = order_rowless _ _ (c.in_default.ensures {u = tt})
 
-pub returns-then-not-t : goal.returns-then-not-t
-returns-then-not-t c = order_formless _ _ _ (c.in-Some.ensures {u = tt}) _ c.tally_details-t.ensures (not-true _ c.if-not-t.true)
+pub returns-in_default-2 : goal.returns-in_default-2
+returns-in_default-2 c = order_formless _ _ _ (c.in-Some.ensures {u = tt}) c.tally_details.ensures refl
 
-pub returns-in_err-order_stop : goal.returns-in_err-order_stop
-returns-in_err-order_stop c =
-    let p = err_from_is_err_and c.from_residual.result c.from_residual.ensures.1 in
-    rw (p.1, p.2) (order_stopped _ _ _ (c.in-Some.ensures {u = tt}) _ c.tally_details-t.ensures (not-false _ c.if-not-t.false) _ (c.in_err-order_stop.ensures {u = tt}) _ refl)
-
-pub booking_of-requires-clause-date_bound : goal.booking_of-requires-clause-date_bound
-booking_of-requires-clause-date_bound c = order_date _ _ _ (c.in-Some.ensures {u = tt}) _ c.tally_details-t.ensures (not-false _ c.if-not-t.false)
 
 pub returns : goal.returns
 returns c = order_good _ _ _ (c.in-Some.ensures {u = tt}) _ c.tally_details-t.ensures (not-false _ c.if-not-t.false) _ (c.in_ok-order_stop.ensures {u = tt}) refl _
