@@ -9,5 +9,5 @@ returns c = record {
   count = refl;
   sum = refl;
   date = elim c.if-t-eq0.branch [ then-t-eq0 w ↦ day_first _ _ _ _ w.if-t-eq0.true w.date-is | else-t-eq0 w ↦ day_later _ _ _ _ w.if-t-eq0.false w.date-is ];
-  low = rw (← c.detail_stop.ensures) c.min.ensures;
+  low = rw (← c.detail_stop.ensures) c.lower.ensures;
 }
