@@ -16,6 +16,7 @@ use forms::{MESSAGE_20, behind, read_rows, read_transfer};
 use lines::is_framed;
 use refusal::Refusal;
 use text::equal_parts;
+use verdict::Judged;
 
 // 3 to 8 of an MT103.
 fn check_transfer(s: &[u8], temporary: &[u8]) -> Result<Booking, Refusal>
@@ -32,28 +33,20 @@ fn check_transfer(s: &[u8], temporary: &[u8]) -> Result<Booking, Refusal>
 }
 
 // 3 to 8 of an MT101, its details judged by the register's text.
-fn check_order(
-    s: &[u8],
-    text: &[u8],
-    amounts: &mut [u64; 16],
-    places: &mut [u16; 128],
-    verdicts: &mut [u8; 16],
-) -> Result<Booking, Refusal>
+fn check_order(s: &[u8], text: &[u8], kept: &mut [Judged; 16]) -> Result<Booking, Refusal>
     requires in_bounds { 23 ≤ length s.now }
     requires s_len_bound { length s.now ≤ 4096 }
-    requires judging_room { JudgingRoom text.now amounts.old places.old verdicts.old }
-    ensures { CheckedBy s.now text.now (read_order s.now) result amounts.new places.new verdicts.new }
+    requires judging_room { JudgingRoom text.now kept.old }
+    ensures { CheckedBy s.now text.now (read_order s.now) result kept.new }
 {
     let Some(rows) = read_rows(s, 23, 0, 1) else {
         return Err(Refusal::NotInForm);
     };
-    let line = rows.spans[MESSAGE_20];
-    let mut fields = [0u16; 32];
-    let t = tally_details(s, rows.next, text, amounts, places, verdicts, &mut fields);
-    if !t.ok {
+    let Some(t) = tally_details(s, rows.next, text, kept) else {
         return Err(Refusal::NotInForm);
-    }
-    order_stop(s, line, &fields, t)?;
+    };
+    let line = rows.spans[MESSAGE_20];
+    order_stop(s, line, kept, t)?;
     let reference = behind(line, 4);
     Ok(booking_of(s, false, reference, t.date, t.sum, t.count))
 }
@@ -82,15 +75,9 @@ fn is_addressed(s: &[u8]) -> bool
 }
 
 // 1 to 8 of any bytes, by the text of a register, whose first line is the temporary account; the details judged by it.
-pub fn check_message(
-    s: &[u8],
-    text: &[u8],
-    amounts: &mut [u64; 16],
-    places: &mut [u16; 128],
-    verdicts: &mut [u8; 16],
-) -> Result<Booking, Refusal>
-    requires { JudgingRoom text.now amounts.old places.old verdicts.old }
-    ensures { CheckedAs s.now text.now result amounts.new places.new verdicts.new }
+pub fn check_message(s: &[u8], text: &[u8], kept: &mut [Judged; 16]) -> Result<Booking, Refusal>
+    requires { JudgingRoom text.now kept.old }
+    ensures { CheckedAs s.now text.now result kept.new }
 {
     let temporary = &text[0..22];
     if is_framed(s) {
@@ -98,7 +85,7 @@ pub fn check_message(
             if is_type(s, b"103") {
                 return check_transfer(s, temporary);
             }
-            return check_order(s, text, amounts, places, verdicts);
+            return check_order(s, text, kept);
         }
         return Err(Refusal::NotAddressed);
     }

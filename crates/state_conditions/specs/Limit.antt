@@ -1,5 +1,6 @@
 -- 15, "a total over its limit", of what was booked of a message; and of an MT101 by the sum that is kept while its details are read.
 use Rattle.std.specs.Prelude.{◌≡◌, refl, Bool, true, false, ◌||◌, not, cond, List, ℕ, ◌+◌, ◌≤◌, leb, Option}
+use Rattle.std.specs.Prelude as R
 use Rattle.std.proofs.Common.{sym, ap, ◌∙◌, add-zero, arith, le-leb}
 use Rattle.std.proofs.Math.Option.{some}
 use Rattle.rules.specs.Messages.{Order, mt101, details, details_of, transferred_by, detailed_by, sum_of_amounts}
@@ -46,10 +47,10 @@ unfolding over_limit position_after transferred_by detailed_by details_of
 over_sum e w o = rw (add-zero (position_of (key_of (mt101 o)) e.positions).transferred, le-leb _ _ (under (key_of (mt101 o)) (all_good e.day e.positions (limits e w).good))) refl
 
 -- "15 is tested with the last": the sum that the walk over the details answers decides it
-pub running_sum_decides : (s text : List ℕ) (at : ℕ) (t : Tally) (amounts places verdicts fields : List ℕ) → TallyAt s text at t amounts places verdicts fields → t.ok ≡ true
+pub running_sum_decides : (s text : List ℕ) (at : ℕ) {q : R.Option Tally} {kept : _} → TallyAt s text at q kept → (t : Tally) → q ≡ R.Some t
     → (e : Engine) → within e ≡ true → (o : Order) → details 4096 (from s at) ≡ some o.details
     → over_limit e (mt101 o) ≡ not (leb ((position_of (key_of (mt101 o)) e.positions).detailed + t.sum) limit)
-running_sum_decides s text at t amounts places verdicts fields w h e g o r =
-    let d : DetailsTallied s text at t amounts places verdicts fields = w.all_there h in
+running_sum_decides s text at w t h e g o r =
+    let d : DetailsTallied s text at t _ = w.all_there t h in
     let same : sum_of_amounts o.details ≡ t.sum = ap sum_of_amounts (some_is (sym r ∙ d.read)) ∙ sym d.told.sum in
     over_sum e g o ∙ ap (λ (v : ℕ). not (leb ((position_of (key_of (mt101 o)) e.positions).detailed + v) limit)) same

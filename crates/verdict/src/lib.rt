@@ -6,14 +6,14 @@ mod detail;
 ghost use Rattle.std.specs.Prelude.{◌≡◌, true, ◌<◌, ◌≤◌, length};
 ghost use Rattle.rules.specs.Text.{is_some};
 ghost use Rattle.rules.specs.Register.{register, register_of};
-ghost use Rattle.rules.specs.Verdict.{account_at, shaped, in_bounds, verdict, by_code};
+ghost use Rattle.rules.specs.Verdict.{account_at, shaped, in_bounds, verdict, by_code, is_returned, is_listed199};
 ghost use Rattle.laws.specs.Parts.{cut};
 ghost use Rattle.verdict.specs.Answers.{verdict_of};
 
-pub use detail::{Judged, judge_line, judged_at, verdict_by};
+pub use detail::{Judged, NO_DETAIL, judge_line, keep};
 
 // Why a detail is returned: the first cause that holds.
-#[derive(Clone, Copy)]
+#[derive(Clone, Copy, PartialEq, Eq)]
 pub enum Cause {
     // Its account is no IBAN, alone or with a payment code.
     WrongShape,
@@ -26,7 +26,7 @@ pub enum Cause {
 }
 
 // The verdict on a detail.
-#[derive(Clone, Copy)]
+#[derive(Clone, Copy, PartialEq, Eq)]
 pub enum Verdict {
     // Credited: the account line found, counted from 0.
     Credited(usize),
@@ -34,6 +34,32 @@ pub enum Verdict {
     CreditedByCode(usize, Cause),
     // Returned: the cause.
     Returned(Cause),
+}
+
+impl Verdict {
+    // Does the MT199 list the detail? It lists what is returned, and what its code credits.
+    #[tactic(auto, using(crate::specs::Details::choosing))]
+    pub fn is_listed(self) -> bool
+        ensures { result ≡ is_listed199 (verdict_of self) }
+    {
+        match self {
+            Verdict::Credited(_) => false,
+            Verdict::CreditedByCode(_, _) => true,
+            Verdict::Returned(_) => true,
+        }
+    }
+
+    // Does it return the detail?
+    #[tactic(auto, using(crate::specs::Details::choosing))]
+    pub fn is_returned(self) -> bool
+        ensures { result ≡ is_returned (verdict_of self) }
+    {
+        match self {
+            Verdict::Credited(_) => false,
+            Verdict::CreditedByCode(_, _) => false,
+            Verdict::Returned(_) => true,
+        }
+    }
 }
 
 // Is the part an IBAN, alone or followed by `PAY` and six digits?

@@ -11,7 +11,7 @@ pub check_message-requires : goal.check_message-requires
 check_message-requires c = search (sending, rules)
 
 pub book_message-requires : goal.book_message-requires
-book_message-requires c = let checked = check_told _ _ _ _ c.register_text.ensures c.check_message.ensures in record { area_value = c.requires; passes = passed_told _ _ _ _ _ _ checked _ c.in-Ok.is }
+book_message-requires c = let checked = check_told _ _ _ _ c.register_text.ensures c.check_message.ensures in record { area_value = c.requires; passes = passed_told _ _ _ _ checked _ c.in-Ok.is }
 
 pub returns-in-Err : goal.returns-in-Err
 returns-in-Err c = let checked = check_told _ _ _ _ c.register_text.ensures c.check_message.ensures in checked_refused _ _ c.requires _ checked c.args.output.now _ c.in-Err.is _ c.number.ensures
