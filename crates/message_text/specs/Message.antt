@@ -1,12 +1,11 @@
 -- The text of a message that is booked, off its bytes and the area.
 use Rattle.std.specs.Prelude.{◌≡◌, Bool, not, cond, ℕ, ◌+◌, ◌≤◌, leb, Option}
 use Rattle.std.proofs.Math.Path.{refl, ap}
-use Rattle.std.proofs.Common.{sym, ◌∙◌, arith}
+use Rattle.std.proofs.Common.{◌∙◌, arith}
 use Rattle.std.proofs.Math.Bool.{true, false}
 use mathlib.Core.List.{List, [], ◌++◌, append_assoc}
-use Rattle.std.proofs.Math.Nat.{sub-zero}
 use Rattle.std.proofs.Math.ListN.{length}
-use Rattle.rules.specs.Messages.{Message, date_of, details_of}
+use Rattle.rules.specs.Messages.{Message, date_of}
 use Rattle.rules.specs.Register.{register_of}
 use Rattle.rules.specs.Engine.{Engine, Position, has_details}
 use Rattle.rules.specs.Verdict.{is_returned, is_listed199}

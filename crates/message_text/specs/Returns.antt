@@ -1,6 +1,6 @@
 -- The MT103 of the returned details, as the code's loop writes them. What is left of the walk gives the answer.
 use Rattle.std.specs.Prelude.{◌≡◌, refl, Bool, true, false, List, [], ◌∷◌, ◌++◌, ℕ, ◌+◌, ◌≤◌, ◌<◌, length, get_or, take}
-use Rattle.std.proofs.Common.{sym, ap, ◌∙◌, arith}
+use Rattle.std.proofs.Common.{ap, arith}
 use Rattle.rules.specs.Text.{is_some}
 use Rattle.rules.specs.Messages.{Detail, past}
 use Rattle.rules.specs.Register.{register}
