@@ -21,7 +21,9 @@ fn dates_rise(list: &[u8]) -> bool
         if n - at < 6 {
             return false;
         }
-        let date = calendar::date_at(list, at as usize);
+        let Some(date) = calendar::read_date(&list[at as usize..at as usize + 6]) else {
+            return false;
+        };
         if date <= last {
             return false;
         }

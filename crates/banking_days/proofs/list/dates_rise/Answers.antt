@@ -23,3 +23,6 @@ loop-at-preserved c = search (rises, rules)
 
 pub returns : goal.returns
 returns c = search (rises, rules)
+
+pub returns-in_default : goal.returns-in_default
+returns-in_default c = search (rises, rules)
