@@ -8,8 +8,8 @@ returns-then-is_empty c = search (numbers, rules)
 pub loop-c-init : goal.loop-c-init
 loop-c-init c = search (numbers, rules)
 
-pub returns-then-not-is_digit : goal.returns-then-not-is_digit
-returns-then-not-is_digit c = search (numbers, rules)
+pub returns-then-not-has : goal.returns-then-not-has
+returns-then-not-has c = search (numbers, rules)
 
 pub with_digit-n-requires-clause-v_bound : goal.with_digit-n-requires-clause-v_bound
 with_digit-n-requires-clause-v_bound c = search (numbers, rules)

@@ -29,7 +29,7 @@ pub move_bytes-requires : goal.move_bytes-requires
 move_bytes-requires c =
     let k = zeros_within _ _ c.requires.within c.in-Some.ensures c.zeros_at-z.ensures in
     let h = idle_within _ _ c.requires.within c.in-Some.ensures in
-    (omega arith, omega (arith, c.requires.within))
+    record { here_in_bounds = omega (arith, c.requires.within); there_in_bounds = omega (arith, c.requires.within) }
 
 pub overflow_add-result : goal.overflow_add-result
 overflow_add-result c =
