@@ -125,8 +125,8 @@ module _ (a s text : List ℕ) (g : RegisterOf a text) (kept : List Judged) (j :
     returned_are : chosen_from is_returned s kept 0 ≡ returned_details (decode a) (message_in s)
     returned_are = chosen_all is_returned (decode a).register s kept j
 
-    pub message_wrote : {at m n r : ℕ} {o₁ o₂ : Outgoing} {out out₁ out₂ out₃ : List ℕ} → Wrote (postings (register_of text) (book_by text (record { day = h.day; bank = p.key.bank; date = p.key.date })) (message_in s)) at out m out₁
-        → PartsPut (record { day = h.day; count = h.count }) o₁ parts (position_value p) s kept m out₁ n out₂ → ReturnsPut o₁ o₂ (record { day = h.day; bank = p.key.bank; date = p.key.date }) text s kept n out₂ r out₃
+    pub message_wrote : {at m n r : ℕ} {o₁ o₂ : Outgoing} {out out₁ out₂ out₃ : List ℕ} → Wrote (postings (register_of text) (book_by text (record { day = h.day; key = record { bank = p.key.bank; date = p.key.date } })) (message_in s)) at out m out₁
+        → PartsPut (record { day = h.day; count = h.count }) o₁ parts (position_value p) s kept m out₁ n out₂ → ReturnsPut o₁ o₂ (record { day = h.day; key = record { bank = p.key.bank; date = p.key.date } }) text s kept n out₂ r out₃
         → TextPut (decode a) (message_in s) at out (record { at = r; count = o₂.count }) out₃
     unfolding position_after messages_written
     message_wrote {o₁ = o₁} v x y =
