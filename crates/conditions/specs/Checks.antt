@@ -16,7 +16,7 @@ use Rattle.rules.specs.Messages as M
 use Rattle.rules.specs.Messages.{Message, mt103, mt101, field20, details_of, reference_of, date_of, first_date, read_transfer, read_order, read, past}
 use Rattle.rules.specs.Calls.{form_stops, first_of, addressed, input_stops}
 use Rattle.laws.specs.Parts.{cut, cut_all, from, from_take}
-use Rattle.laws.specs.Tests.{and_left, and_right, answer_is, answer_not}
+use Rattle.laws.specs.Tests.{and_left, and_right}
 use Rattle.laws.specs.Reading.{fits_length}
 use Rattle.engine_laws.specs.Accepted.{Has, transfer_has, order_has}
 use Rattle.forms.specs.Table.{table, part}

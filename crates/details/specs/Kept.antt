@@ -1,7 +1,6 @@
 -- Details as they are kept, each at its place: what is kept of one, and what holds of all.
 use Rattle.std.specs.Prelude.{◌≡◌, refl, true, false, Bool, List, [], ◌∷◌, ◌++◌, ℕ, ◌+◌, ◌≤◌, ◌<◌, leb, length, get_or, take, drop}
 use Rattle.std.proofs.Common.{sym, arith, length-append, length-take-le, leb-true, leb-false}
-use Rattle.std.proofs.Math.Option.{Option, some}
 use Rattle.std.proofs.Math.ListN.{get_or-append}
 use Rattle.std.proofs.Math.Seq.{get_or-take, get_or-append_seam}
 use Rattle.rules.specs.Forms.{detail21, detail50h, detail52d, detail59, detail_baeref}

@@ -25,6 +25,5 @@ booking_of-requires-clause-date_bound c = order_date _ _ _ (c.in-Some.ensures {u
 pub booking_of-requires-clause-count_bound : goal.booking_of-requires-clause-count_bound
 booking_of-requires-clause-count_bound c = order_count _ _ _ (c.in-Some.ensures {u = tt}) c.tally_details.ensures _ c.in-Some-tally_details.is _ (c.in_ok-order_stop.ensures {u = tt}) refl
 
-
 pub returns : goal.returns
 returns c = order_good _ _ _ (c.in-Some.ensures {u = tt}) c.tally_details.ensures _ c.in-Some-tally_details.is _ (c.in_ok-order_stop.ensures {u = tt}) refl _ c.behind-reference.ensures _ c.booking_of.ensures
