@@ -72,7 +72,11 @@ fn try_turn(rt: &impl Print) -> io::Result<()> {
 fn try_only_part(rt: &impl Print) -> io::Result<()> {
     let mut out = [0u8; 256];
     let bank = u64::from_be_bytes(*b"AAAABGSF");
-    let a = written::put_opened199(&mut out, 0, 60302, 1, 1, bank, 1);
+    let r = Reference {
+        day: 60302,
+        number: 1,
+    };
+    let a = written::put_opened199(&mut out, 0, r, 1, bank, 1);
     let b = written::put_position79(&mut out, a, 60302, 10000, 11400);
     let c = written::put_closed79(&mut out, b, 1, 1);
     say(rt, &out, c)
@@ -82,7 +86,11 @@ fn try_only_part(rt: &impl Print) -> io::Result<()> {
 fn try_second_part(rt: &impl Print) -> io::Result<()> {
     let mut out = [0u8; 256];
     let bank = u64::from_be_bytes(*b"FBBMXFIK");
-    let a = written::put_opened199(&mut out, 0, 51108, 3, 4, bank, 2);
+    let r = Reference {
+        day: 51108,
+        number: 4,
+    };
+    let a = written::put_opened199(&mut out, 0, r, 3, bank, 2);
     let b = written::put_position79(&mut out, a, 51108, 0, 39876122005479);
     let c = written::put_closed79(&mut out, b, 2, 2);
     say(rt, &out, c)
