@@ -127,7 +127,6 @@ module _ (list : List ℕ) (at last : ℕ) (x : Bool) (inv : rising last (from l
     rise_early h = stops (λ f. let e : d ≡ f.day = some_is (sym read ∙ f.read) in omega (arith, f.after))
 
     module _ (l : last < d) where
-
       pub rise_last : length list - at ≡ 6 → true ≡ x
       rise_last h =
           let a : take 6 (from list at) ≡ from list at = take_all 6 (from list at) (omega (arith, from_length list at)) in

@@ -39,10 +39,10 @@ parts_equal s t a e b f r h k l = h ∙ equal_is (take (e - a) (drop a s)) (take
 first_before : (c d : ℕ) (o : Option Ordering) → is_some_and is_lt (partial_ordering_then (Some (nat_cmp c d)) o) ≡ cond (eqb c d) (is_some_and is_lt o) (not (leb d c))
 first_before c d o =
     elim (cases_lt c d) [
-      inl h ↦ let n : eqb c d ≡ false = ne_eqb c d (λ (q : c ≡ d). omega arith) in rw (le-leb (suc c) d (omega arith), n, lt-leb d c h) refl
-    | inr h ↦ elim (cases_eq c d) [
-        inl e ↦ rw (lt-leb (suc c) d (omega arith), eq-eqb c d e) refl
-      | inr n ↦ rw (lt-leb (suc c) d (omega arith), ne_eqb c d n, le-leb d c h) refl
+      | inl h ↦ let n : eqb c d ≡ false = ne_eqb c d (λ (q : c ≡ d). omega arith) in rw (le-leb (suc c) d (omega arith), n, lt-leb d c h) refl
+      | inr h ↦ elim (cases_eq c d) [
+        | inl e ↦ rw (lt-leb (suc c) d (omega arith), eq-eqb c d e) refl
+        | inr n ↦ rw (lt-leb (suc c) d (omega arith), ne_eqb c d n, le-leb d c h) refl
       ]
     ]
 

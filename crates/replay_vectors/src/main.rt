@@ -40,7 +40,12 @@ fn agrees(rt: &(impl Files + AllocGlobal), input: &str, expected: &str, room: &s
 }
 
 // Says it of the day of these words.
-fn tell(rt: &(impl Files + Print + AllocGlobal), input: &str, expected: &str, room: &str) -> io::Result<()> {
+fn tell(
+    rt: &(impl Files + Print + AllocGlobal),
+    input: &str,
+    expected: &str,
+    room: &str,
+) -> io::Result<()> {
     if agrees(rt, input, expected, room) {
         println!(rt; "{expected} agrees")
     } else {

@@ -121,7 +121,12 @@ fn already_accepted(s: &[u8], area: &[u8], b: Booking) -> bool
 }
 
 // 11 to 15, the first that holds, the message's position being open or missing.
-pub fn state_number(s: &[u8], area: &[u8], b: Booking, before: Option<Position>) -> Result<(), Refusal>
+pub fn state_number(
+    s: &[u8],
+    area: &[u8],
+    b: Booking,
+    before: Option<Position>,
+) -> Result<(), Refusal>
     requires area_value { is_some (holds area.now) ≡ true }
     requires books { Books s.now (message_in s.now) b }
     requires totals_of { TotalsOf (decode area.now).positions b.key before }

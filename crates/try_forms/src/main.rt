@@ -45,7 +45,12 @@ fn first_detail(s: &[u8]) -> usize {
 }
 
 // The answer of the check, and the details that it kept.
-fn say_checked(rt: &impl Print, s: &[u8], r: Result<Booking, Refusal>, kept: &[Judged; 16]) -> io::Result<()> {
+fn say_checked(
+    rt: &impl Print,
+    s: &[u8],
+    r: Result<Booking, Refusal>,
+    kept: &[Judged; 16],
+) -> io::Result<()> {
     match r {
         Err(refusal) => print!(rt; " {}", refusal.number()),
         Ok(b) => {

@@ -21,7 +21,14 @@ fn try_day(rt: &impl Print, s: &[u8]) -> io::Result<()> {
     if s.len() <= 18 {
         if let Some(n) = text::read_digits(s) {
             if let Ok(day) = u32::try_from(n) {
-                return print!(rt; "{}", if calendar::exists(day) { "exists" } else { "none" });
+                return print!(rt;
+                    "{}",
+                    if calendar::exists(day) {
+                        "exists"
+                    } else {
+                        "none"
+                    }
+                );
             }
         }
     }
@@ -50,11 +57,7 @@ fn iban_says(s: &[u8]) -> &'static str {
 
 // Of a BIC: eight characters.
 fn bic_says(s: &[u8]) -> &'static str {
-    if account::is_bic(s) {
-        "bic"
-    } else {
-        "none"
-    }
+    if account::is_bic(s) { "bic" } else { "none" }
 }
 
 // A text, by its kind.

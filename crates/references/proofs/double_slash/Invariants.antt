@@ -5,4 +5,3 @@ use Rattle.references.proofs.double_slash.Given as goal
 
 abbrev pub invariant-loop-k : goal.invariant-loop-k
 invariant-loop-k l = Doubling l.s l.a l.n l.k
-
