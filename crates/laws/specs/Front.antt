@@ -1,7 +1,7 @@
 -- The words of std for a test of each byte, in those of the definitions: all bytes, and how many at the front.
-use Rattle.std.specs.Prelude.{◌≡◌, refl, Bool, true, false, cond, ◌&&◌, not, List, [], ◌∷◌, ℕ, ◌+◌, ◌-◌, ◌≤◌, ◌<◌, eqb, length, get_or, take, drop}
+use Rattle.std.specs.Prelude.{◌≡◌, refl, Bool, true, false, cond, ◌&&◌, List, [], ◌∷◌, ℕ, ◌+◌, ◌-◌, ◌≤◌, ◌<◌, eqb, length, take, drop}
 use Rattle.std.specs.List.{list_all, prefix_len}
-use Rattle.std.proofs.Common.{sym, ap, ◌∙◌, zero-add, one-add, suc-add, ne_eqb, arith}
+use Rattle.std.proofs.Common.{◌∙◌, zero-add, one-add, ne_eqb, arith}
 use Rattle.std.proofs.Math.Dec.{eqb-suc-suc}
 use Rattle.std.proofs.lemmas.List.Sums.{prefix_len_stops}
 use Rattle.rules.specs.Text.{every}

@@ -1,14 +1,13 @@
 -- Slices as std compares them, in the words of the definitions.
-use Rattle.std.specs.Prelude.{◌≡◌, refl, Bool, true, false, cond, ◌&&◌, not, List, [], ◌∷◌, ℕ, suc, ◌+◌, ◌-◌, ◌≤◌, ◌<◌, eqb, ltb, leb, length, take, drop, Option, Some, None}
+use Rattle.std.specs.Prelude.{◌≡◌, refl, Bool, true, false, cond, ◌&&◌, not, List, [], ◌∷◌, ℕ, suc, ◌+◌, ◌-◌, ◌≤◌, eqb, leb, length, take, drop, Option, Some}
 use Rattle.std.specs.Cmp.Lexicographic.{pointwise, slice_partial_cmp}
 use Rattle.std.specs.Ordering.{partial_lt, nat_cmp, partial_ordering_then, is_lt, is_some_and}
 use Rattle.std.specs.declared.cmp.Ordering.{Ordering}
-use Rattle.std.specs.declared.cmp.Ordering.TheVariants.{Less, Equal, Greater}
 use Rattle.std.specs.List.{list_all, zip}
-use Rattle.std.proofs.Common.{sym, ap, ◌∙◌, zero-add, take_all, length-drop, arith, leb-true, ltb-true, eq-eqb, ne_eqb, inl, inr}
+use Rattle.std.proofs.Common.{◌∙◌, take_all, length-drop, arith, eq-eqb, ne_eqb, inl, inr}
 use Rattle.std.proofs.lemmas.Bool.{cases_lt, cases_eq}
 use borrow.Author.Tests.{le-leb, lt-leb}
-use Rattle.rules.specs.Text.{equal, text_before, fits, fits_sign, every}
+use Rattle.rules.specs.Text.{equal, text_before, fits, fits_sign}
 use Rattle.laws.specs.Parts.{cut, from, from_take}
 
 -- the slice from index a up to index b
