@@ -14,6 +14,7 @@ ghost use Rattle.card.specs.Message.{Sent, AreaBooked, Leaves, Ready};
 use crate::difference::minus;
 use conditions::Booking;
 use position::Position;
+use refusal::Refusal;
 use verdict::{Judged, NO_DETAIL};
 
 // How many bytes the message makes the card write.
@@ -85,7 +86,7 @@ fn send_message(
     *difference = 0;
     let size = message_size(message, kept, area, b, p);
     if output.len() < size {
-        return 16;
+        return Refusal::OutputTooShort.number();
     }
     accept_message(message, kept, b, p, area, output, written, difference);
     0
@@ -160,5 +161,5 @@ pub fn card_message(
     }
     *written = 0;
     *difference = 0;
-    10
+    Refusal::NoEngine.number()
 }

@@ -11,7 +11,7 @@ pub shape_of-area-then-output-size : goal.shape_of-area-then-output-size
 shape_of-area-then-output-size c = search (sending, rules)
 
 pub returns-then-output-size : goal.returns-then-output-size
-returns-then-output-size c = sent_room _ _ c.requires.area_value _ c.requires.passes c.args.output.now c.requires.value c.message_size-size.ensures c.if-output-size.true
+returns-then-output-size c = rw c.number.ensures (sent_room _ _ c.requires.area_value _ c.requires.passes c.args.output.now c.requires.value c.message_size-size.ensures c.if-output-size.true)
 
 pub accept_message-requires-clause-ready : goal.accept_message-requires-clause-ready
 accept_message-requires-clause-ready c = ready _ _ c.requires.area_value _ c.requires.passes _ c.requires.leaves c.requires.value
