@@ -1,5 +1,5 @@
 -- Texts and lengths written one behind the other, with zeros behind the last.
-use Rattle.std.specs.Prelude.{◌≡◌, List, [], ◌∷◌, ◌++◌, ℕ, ◌-◌, ◌≤◌, length}
+use Rattle.std.specs.Prelude.{◌≡◌, List, [], ◌∷◌, ◌++◌, ℕ, ◌-◌, length}
 use Rattle.std.proofs.Common.{append_assoc, arith, length-append}
 use Rattle.rules.specs.Text.{bytes}
 use Rattle.rules.specs.Area.{zeros, padded, joined}

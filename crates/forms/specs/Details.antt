@@ -1,13 +1,13 @@
 -- A detail as the code reads it: its rows, then 32B's amount and the dates of 70.
-use Rattle.std.specs.Prelude.{◌≡◌, refl, true, false, cond, List, ℕ, ◌+◌, ◌^◌, ◌≤◌, ◌<◌, length, get_or, take}
-use Rattle.std.proofs.Math.Option.{Option, none, some}
+use Rattle.std.specs.Prelude.{◌≡◌, refl, true, List, ℕ, ◌+◌, ◌^◌, ◌≤◌, ◌<◌, length, get_or, take}
+use Rattle.std.proofs.Math.Option.{none, some}
 use Rattle.std.proofs.Common.{arith, length-take, get_or-take}
 use Rattle.rules.specs.Lines.{Line}
 use Rattle.rules.specs.Forms.{Row, fits_row, take_rows, detail_rows, detail32b, detail_centrb, detail_baeref}
 use Rattle.rules.specs.Messages as M
 use Rattle.rules.specs.Messages.{TakenDetail, line_of, detail_of, take_detail}
 use Rattle.laws.specs.Parts.{from}
-use Rattle.laws.specs.Tests.{never, and_left, answer_is}
+use Rattle.laws.specs.Tests.{and_left}
 use Rattle.laws.specs.Reading.{fits_length}
 use Rattle.rule_laws.specs.Messages.{detail_read, row_first, none_row}
 use Rattle.forms.specs.Table.{table, part}

@@ -1,6 +1,6 @@
 -- A line matched against a row, one law for each way that the code goes.
-use Rattle.std.specs.Prelude.{◌≡◌, Bool, true, ◌&&◌, List, eqb, get_or, take, drop}
-use Rattle.std.proofs.Common.{sym, ap, ◌∙◌, add-zero}
+use Rattle.std.specs.Prelude.{◌≡◌, Bool, true, ◌&&◌, List, get_or, take, drop}
+use Rattle.std.proofs.Common.{sym, ◌∙◌}
 use Rattle.std.proofs.Math.Bool.{false, and-true, and-false}
 use Prim.Native.Nat.{ℕ, ◌+◌, ◌-◌, ◌≤◌, ◌<◌, min}
 use native.Mathlib.Omega.{arith}

@@ -1,5 +1,5 @@
 -- Lines matched against rows one by one: a law for each way that a row takes a line, and for the loop over the rows. The lines matched so far stand before what the rows that are left make of the rest.
-use Rattle.std.specs.Prelude.{◌≡◌, refl, Bool, true, false, cond, List, [], ◌∷◌, ◌++◌, ℕ, ◌+◌, ◌-◌, ◌≤◌, ◌<◌, length, take, set, replicate}
+use Rattle.std.specs.Prelude.{◌≡◌, refl, Bool, true, false, List, [], ◌∷◌, ◌++◌, ℕ, ◌+◌, ◌-◌, ◌≤◌, ◌<◌, length, take, set, replicate}
 use Rattle.std.proofs.Common.{sym, ◌∙◌, append_assoc, append-nil, add-zero, arith, add-one, length-set, take-suc-set, subst}
 use Rattle.std.proofs.Math.Path.{ap}
 use Rattle.std.specs.Prelude.{Option, Some, None, MatchOption}

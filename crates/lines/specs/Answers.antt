@@ -1,9 +1,9 @@
 -- What the answers of the code say in the paper's words.
-use Rattle.std.specs.Prelude.{◌≡◌, List, ℕ, ◌+◌, ◌≤◌, length, get_or, Option, Some, None}
+use Rattle.std.specs.Prelude.{◌≡◌, List, ℕ, ◌+◌, ◌≤◌, length, Option, Some, None}
 use Rattle.std.proofs.Common.{subst}
 use Rattle.std.proofs.Math.Option.{none, some}
 use Rattle.std.specs.Borrow.{Bor}
-use Rattle.rules.specs.Lines.{TakenLine, lead, take_line}
+use Rattle.rules.specs.Lines.{TakenLine, take_line}
 use Rattle.laws.specs.Parts.{cut, from}
 use Rattle.lines.specs.declared.reader.Reader.{Reader}
 

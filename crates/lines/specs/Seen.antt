@@ -1,5 +1,5 @@
 -- A text seen line by line: what holds before the first line, between two lines and behind the last.
-use Rattle.std.specs.Prelude.{◌≡◌, refl, Bool, true, false, List, ℕ, ◌+◌, ◌-◌, ◌≤◌, ◌<◌, length, Option, Some, None}
+use Rattle.std.specs.Prelude.{◌≡◌, refl, Bool, true, false, List, ℕ, ◌+◌, ◌≤◌, ◌<◌, length, Option, Some, None}
 use Rattle.std.proofs.Common.{sym, ◌∙◌, arith, subst}
 use Rattle.rules.specs.Lines.{lines, in_lines, is_closing_line}
 use Rattle.std.specs.Option.{is_some}

@@ -21,7 +21,7 @@ use Rattle.details.specs.Message.{message_in}
 use Rattle.conditions.specs.Books.{Books, amount_if}
 use Rattle.conditions.specs.declared.booking.Booking.{Booking}
 use Rattle.verdict.specs.Details.{JudgedIn}
-use Rattle.position.specs.Values.{key_value, position_value}
+use Rattle.position.specs.Values.{position_value}
 use Rattle.position.specs.declared.Position as P
 use Rattle.verdict.specs.declared.detail.Judged.{Judged}
 use Rattle.detail_lines.specs.Chosen.{chosen_from, chosen_all, chosen_many}

@@ -1,7 +1,7 @@
 -- Reading an amount, one law for each way that the code goes; and how large an amount can be.
 use Rattle.std.specs.Prelude.{◌≡◌, refl, Bool, true, false, ◌&&◌, cond, List, [], ◌∷◌, ℕ, suc, ◌+◌, ◌-◌, ◌*◌, ◌^◌, ◌≤◌, ◌<◌, leb, eqb, length, get_or, take, drop}
 use Rattle.std.specs.List.{prefix_len}
-use Rattle.std.proofs.Common.{sym, ap, ◌∙◌, add-zero, zero-add, length-drop, one-mul, mul_comm, mul_assoc, mul-le-mul_left, mul-le-mul_right, pow-suc, lt_of_lt_of_le, arith}
+use Rattle.std.proofs.Common.{◌∙◌, add-zero, zero-add, length-drop, one-mul, mul_comm, mul_assoc, mul-le-mul_left, mul-le-mul_right, pow-suc, lt_of_lt_of_le, arith}
 use Rattle.std.proofs.Math.Option.{Option, none, some}
 use Rattle.std.proofs.Math.Seq.{get_or-drop}
 use Rattle.std.proofs.Math.Nat.{pow-le-pow_right}

@@ -1,5 +1,4 @@
 -- `references::double_slash` meets its contract. The loop's invariant: what is left from the last byte read has such slashes where the whole has them.
-use Prim.Native.Nat.{◌-◌}
 use Rattle.references.specs.Slashes.{Doubling}
 use Rattle.references.proofs.double_slash.Given as goal
 

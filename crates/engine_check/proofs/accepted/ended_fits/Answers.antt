@@ -2,7 +2,6 @@
 use borrow.Author.Rules.{rules}
 use Rattle.engine_laws.specs.Ways.{limit_holds, limit_failed, calling}
 use Rattle.engine_laws.specs.Texts.{ended_fits}
-use Rattle.engine_laws.specs.Ways.{limiting}
 use Rattle.engine_check.proofs.accepted.ended_fits.Goals as goal
 
 pub returns-then-n-lt1 : goal.returns-then-n-lt1

@@ -2,7 +2,6 @@
 use borrow.Author.Rules.{rules}
 use Rattle.engine_laws.specs.Ways.{calling}
 use Rattle.engine_laws.specs.Tests.{references_test}
-use Rattle.engine_laws.specs.Ways.{limiting}
 use Rattle.engine_check.proofs.accepted.references_hold.Goals as goal
 
 pub returns-then-not-references_fit : goal.returns-then-not-references_fit

@@ -1,5 +1,5 @@
 -- Senders compared as they were read, and texts where they are the same.
-use Rattle.engine_laws.specs.Ways.{filing, limiting}
+use Rattle.engine_laws.specs.Ways.{filing}
 use borrow.Author.Rules.{rules}
 use Rattle.engine_check.proofs.accepted.stands_before.Goals as goal
 

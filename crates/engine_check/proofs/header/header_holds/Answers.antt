@@ -1,6 +1,6 @@
 -- The tests of the header in their order, by the numbers that were read.
 use Rattle.engine_laws.specs.Tests.{header_test}
-use Rattle.engine_laws.specs.Ways.{calling, limiting}
+use Rattle.engine_laws.specs.Ways.{calling}
 use Rattle.engine_check.specs.Read.{day_read, counts_read}
 use borrow.Author.Rules.{rules}
 use Rattle.engine_check.proofs.header.header_holds.Goals as goal

@@ -1,4 +1,3 @@
-use borrow.Author.Rules.{rules}
 use Rattle.engine_check.specs.Zeros.{zeros_told}
 use Rattle.engine_check.proofs.header.zeros_hold.Goals as goal
 

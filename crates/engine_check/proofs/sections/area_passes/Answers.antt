@@ -1,6 +1,6 @@
 -- The tests of the area in their order; a header that passed bounds the numbers of records.
 use Rattle.engine_laws.specs.Tests.{area_test}
-use Rattle.engine_laws.specs.Ways.{limit_holds, limit_failed, calling, limiting}
+use Rattle.engine_laws.specs.Ways.{limit_holds, limit_failed, calling}
 use Rattle.engine_check.specs.Read.{read}
 use borrow.Author.Rules.{rules}
 use Rattle.engine_check.proofs.sections.area_passes.Goals as goal

@@ -1,9 +1,7 @@
 -- `engine_check::sections::limits_hold` meets its contract: an area of bytes holds an engine exactly if it passes.
 use mathlib.Core.Path.{◌∙◌, sym}
 use native.Mathlib.Omega.{arith}
-use borrow.Author.Rules.{rules}
 use Rattle.engine_laws.specs.Holding.{holds_tests}
-use Rattle.engine_laws.specs.Ways.{limiting}
 use Rattle.engine_check.proofs.sections.limits_hold.Goals as goal
 
 pub returns : goal.returns

@@ -1,6 +1,6 @@
 -- `text::numbers::read_digits` meets its contract: where each byte is a digit, their number, else none.
-use Rattle.std.proofs.Common.{◌≡◌, ◌∙◌, ◌+◌, sym, length, zero-add}
-use Rattle.laws.specs.Parts.{cut, cut_all}
+use Rattle.std.proofs.Common.{◌∙◌, sym, zero-add}
+use Rattle.laws.specs.Parts.{cut_all}
 use Rattle.laws.specs.Values.{every_none}
 use Rattle.text.proofs.numbers.read_digits.Goals as goal
 
