@@ -11,7 +11,6 @@ use Rattle.rules.specs.Messages.{Message, read}
 use Rattle.rules.specs.Engine.{Engine, Position}
 use Rattle.rules.specs.Calls.{first_of, holds_of, bank_of, addition, form_stops, input_stops, limit_stops, room_stops, state_stops, message_stops, message_text, messages_written, position_after, after_message, message_call, both_of, accepted_message}
 use Rattle.rules.specs.Area.{card_message, encode, decode, holds, area_size}
-use Rattle.laws.specs.Parts.{cut}
 use Rattle.laws.specs.Tests.{holds_told}
 use Rattle.laws.specs.Writing.{wrote_over, furthest}
 use Rattle.rule_laws.specs.Conditions.{numbered, first_later, first_earlier}
@@ -32,7 +31,7 @@ use Rattle.verdict.specs.Details.{JudgedIn, JudgingRoom}
 use Rattle.verdict.specs.declared.detail.Judged.{Judged}
 use Rattle.state_conditions.specs.Stops.{addition_by}
 use Rattle.message_text.specs.Message.{AfterOf, amount_part, after_is, TextPut}
-use Rattle.position.specs.Values.{key_value, position_value}
+use Rattle.position.specs.Values.{position_value}
 use Rattle.position.specs.declared.Position as P
 use Rattle.card.specs.Answers.{Answers, answers_refused, answers_accepted}
 use Rattle.card.specs.Minus.{difference_small}
