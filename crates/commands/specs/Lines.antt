@@ -1,10 +1,10 @@
 -- Command lines: one law for each way out of the functions that read them.
-use Rattle.std.specs.Prelude.{◌≡◌, Bool, ℕ, ◌+◌, ◌≤◌, ◌<◌, Option, Some, None, nat_eq, length, get_or, take, drop}
+use Rattle.std.specs.Prelude.{◌≡◌, ℕ, ◌+◌, ◌≤◌, ◌<◌, Option, Some, None, nat_eq, length, take, drop}
 use Rattle.std.specs.Cmp.Lexicographic.{pointwise}
 use Rattle.std.specs.List.{IsSplitAt}
 use Rattle.std.proofs.Math.Path.{refl, sym, ap}
 use Rattle.std.proofs.Common.{◌∙◌, length-drop}
-use Rattle.std.proofs.Math.Bool.{true, false, cond}
+use Rattle.std.proofs.Math.Bool.{true, false}
 use mathlib.Core.List.{List, [], ◌∷◌}
 use Rattle.std.proofs.Math.Option as M
 use Rattle.std.proofs.Math.Option.{none, some}
@@ -19,7 +19,7 @@ use Rattle.laws.specs.Parts.{cut, from, from_all}
 use Rattle.lines.specs.Answers.{LineAt, line_told, no_line_told}
 use Rattle.commands.specs.declared.letter.Handed.{Handed}
 use Rattle.commands.specs.Answers.{making, turn_behind, opening_behind}
-use Rattle.commands.specs.Letters.{letter_of, begins_with, letter_in, Stripped, stripped_is, text_letter, other_letter, text_read, other_read}
+use Rattle.commands.specs.Letters.{letter_in, Stripped, stripped_is, text_letter, other_letter, text_read, other_read}
 use Rattle.commands.specs.Numbers.{lengths_last}
 
 -- ---- texts behind a command line

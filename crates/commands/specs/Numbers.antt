@@ -17,7 +17,6 @@ use mir.Syntax.{w32}
 use Rattle.rules.specs.Text.{ascii, is_digit, digits_from, digits, every, fits, fits_sign, then, given, read_each, added_up}
 use Rattle.rules.specs.Lines.{parted}
 use Rattle.rules.specs.Replay.{length_of, parted_lengths, six_digits}
-use Rattle.laws.specs.Told.{told}
 use Rattle.laws.specs.Parts.{cut, cut_all, from, from_all, from_step, from_done}
 use Rattle.laws.specs.Reading.{Placed, power, fits_length}
 use Rattle.laws.specs.Numbers.{digits_small}

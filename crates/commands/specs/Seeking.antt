@@ -9,7 +9,7 @@ use Rattle.std.proofs.Math.ListN.{length, take, length-append}
 use Rattle.std.proofs.Math.Seq.{take_at}
 use Rattle.std.proofs.lemmas.Bool.{not-true}
 use Rattle.rules.specs.Text.{ascii, is_digit, every, fits, fits_sign}
-use Rattle.laws.specs.Parts.{cut, from, from_take, from_cut, from_step, from_done, cut_join, cut_length, cut_size}
+use Rattle.laws.specs.Parts.{cut, from, from_take, from_cut, from_step, cut_join, cut_length, cut_size}
 use Rattle.laws.specs.Places.{Passed}
 use Rattle.laws.specs.Tests.{and_left, and_right, cond_left, cond_right, never}
 use Rattle.laws.specs.Equal.{equal_same}

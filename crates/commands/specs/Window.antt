@@ -1,5 +1,5 @@
 -- Room made in a window of the input: what is not yet taken goes to the front, and of a length's leading zeros all but one may go.
-use Rattle.std.specs.Prelude.{◌≡◌, Bool, true, Option, Some, None, take_while}
+use Rattle.std.specs.Prelude.{◌≡◌, Bool, true, Some, None, take_while}
 use Rattle.std.proofs.Math.Path.{refl, sym, ap}
 use Rattle.std.proofs.Common.{◌∙◌, add-zero, length-append, take-append-drop, length-take-le, take_at, eqb-true, eq-eqb}
 use Rattle.std.proofs.Math.Bool.{false}

@@ -3,7 +3,7 @@ use Rattle.std.specs.Prelude.{◌≡◌, refl, List, [], ◌∷◌, ◌++◌, �
 use Rattle.std.proofs.Math.Path.{sym}
 use Rattle.std.proofs.Common.{ap, ◌∙◌, append-nil, arith, take_at}
 use Rattle.std.proofs.Math.Option.{none, some}
-use Rattle.std.proofs.Math.ListN.{length, take, length-take}
+use Rattle.std.proofs.Math.ListN.{length, take}
 use Rattle.rules.specs.Text.{over}
 use Rattle.rules.specs.Area.{holds, area_size}
 use Rattle.rules.specs.Replay as R

@@ -1,6 +1,5 @@
 -- The replay of a day: the commands of the input carried out one after the other.
-use Rattle.std.specs.Prelude.{◌≡◌, List, ◌++◌, ℕ, ◌+◌, ◌-◌, ◌≤◌, ◌<◌, ◌^◌, Option, Some, None, length}
-use Rattle.std.specs.Borrow.{Bor}
+use Rattle.std.specs.Prelude.{◌≡◌, List, ◌++◌, ℕ, ◌+◌, ◌-◌, ◌≤◌, ◌<◌, ◌^◌, length}
 use Rattle.std.proofs.Math.Path.{refl, sym}
 use Rattle.std.proofs.Common.{◌∙◌, ap, arith}
 use Rattle.std.proofs.Math.Option.{none, some}
@@ -8,8 +7,6 @@ use Rattle.rules.specs.Area.{holds, area_size}
 use Rattle.rules.specs.Replay as R
 use Rattle.rules.specs.Replay.{Commanded, command, called, printed, replay_from}
 use Rattle.laws.specs.Writing.{Wrote, wrote_length, Left, left_turn, left_none}
-use Rattle.commands.specs.declared.command.Command.{Command}
-use Rattle.commands.specs.Answers.{command_in}
 use Rattle.commands.specs.Pieces.{command_behind}
 use Rattle.day.specs.declared.call.Outcome.{Outcome}
 use Rattle.day.specs.Runs.{run_ends, run_goes, run_enough}

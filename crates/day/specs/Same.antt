@@ -20,7 +20,6 @@ use Rattle.rules.specs.Replay.{to_newer, to_older, called}
 use Rattle.rule_laws.specs.Conditions.{answered_accepted, answered_refused}
 use Rattle.rule_laws.specs.Moves.{newer_clear, older_clear}
 use Rattle.rule_laws.specs.Options.{There}
-use Rattle.commands.specs.declared.letter.Handed.{Handed}
 use Rattle.commands.specs.declared.letter.Handed.TheVariants.{Message, Newer, Older}
 use Rattle.commands.specs.declared.command.Command.{Command}
 use Rattle.commands.specs.declared.command.Command.TheVariants.{Opens, Hands, Turns as TurnsTo}

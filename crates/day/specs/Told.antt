@@ -1,6 +1,6 @@
 -- What the card answered to a command, as document 01's calls on an engine say it, and how it is printed.
-use Rattle.std.specs.Prelude.{◌≡◌, refl, Bool, true, false, cond, List, [], ◌∷◌, ◌++◌, ℕ, zero, suc, ◌+◌, ◌-◌, ◌/◌, ◌≤◌, ◌<◌, ◌^◌, leb, ℤ, pos, negsuc, length, take, drop}
-use Rattle.std.proofs.Common.{sym, ◌∙◌, arith, length-append, length-take, to_z, of_z, to_z-of_z}
+use Rattle.std.specs.Prelude.{◌≡◌, refl, Bool, true, false, cond, List, [], ◌∷◌, ◌++◌, ℕ, zero, suc, ◌+◌, ◌/◌, ◌≤◌, ◌<◌, ◌^◌, leb, ℤ, pos, negsuc, length, take}
+use Rattle.std.proofs.Common.{◌∙◌, arith, length-append, length-take, to_z, of_z, to_z-of_z}
 use Rattle.std.specs.Int.Signed.{mag}
 use Rattle.std.specs.Int.{w64}
 use Rattle.std.specs.Borrow.{Bor}

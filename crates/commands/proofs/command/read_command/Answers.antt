@@ -1,7 +1,6 @@
 -- The command stands on the first line.
-use borrow.Author.Rules.{rules}
 use Rattle.commands.specs.Numbers.{rest_is}
-use Rattle.commands.specs.Lines.{line_room, command_line, command_none}
+use Rattle.commands.specs.Lines.{command_line, command_none}
 use Rattle.commands.proofs.command.read_command.Goals as goal
 
 pub returns-in-Some : goal.returns-in-Some
