@@ -81,12 +81,19 @@ fn try_message(rt: &impl Print, s: &[u8]) -> io::Result<()> {
 
 // Each message of the input.
 fn try_each(rt: &impl Print, s: &[u8]) -> io::Result<()> {
-    for part in s.split(|c| *c == b'@').skip(1) {
-        let Some(e) = part.iter().position(|c| *c == b'\n') else {
+    let mut rest = s;
+    while let Some(e) = rest.iter().position(|c| *c == b'\n') {
+        if e == 0 {
             return Ok(());
-        };
-        rt.write_all(&part[..e])?;
-        try_message(rt, &part[e + 1..])?;
+        }
+        rt.write_all(&rest[1..e])?;
+        let behind = &rest[e + 1..];
+        let n = behind
+            .iter()
+            .position(|c| *c == b'@')
+            .unwrap_or(behind.len());
+        try_message(rt, &behind[..n])?;
+        rest = &behind[n..];
     }
     Ok(())
 }

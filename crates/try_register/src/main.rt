@@ -64,6 +64,9 @@ fn try_each(rt: &impl Print, s: &[u8]) -> io::Result<()> {
     let mut text: &[u8] = b"";
     let mut rest = s;
     while let Some((mark, behind)) = rest.split_first() {
+        if *mark == b'\n' {
+            return Ok(());
+        }
         let (line, others) = until(behind, b"\n");
         let Some((_, next)) = others.split_first() else {
             return Ok(());
