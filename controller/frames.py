@@ -48,7 +48,7 @@ def registers(text):
 
 
 def target(rest):
-    place = re.match(r"([0-9a-f]+) <([^>+]+)(\+0x[0-9a-f]+)?>", rest)
+    place = re.match(r"([0-9a-f]+) <(.+?)(\+0x[0-9a-f]+)?>$", rest)
     return (int(place.group(1), 16), place.group(2)) if place else None
 
 

@@ -1,20 +1,22 @@
 -- The control of an IBAN: a number carried along sign by sign that has the remainder by 97 of the whole, and a law for each way that the code goes.
 --
-use Rattle.std.specs.Prelude.{◌≡◌, Bool, false, ◌&&◌, ◌||◌, cond, List, [], ◌∷◌, ◌++◌, ℕ, ◌+◌, ◌-◌, ◌*◌, ◌/◌, ◌%◌, ◌≤◌, ◌<◌, leb, eqb, get_or}
+use Rattle.std.specs.Prelude.{◌≡◌, Bool, false, ◌&&◌, ◌||◌, cond, List, [], ◌∷◌, ◌++◌, ℕ, suc, ◌+◌, ◌-◌, ◌*◌, ◌/◌, ◌%◌, ◌≤◌, ◌<◌, leb, eqb, get_or, take, drop}
 use Rattle.std.proofs.Math.Path.{refl}
-use Rattle.std.proofs.Common.{sym, ap, ◌∙◌, add-mul, mul_assoc, le-leb, eq-eqb, ne_eqb}
+use Rattle.std.proofs.Common.{sym, ap, ◌∙◌, add-mul, mul_assoc, le-leb, eq-eqb, ne_eqb, take_all, take-suc, length-drop}
 use Rattle.std.proofs.Math.Bool.{true}
 use Rattle.std.proofs.Math.Nat.{add-mul-mod_self_left, mod-mod}
 use native.Mathlib.Omega.{arith}
 use Rattle.std.proofs.Math.ListN.{length}
 use Rattle.std.proofs.lemmas.Bool.{lt-leb}
 use Rattle.rules.specs.Text.{is_digit, is_letter, is_alnum, between, every}
-use Rattle.rules.specs.Accounts.{with_sign, numeral, remainder, control, iban_shape, passes}
-use Rattle.laws.specs.Parts.{cut, cut_get, cut_take, cut_drop, cut_join, cut_two}
-use Rattle.laws.specs.Tests.{between_low, between_high, holds_told}
+use Rattle.rules.specs.Accounts.{with_sign, numeral, remainder, control, iban_shape}
+use Rattle.laws.specs.Tests.{between_low, between_high}
 use Rattle.laws.specs.Reading.{digit_low, digit_high}
-use Rattle.laws.specs.Every.{every_front, every_piece, every_head, every_at}
-use Rattle.account.specs.Shape.{Shaped, shape_told, told_control, told_bank, told_branch, told_account}
+use Rattle.laws.specs.Every.{every_take, every_drop, every_within, every_first}
+use Rattle.laws.specs.Parts.{cut_all}
+use Rattle.rule_laws.specs.Groups.{iban_length}
+use Rattle.rule_laws.specs.Signs.{iban_alnum}
+use Rattle.account.specs.Shape.{Shaped, shape_told}
 
 -- ---- remainders
 
@@ -57,193 +59,106 @@ carried_on u v r t m xs ys p q = record {
   most = q.most;
 }
 
-carried_cut : (s : List ℕ) (i k e u v r t m : ℕ) → i + k ≤ e → Carried u (cut s i (i + k)) t v → Carried v (cut s (i + k) e) m r → Carried u (cut s i e) m r
-carried_cut s i k e u v r t m h p q = rw (cut_join s i k e h) at (carried_on u v r t m (cut s i (i + k)) (cut s (i + k) e) p q)
-
 carried_fold : (v : ℕ) (cs : List ℕ) (t r : ℕ) → Carried v cs t r → Carried v cs 96 (r % 97)
 carried_fold v cs t r p = record { same = mod-mod r 97 ∙ p.same; most = omega arith }
 
--- ---- digits, letters, and either
+-- ---- a letter or digit: which of them, by its byte
 
-four_bytes : (s : List ℕ) (i : ℕ) → i + 4 ≤ length s → cut s i (i + 4) ≡ get_or s i 0 ∷ get_or s (i + 1) 0 ∷ get_or s (i + 2) 0 ∷ get_or s (i + 3) 0 ∷ []
-four_bytes s i l =
-    let e : i + 2 + 2 ≡ i + 4 = omega arith in
-    let f : i + 2 + 1 ≡ i + 3 = omega arith in
-    sym (cut_join s i 2 (i + 4) (omega arith)) ∙ rw (cut_two s i (omega arith), ← e, cut_two s (i + 2) (omega arith), f)
-
--- r is the number of a sign, by the byte that is 0 among its like
-pub record Sign (c null top r : ℕ) : Type 0 where
-  pub value : r ≡ c - null
-  pub most : r ≤ top
-
-pub digit_is : (c : ℕ) → is_digit c ≡ true → Sign c 48 9 (c - 48)
-digit_is c h = let l : c ≤ 57 = digit_high c h in record { value = refl; most = omega arith }
-
-pub letter_is : (c : ℕ) → is_letter c ≡ true → Sign c 55 35 (c - 55)
+either_low : (c : ℕ) (t : Bool) → is_digit c ≡ t → (t || is_letter c) ≡ true → c ≤ 57 → is_digit c ≡ true
 unfolding is_letter
-letter_is c h = let l : c ≤ 90 = between_high 65 90 c h in record { value = refl; most = omega arith }
+either_low c true e h l = e
+either_low c false e h l = absurd (omega (arith, between_low 65 90 c h))
 
-pub letter_low : (c : ℕ) → is_letter c ≡ true → 55 ≤ c
-unfolding is_letter
-letter_low c h = let l : 65 ≤ c = between_low 65 90 c h in omega arith
+either_high : (c : ℕ) (t : Bool) → is_digit c ≡ t → (t || is_letter c) ≡ true → 57 < c → is_letter c ≡ true
+either_high c true e h l = absurd (omega (arith, digit_high c e))
+either_high c false e h l = h
 
 letter_not : (c : ℕ) → is_letter c ≡ true → is_digit c ≡ false
 unfolding is_digit is_letter
 letter_not c h = let l : 65 ≤ c = between_low 65 90 c h in rw (le-leb 48 c (omega arith), lt-leb c 57 (omega arith))
 
--- the number of two digits
-pub record Two (c d r : ℕ) : Type 0 where
-  pub value : r ≡ (c - 48) * 10 + (d - 48)
-  pub most : r ≤ 99
-
-pub two_is : (c d x y : ℕ) → Sign c 48 9 x → Sign d 48 9 y → Two c d (x * 10 + y)
-two_is c d x y p q = record { value = rw (p.value, q.value); most = omega (arith, p.most, q.most) }
-
-pub pair_carried : (s : List ℕ) (i v r : ℕ) → every is_digit (cut s i (i + 2)) ≡ true → i + 2 ≤ length s → Two (get_or s i 0) (get_or s (i + 1) 0) r → Carried v (cut s i (i + 2)) (v * 3 + 99) (v * 3 + r)
-unfolding numeral with_sign
-pair_carried s i v r w l t =
-    let c : ℕ = get_or s i 0 in
-    let d : ℕ = get_or s (i + 1) 0 in
-    let same : (v * 3 + ((c - 48) * 10 + (d - 48))) % 97 ≡ ((v * 10 + (c - 48)) * 10 + (d - 48)) % 97 = omega arith in record {
-      same = rw (cut_two s i l, every_head is_digit s i 2 w l refl, every_at is_digit s i 2 w l 1 refl, t.value) same;
-      most = omega (arith, t.most);
-    }
-
-pub letters_carried : (s : List ℕ) (i x y z w : ℕ) → every is_letter (cut s i (i + 4)) ≡ true → i + 4 ≤ length s
-    → Sign (get_or s i 0) 55 35 x → Sign (get_or s (i + 1) 0) 55 35 y → Sign (get_or s (i + 2) 0) 55 35 z → Sign (get_or s (i + 3) 0) 55 35 w
-    → Carried 0 (cut s i (i + 4)) 1400 (x * 27 + y * 9 + z * 3 + w)
-unfolding numeral with_sign
-letters_carried s i x y z w p l a b c d =
-    let same : (x * 27 + y * 9 + z * 3 + w) % 97 ≡ ((((0 * 100 + x) * 100 + y) * 100 + z) * 100 + w) % 97 = omega arith in record {
-      same =
-          rw (
-            four_bytes s i l,
-            letter_not _ (every_head is_letter s i 4 p l refl),
-            letter_not _ (every_at is_letter s i 4 p l 1 refl),
-            letter_not _ (every_at is_letter s i 4 p l 2 refl),
-            letter_not _ (every_at is_letter s i 4 p l 3 refl),
-            ← a.value,
-            ← b.value,
-            ← c.value,
-            ← d.value,
-          )
-          same;
-      most = omega (arith, a.most, b.most, c.most, d.most);
-    }
-
--- a letter or digit: which of them, by its byte
-either_low : (c : ℕ) (t : Bool) → is_digit c ≡ t → (t || is_letter c) ≡ true → c < 58 → is_digit c ≡ true
-unfolding is_letter
-either_low c true e h l = e
-either_low c false e h l = absurd (omega (arith, between_low 65 90 c h))
-
-either_high : (c : ℕ) (t : Bool) → is_digit c ≡ t → (t || is_letter c) ≡ true → 58 ≤ c → is_letter c ≡ true
-either_high c true e h l = absurd (omega (arith, digit_high c e))
-either_high c false e h l = h
-
-module _ (v c : ℕ) (h : is_alnum c ≡ true) where
-  module _ (l : c < 58) where
-    pub sign_digit : is_digit c ≡ true
+module _ (c : ℕ) (h : is_alnum c ≡ true) where
+  module _ (l : c ≤ 57) where
+    digit : is_digit c ≡ true
     unfolding is_alnum
-    sign_digit = either_low c (is_digit c) refl h l
+    digit = either_low c (is_digit c) refl h l
 
-    pub carried_digit : (x : ℕ) → Sign c 48 9 x → Carried v (c ∷ []) (v * 10 + 35) (v * 10 + x)
+    pub sign_digit : 48 ≤ c
+    sign_digit = digit_low c digit
+
+    pub carried_digit : (v : ℕ) → Carried v (c ∷ []) (v * 10 + 35) (v * 10 + (c - 48))
     unfolding numeral with_sign
-    carried_digit x w = record { same = rw (sign_digit, ← w.value); most = omega (arith, w.most) }
+    carried_digit v = record { same = rw digit; most = omega arith }
 
-  module _ (l : 58 ≤ c) where
-    pub sign_letter : is_letter c ≡ true
+  module _ (l : 57 < c) where
+    letter : is_letter c ≡ true
     unfolding is_alnum
-    sign_letter = either_high c (is_digit c) refl h l
+    letter = either_high c (is_digit c) refl h l
 
-    pub carried_letter : (x : ℕ) → Sign c 55 35 x → Carried v (c ∷ []) (v * 10 + 35) (v * 3 + x)
-    unfolding numeral with_sign
-    carried_letter x w =
-        let same : (v * 3 + x) % 97 ≡ (v * 100 + x) % 97 = omega arith in
-        record { same = rw (letter_not c sign_letter, ← w.value) same; most = omega (arith, w.most) }
+    pub sign_letter : 65 ≤ c
+    unfolding is_letter
+    sign_letter = between_low 65 90 c letter
 
--- ---- runs of them
+    pub carried_letter : (v : ℕ) → Carried v (c ∷ []) (v * 10 + 35) (v * 3 + (c - 65 + 10))
+    unfolding numeral with_sign is_letter
+    carried_letter v =
+        let low : 65 ≤ c = sign_letter in
+        let high : c ≤ 90 = between_high 65 90 c letter in
+        let same : (v * 3 + (c - 65 + 10)) % 97 ≡ (v * 100 + (c - 55)) % 97 = omega arith in
+        record { same = rw (letter_not c letter) same; most = omega arith }
 
-module _ (s : List ℕ) (i : ℕ) where
-  pub signs_2 : (u v r t m : ℕ) → i + 2 ≤ length s → Carried u (get_or s i 0 ∷ []) t v → Carried v (get_or s (i + 1) 0 ∷ []) m r → Carried u (cut s i (i + 2)) 96 (r % 97)
-  signs_2 u v r t m l p q = rw (cut_two s i l) (carried_fold u _ m r (carried_on u v r t m (get_or s i 0 ∷ []) (get_or s (i + 1) 0 ∷ []) p q))
+-- ---- sign by sign
 
-  runs_2 : (k j u v r t m : ℕ) → i + k ≡ j → Carried u (cut s i (i + k)) t v → Carried v (cut s j (j + 2)) m r → Carried u (cut s i (i + k + 2)) m r
-  runs_2 k j u v r t m e p q = carried_cut s i k (i + k + 2) u v r t m (omega arith) p (rw e q)
+every_get : (p : ℕ → Bool) (cs : List ℕ) → every p cs ≡ true → (k : ℕ) → k < length cs → p (get_or cs k 0) ≡ true
+every_get p cs h k l = every_first p cs k (length cs) (every_within p cs 0 (length cs) k (length cs) (rw (cut_all cs) h) (omega arith) (omega arith) (omega arith)) l (omega arith)
 
-  pub runs_6 : (u v w r t m n : ℕ) → Carried u (cut s i (i + 2)) t v → Carried v (cut s (i + 2) (i + 2 + 2)) m w → Carried w (cut s (i + 4) (i + 4 + 2)) n r → Carried u (cut s i (i + 6)) 96 (r % 97)
-  runs_6 u v w r t m n p q x =
-      let e : i + 2 + 2 ≡ i + 4 = omega arith in
-      let f : i + 4 + 2 ≡ i + 6 = omega arith in
-      carried_fold u (cut s i (i + 6)) n r (rw f at (runs_2 4 (i + 4) u w r m n refl (rw e at (runs_2 2 (i + 2) u v w t m refl p q)) x))
+pub carrying_start : (cs : List ℕ) → Carried 0 (take 0 cs) 96 0
+unfolding numeral
+carrying_start cs = record { same = refl; most = omega arith }
 
-  pub runs_8 : (u v w x r t m n o : ℕ) → Carried u (cut s i (i + 2)) t v → Carried v (cut s (i + 2) (i + 2 + 2)) m w → Carried w (cut s (i + 4) (i + 4 + 2)) n x
-      → Carried x (cut s (i + 6) (i + 6 + 2)) o r → Carried u (cut s i (i + 8)) o r
-  runs_8 u v w x r t m n o p q y z =
-      let e : i + 2 + 2 ≡ i + 4 = omega arith in
-      let f : i + 4 + 2 ≡ i + 6 = omega arith in
-      let g : i + 6 + 2 ≡ i + 8 = omega arith in
-      rw g at (runs_2 6 (i + 6) u x r n o refl (rw f at (runs_2 4 (i + 4) u w x m n refl (rw e at (runs_2 2 (i + 2) u v w t m refl p q)) y)) z)
+pub carrying_more : (cs : List ℕ) (k v r m : ℕ) → k < length cs → Carried 0 (take k cs) 96 v → Carried v (get_or cs k 0 ∷ []) m r → Carried 0 (take (k + 1) cs) 96 (r % 97)
+carrying_more cs k v r m h p q =
+    let e : k + 1 ≡ suc k = omega arith in
+    rw (e, take-suc cs k 0 h) (carried_fold 0 (take k cs ++ get_or cs k 0 ∷ []) m r (carried_on 0 v r 96 m (take k cs) (get_or cs k 0 ∷ []) p q))
 
--- bank, branch and account, one behind the other
-pub runs_tail : (s : List ℕ) (at v w r t m n : ℕ) → Carried 0 (cut s (at + 4) (at + 4 + 4)) t v → Carried v (cut s (at + 8) (at + 8 + 6)) m w → Carried w (cut s (at + 14) (at + 14 + 8)) n r
-    → Carried 0 (cut s (at + 4) (at + 22)) n r
-runs_tail s at v w r t m n p q x =
-    let e : at + 4 + 4 ≡ at + 8 = omega arith in
-    let f : at + 8 + 6 ≡ at + 14 = omega arith in
-    let g : at + 4 + 10 ≡ at + 14 = omega arith in
-    let h : at + 14 + 8 ≡ at + 22 = omega arith in
-    let a : Carried 0 (cut s (at + 4) (at + 14)) m w = carried_cut s (at + 4) 4 (at + 14) 0 v w t m (omega arith) p (rw e (rw f at q)) in
-    carried_cut s (at + 4) 10 (at + 22) 0 w r m n (omega arith) (rw g a) (rw g (rw h at x))
+-- ---- the control
 
--- ---- the control of the 22 bytes at a place: f carries all but the first four, k is the control digits
+-- the control digits
+abbrev control_digits : List ℕ → ℕ
+control_digits s = (get_or s 2 0 - 48) * 10 + (get_or s 3 0 - 48)
 
-module _ (s : List ℕ) (at f k t : ℕ) (h : at + 22 ≤ length s) (g : Shaped s at) (p : Carried 0 (cut s (at + 4) (at + 22)) t f) (w : Two (get_or s (at + 2) 0) (get_or s (at + 2 + 1) 0) k) where
-  head : numeral f (cut s at (at + 4)) % 97 ≡ (f * 27 + 147 + k) % 97
-  unfolding numeral with_sign is_digit
-  head =
-      let e : at + 2 + 1 ≡ at + 3 = omega arith in
-      let l : at + 2 + 2 ≤ length s = omega arith in
-      let c : is_digit (get_or s (at + 2) 0) ≡ true = every_head is_digit s (at + 2) 2 g.control l refl in
-      let d : is_digit (get_or s (at + 3) 0) ≡ true = rw e at (every_at is_digit s (at + 2) 2 g.control l 1 refl) in
-      let v : k ≡ (get_or s (at + 2) 0 - 48) * 10 + (get_or s (at + 3) 0 - 48) = rw e at w.value in
-      rw (four_bytes s at (omega arith), g.first, g.second, c, d, v) (omega arith)
+module _ (s : List ℕ) (h : iban_shape s ≡ true) where
+  -- each sign behind the first four is a letter or digit
+  pub tail_sign : (k : ℕ) → k < length (take 18 (drop 4 s)) → is_alnum (get_or (take 18 (drop 4 s)) k 0) ≡ true
+  tail_sign k l = every_get is_alnum (take 18 (drop 4 s)) (every_take is_alnum 18 (drop 4 s) (every_drop is_alnum 4 s (iban_alnum s h))) k l
 
-  parts : control (cut s at (at + 22)) ≡ (eqb ((f * 27 + 147 + k) % 97) 1 && between 2 98 k)
-  unfolding control remainder
-  parts =
-      let e : at + 2 + 1 ≡ at + 3 = omega arith in
-      rw (
-        cut_drop s at (at + 22) 4,
-        cut_take s at (at + 22) 4 (omega arith),
-        cut_get s at (at + 22) 2 (omega arith),
-        cut_get s at (at + 22) 3 (omega arith),
-        ← (rw e at w.value),
-        numeral_append,
-        numeral_same (cut s at (at + 4)) (numeral 0 (cut s (at + 4) (at + 22))) f (sym p.same),
-        head,
-      )
+  pub third_digit : 48 ≤ get_or s 2 0
+  third_digit = digit_low _ (shape_told s h).third
 
-  pub control_not : ((f * 27 + 147 + k) % 97 ≡ 1 → ⊥) → false ≡ control (cut s at (at + 22))
-  control_not e = rw (parts, ne_eqb _ 1 e)
+  pub fourth_digit : 48 ≤ get_or s 3 0
+  fourth_digit = digit_low _ (shape_told s h).fourth
 
-  pub control_low : (f * 27 + 147 + k) % 97 ≡ 1 → k < 2 → false ≡ control (cut s at (at + 22))
-  control_low e l = rw (parts, eq-eqb _ 1 e, lt-leb 2 k l)
+  -- f carries all of them
+  module _ (f n : ℕ) (p : Carried 0 (take n (take 18 (drop 4 s))) 96 f) (m : length (take 18 (drop 4 s)) ≤ n) where
+    all : take n (take 18 (drop 4 s)) ≡ drop 4 s
+    all = let l : length (drop 4 s) ≡ 18 = omega (arith, length-drop 4 s, iban_length s h) in take_all n (take 18 (drop 4 s)) m ∙ take_all 18 (drop 4 s) (omega arith)
 
-  pub control_high : (f * 27 + 147 + k) % 97 ≡ 1 → 2 ≤ k → leb k 98 ≡ control (cut s at (at + 22))
-  control_high e l = rw (parts, eq-eqb _ 1 e, le-leb 2 k l)
+    head : numeral f (take 4 s) % 97 ≡ (f * 27 + 147 + control_digits s) % 97
+    unfolding numeral with_sign is_digit
+    head = let g : Shaped s = shape_told s h in rw (g.front, g.first, g.second, g.third, g.fourth) (omega arith)
 
--- ---- shape, then control
+    parts : control s ≡ (eqb ((f * 27 + 147 + control_digits s) % 97) 1 && between 2 98 (control_digits s))
+    unfolding control remainder
+    parts = rw (numeral_append, numeral_same (take 4 s) (numeral 0 (drop 4 s)) f (sym (rw all at p.same)), head)
 
-module _ (cs : List ℕ) (t : Bool) (u : t ≡ iban_shape cs) where
-  pub passes_shaped : t ≡ true → (r : Bool) → r ≡ control cs → r ≡ passes cs
-  unfolding passes
-  passes_shaped d r e = rw (← u, d) e
+    pub control_not : ((f * 27 + 147 + control_digits s) % 97 ≡ 1 → ⊥) → false ≡ control s
+    control_not e = rw (parts, ne_eqb _ 1 e)
 
-  pub passes_not : t ≡ false → false ≡ passes cs
-  unfolding passes
-  passes_not d = rw (← u, d)
+    module _ (e : (f * 27 + 147 + control_digits s) % 97 ≡ 1) where
+      pub control_low : control_digits s < 2 → false ≡ control s
+      control_low l = rw (parts, eq-eqb _ 1 e, lt-leb 2 (control_digits s) l)
 
-pub ruleset carrying = (digit_low, digit_is, letter_low, letter_is, two_is, pair_carried, letters_carried, sign_digit, carried_digit, sign_letter, carried_letter, signs_2, runs_6, runs_8, every_front, every_piece, every_head, every_at)
+      pub control_high : 2 ≤ control_digits s → leb (control_digits s) 98 ≡ control s
+      control_high l = rw (parts, eq-eqb _ 1 e, le-leb 2 (control_digits s) l)
 
-pub ruleset controls = (shape_told, told_control, told_bank, told_branch, told_account, runs_tail, control_not, control_low, control_high, passes_shaped, passes_not, holds_told)
+pub ruleset controls = (sign_digit, carried_digit, sign_letter, carried_letter, carrying_start, carrying_more, tail_sign, third_digit, fourth_digit, control_not, control_low, control_high)

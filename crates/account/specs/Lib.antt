@@ -1,3 +1,4 @@
 pub mod Control
 pub mod Shape
 pub mod Read
+pub mod Part

@@ -1,128 +1,116 @@
--- The shapes of a BIC and an IBAN in runs of one class, and what a right shape tells of each run.
-use Rattle.std.specs.Prelude.{◌≡◌, Bool, true, false, ◌&&◌, cond, List, ℕ, ◌+◌, ◌-◌, ◌≤◌, ◌<◌, eqb, length, get_or}
-use Rattle.std.proofs.Math.Path.{sym}
+-- The shapes of a BIC and an IBAN in runs of one class, and what a right shape tells of the first four signs.
+use Rattle.std.specs.Prelude.{◌≡◌, Bool, true, false, ◌&&◌, cond, List, [], ◌∷◌, ℕ, eqb, length, get_or, take}
+use Rattle.std.proofs.Math.Path.{refl, sym}
 use Rattle.std.proofs.Common.{◌∙◌, eq-eqb, ne_eqb, eqb-true}
 use native.Mathlib.Omega.{arith}
 use Rattle.rules.specs.Text.{ascii, is_digit, is_letter, is_alnum, every, fits, fits_sign}
 use Rattle.rules.specs.Accounts.{is_bic, iban_shape}
-use Rattle.laws.specs.Parts.{cut}
-use Rattle.laws.specs.Tests.{and_left, and_right, cond_left, cond_right, and_holds, and_off}
-use Rattle.laws.specs.Reading.{fits_short}
+use Rattle.laws.specs.Parts.{cut, cut_all}
+use Rattle.laws.specs.Tests.{and_left, cond_left, cond_right, and_holds, and_failed, not_holds}
+use Rattle.laws.specs.Reading.{fits_length}
+use Rattle.laws.specs.Every.{every_within, every_first}
 use Rattle.laws.specs.Places.{Passed}
 use Rattle.laws.specs.Patterns.{cond_and, digit_sign, letter_sign, alnum_sign, fits_sign_lem, fits_run, fits_last, run_on, run_off}
+use Rattle.rule_laws.specs.Groups.{Four, Four.four, four_of, iban_length}
+
+-- a pattern from the first byte on
+whole : (p s : List ℕ) (n : ℕ) → length s ≡ n → fits p s ≡ fits p (cut s 0 n)
+whole p s n e = rw (← e, cut_all s)
 
 -- ---- a BIC
 
-module _ (s : List ℕ) (at : ℕ) where
-  pub bic_short : length s - at < 8 → false ≡ is_bic (cut s at (at + 8))
+module _ (s : List ℕ) where
+  pub bic_long : (length s ≡ 8 → ⊥) → false ≡ is_bic s
   unfolding is_bic
-  bic_short h = fits_short (ascii "aaaaaacc") s at h
+  bic_long h = not_holds _ (λ q. h (sym (fits_length (ascii "aaaaaacc") s q)))
 
-  pub bic_runs : at ≤ length s → 8 ≤ length s - at → (r : Bool) → r ≡ (every is_letter (cut s at (at + 6)) && every is_alnum (cut s (at + 6) (at + 6 + 2))) → r ≡ is_bic (cut s at (at + 8))
+  bic_runs : length s ≡ 8 → is_bic s ≡ (every is_letter (cut s 0 6) && every is_alnum (cut s 6 8))
   unfolding is_bic
-  bic_runs h k r e =
-      e ∙ sym (fits_run 97 is_letter letter_sign (ascii "cc") s 6 at (at + 8) (omega arith) (omega arith) ∙ rw (fits_last 99 is_alnum alnum_sign s 2 (at + 6) (at + 8) (omega arith) (omega arith)))
+  bic_runs e =
+      whole (ascii "aaaaaacc") s 8 e
+      ∙ fits_run 97 is_letter letter_sign (ascii "cc") s 6 0 8 (omega arith) (omega arith)
+      ∙ rw (fits_last 99 is_alnum alnum_sign s 2 6 8 (omega arith) (omega arith))
+
+  module _ (e : length s ≡ 8) (l : ℕ) (v : Passed is_letter s 0 6 l) where
+    pub bic_letters : eqb l 6 ≡ true → (r : ℕ) → Passed is_alnum s 6 2 r → eqb r 2 ≡ is_bic s
+    bic_letters h r w = and_holds _ _ (eqb l 6) (eqb r 2) v.whole h w.whole ∙ sym (bic_runs e)
+
+    pub bic_none : eqb l 6 ≡ false → eqb l 6 ≡ is_bic s
+    bic_none h = and_failed _ _ (eqb l 6) v.whole h ∙ sym (bic_runs e)
 
 -- ---- an IBAN
 
 -- `BG` and two control digits
 unfoldable pub iban_head : List ℕ → Bool
-iban_head cs = fits (ascii "BGnn") cs
-
-module _ (s : List ℕ) (at : ℕ) (l : at + 4 ≤ length s) where
-  head_signs : iban_head (cut s at (at + 4)) ≡ cond (eqb 66 (get_or s at 0)) (cond (eqb 71 (get_or s (at + 1) 0)) (every is_digit (cut s (at + 2) (at + 2 + 2))) false) false
-  unfolding iban_head fits_sign
-  head_signs =
-      let e : at + 1 + 1 ≡ at + 2 = omega arith in
-      fits_sign_lem 66 (ascii "Gnn") s at (at + 4) (omega arith) l
-      ∙ rw (fits_sign_lem 71 (ascii "nn") s (at + 1) (at + 4) (omega arith) l, e, fits_last 110 is_digit digit_sign s 2 (at + 2) (at + 4) (omega arith) l)
-
-  pub head_first : (get_or s at 0 ≡ 66 → ⊥) → false ≡ iban_head (cut s at (at + 4))
-  head_first h = rw (head_signs, ne_eqb 66 (get_or s at 0) (λ e. h (sym e)))
-
-  module _ (b : get_or s at 0 ≡ 66) where
-    pub head_second : (get_or s (at + 1) 0 ≡ 71 → ⊥) → false ≡ iban_head (cut s at (at + 4))
-    head_second h = rw (head_signs, eq-eqb 66 (get_or s at 0) (sym b), ne_eqb 71 (get_or s (at + 1) 0) (λ e. h (sym e)))
-
-    pub head_digits : get_or s (at + 1) 0 ≡ 71 → (r : ℕ) → Passed is_digit s (at + 2) 2 r → eqb r 2 ≡ iban_head (cut s at (at + 4))
-    head_digits g r w = rw (head_signs, eq-eqb 66 (get_or s at 0) (sym b), eq-eqb 71 (get_or s (at + 1) 0) (sym g)) w.whole
+iban_head s = cond (eqb 66 (get_or s 0 0)) (cond (eqb 71 (get_or s 1 0)) (every is_digit (cut s 2 4)) false) false
 
 -- the runs behind them
-abbrev pub iban_tail : List ℕ → ℕ → Bool
-iban_tail s at = every is_letter (cut s (at + 4) (at + 4 + 4)) && (every is_digit (cut s (at + 8) (at + 8 + 6)) && every is_alnum (cut s (at + 14) (at + 14 + 8)))
+abbrev pub iban_tail : List ℕ → Bool
+iban_tail s = every is_letter (cut s 4 8) && (every is_digit (cut s 8 14) && every is_alnum (cut s 14 22))
 
-module _ (s : List ℕ) (at : ℕ) where
-  pub shape_short : length s - at < 22 → false ≡ iban_shape (cut s at (at + 22))
-  unfolding iban_shape
-  shape_short h = fits_short (ascii "BGnnaaaannnnnncccccccc") s at h
+module _ (s : List ℕ) where
+  pub head_first : (get_or s 0 0 ≡ 66 → ⊥) → false ≡ iban_head s
+  unfolding iban_head
+  head_first h = rw (ne_eqb 66 (get_or s 0 0) (λ e. h (sym e)))
 
-  runs : at + 22 ≤ length s → iban_shape (cut s at (at + 22)) ≡ (iban_head (cut s at (at + 4)) && iban_tail s at)
-  unfolding iban_shape fits_sign
+  module _ (b : get_or s 0 0 ≡ 66) where
+    pub head_second : (get_or s 1 0 ≡ 71 → ⊥) → false ≡ iban_head s
+    unfolding iban_head
+    head_second h = rw (eq-eqb 66 (get_or s 0 0) (sym b), ne_eqb 71 (get_or s 1 0) (λ e. h (sym e)))
+
+    pub head_digits : get_or s 1 0 ≡ 71 → (r : ℕ) → Passed is_digit s 2 2 r → eqb r 2 ≡ iban_head s
+    unfolding iban_head
+    head_digits g r w = rw (eq-eqb 66 (get_or s 0 0) (sym b), eq-eqb 71 (get_or s 1 0) (sym g)) w.whole
+
+  pub shape_long : (length s ≡ 22 → ⊥) → false ≡ iban_shape s
+  shape_long h = not_holds _ (λ q. h (iban_length s q))
+
+  runs : length s ≡ 22 → iban_shape s ≡ (iban_head s && iban_tail s)
+  unfolding iban_shape iban_head fits_sign
   runs l =
-      let e : at + 1 + 1 ≡ at + 2 = omega arith in
-      let f : at + 2 + 2 ≡ at + 4 = omega arith in
-      let g : at + 4 + 4 ≡ at + 8 = omega arith in
-      let h : at + 8 + 6 ≡ at + 14 = omega arith in
-      let behind : fits (ascii "aaaannnnnncccccccc") (cut s (at + 4) (at + 22)) ≡ iban_tail s at =
-      fits_run 97 is_letter letter_sign (ascii "nnnnnncccccccc") s 4 (at + 4) (at + 22) (omega arith) l
+      let behind : fits (ascii "aaaannnnnncccccccc") (cut s 4 22) ≡ iban_tail s =
+      fits_run 97 is_letter letter_sign (ascii "nnnnnncccccccc") s 4 4 22 (omega arith) (omega arith)
+      ∙ rw (fits_run 110 is_digit digit_sign (ascii "cccccccc") s 6 8 22 (omega arith) (omega arith), fits_last 99 is_alnum alnum_sign s 8 14 22 (omega arith) (omega arith)) in
+      whole (ascii "BGnnaaaannnnnncccccccc") s 22 l
+      ∙ fits_sign_lem 66 (ascii "Gnnaaaannnnnncccccccc") s 0 22 (omega arith) (omega arith)
       ∙ rw (
-        g,
-        fits_run 110 is_digit digit_sign (ascii "cccccccc") s 6 (at + 8) (at + 22) (omega arith) l,
-        h,
-        fits_last 99 is_alnum alnum_sign s 8 (at + 14) (at + 22) (omega arith) l,
-      ) in
-      fits_sign_lem 66 (ascii "Gnnaaaannnnnncccccccc") s at (at + 22) (omega arith) l
-      ∙ rw (
-        fits_sign_lem 71 (ascii "nnaaaannnnnncccccccc") s (at + 1) (at + 22) (omega arith) l,
-        e,
-        fits_run 110 is_digit digit_sign (ascii "aaaannnnnncccccccc") s 2 (at + 2) (at + 22) (omega arith) l,
-        f,
+        fits_sign_lem 71 (ascii "nnaaaannnnnncccccccc") s 1 22 (omega arith) (omega arith),
+        fits_run 110 is_digit digit_sign (ascii "aaaannnnnncccccccc") s 2 2 22 (omega arith) (omega arith),
         behind,
-        head_signs s at (omega arith),
-        f,
         cond_and,
         cond_and,
       )
 
-  pub shape_runs : at ≤ length s → 22 ≤ length s - at → (r : Bool) → r ≡ (iban_head (cut s at (at + 4)) && iban_tail s at) → r ≡ iban_shape (cut s at (at + 22))
-  shape_runs h k r e = e ∙ sym (runs (omega arith))
+  module _ (l : length s ≡ 22) (t : Bool) (u : t ≡ iban_head s) where
+    pub shape_headed : t ≡ true → (r : Bool) → r ≡ iban_tail s → r ≡ iban_shape s
+    shape_headed h r e = and_holds _ _ t r u h e ∙ sym (runs l)
+
+    pub shape_unheaded : t ≡ false → t ≡ iban_shape s
+    shape_unheaded h = and_failed _ _ t u h ∙ sym (runs l)
 
 -- what a right shape tells
-pub record Shaped (s : List ℕ) (at : ℕ) : Type 0 where
-  pub first : get_or s at 0 ≡ 66
-  pub second : get_or s (at + 1) 0 ≡ 71
-  pub control : every is_digit (cut s (at + 2) (at + 2 + 2)) ≡ true
-  pub bank : every is_letter (cut s (at + 4) (at + 4 + 4)) ≡ true
-  pub branch : every is_digit (cut s (at + 8) (at + 8 + 6)) ≡ true
-  pub account : every is_alnum (cut s (at + 14) (at + 14 + 8)) ≡ true
+pub record Shaped (s : List ℕ) : Type 0 where
+  pub first : get_or s 0 0 ≡ 66
+  pub second : get_or s 1 0 ≡ 71
+  pub third : is_digit (get_or s 2 0) ≡ true
+  pub fourth : is_digit (get_or s 3 0) ≡ true
+  pub front : take 4 s ≡ get_or s 0 0 ∷ get_or s 1 0 ∷ get_or s 2 0 ∷ get_or s 3 0 ∷ []
 
-pub shape_told : (s : List ℕ) (at : ℕ) → at + 22 ≤ length s → iban_shape (cut s at (at + 22)) ≡ true → Shaped s at
-shape_told s at l h =
-    let all : (iban_head (cut s at (at + 4)) && iban_tail s at) ≡ true = sym (runs s at l) ∙ h in
-    let head : cond (eqb 66 (get_or s at 0)) (cond (eqb 71 (get_or s (at + 1) 0)) (every is_digit (cut s (at + 2) (at + 2 + 2))) false) false ≡ true =
-    sym (head_signs s at (omega arith)) ∙ and_left _ _ all in
-    let rest = and_right (iban_head (cut s at (at + 4))) _ all in
-    let tail = and_right (every is_letter (cut s (at + 4) (at + 4 + 4))) _ rest in
-    let two = cond_right (eqb 66 (get_or s at 0)) _ head in record {
-      first = sym (eqb-true 66 (get_or s at 0) (cond_left _ _ head));
-      second = sym (eqb-true 71 (get_or s (at + 1) 0) (cond_left _ _ two));
-      control = cond_right (eqb 71 (get_or s (at + 1) 0)) _ two;
-      bank = and_left _ _ rest;
-      branch = and_left _ _ tail;
-      account = and_right (every is_digit (cut s (at + 8) (at + 8 + 6))) _ tail;
+pub shape_told : (s : List ℕ) → iban_shape s ≡ true → Shaped s
+unfolding iban_head every
+shape_told s h =
+    let l : length s ≡ 22 = iban_length s h in
+    let head : iban_head s ≡ true = and_left _ _ (sym (runs s l) ∙ h) in
+    let two = cond_right (eqb 66 (get_or s 0 0)) _ head in
+    let digits = cond_right (eqb 71 (get_or s 1 0)) _ two in record {
+      first = sym (eqb-true 66 (get_or s 0 0) (cond_left _ _ head));
+      second = sym (eqb-true 71 (get_or s 1 0) (cond_left _ _ two));
+      third = every_first is_digit s 2 4 digits (omega arith) (omega arith);
+      fourth = every_first is_digit s 3 4 (every_within is_digit s 2 4 3 4 digits (omega arith) (omega arith) (omega arith)) (omega arith) (omega arith);
+      front = go (four_of s (omega arith));
     }
+  where
+    go : {xs : List ℕ} → Four xs → take 4 xs ≡ get_or xs 0 0 ∷ get_or xs 1 0 ∷ get_or xs 2 0 ∷ get_or xs 3 0 ∷ []
+    go (four a b c d more) = refl
 
-module _ (s : List ℕ) (at : ℕ) (l : at + 22 ≤ length s) (h : iban_shape (cut s at (at + 22)) ≡ true) where
-  pub told_control : every is_digit (cut s (at + 2) (at + 2 + 2)) ≡ true
-  told_control = (shape_told s at l h).control
-
-  pub told_bank : every is_letter (cut s (at + 4) (at + 4 + 4)) ≡ true
-  told_bank = (shape_told s at l h).bank
-
-  pub told_branch : every is_digit (cut s (at + 8) (at + 8 + 6)) ≡ true
-  told_branch = (shape_told s at l h).branch
-
-  pub told_account : every is_alnum (cut s (at + 14) (at + 14 + 8)) ≡ true
-  told_account = (shape_told s at l h).account
-
-pub ruleset shapes = (bic_short, bic_runs, head_first, head_second, head_digits, shape_short, shape_runs, run_on, run_off, and_holds, and_off)
+pub ruleset shapes = (bic_long, bic_letters, bic_none, head_first, head_second, head_digits, shape_long, shape_headed, shape_unheaded, run_on, run_off)

@@ -12,7 +12,10 @@ use Rattle.rules.specs.BankingDays.{earlier_date, holidays}
 use Rattle.rules.specs.Calls.{holds_of}
 use Rattle.laws.specs.Parts.{cut, from, from_all, from_take, from_drop, from_length}
 use Rattle.laws.specs.Tests.{never, none_some, not_holds, cond_left}
-use Rattle.calendar.specs.Days.{dated_of, stands_some}
+use Rattle.std.specs.Prelude as P
+use Rattle.std.specs.Prelude.{Some, None}
+use Rattle.laws.specs.Slices.{part_cut}
+use Rattle.laws.specs.Told.{told}
 use Rattle.rule_laws.specs.Options.{some_is}
 use Rattle.rule_laws.specs.Commas.{parted_last, parted_next, PartsRead, PartsRead.one, PartsRead.next, parts_read}
 use Rattle.rule_laws.specs.Dates.{date_exists, date_length}
@@ -93,15 +96,6 @@ next_rises last d p rest h l = rw (parted_next p rest (date_part p d h), h) (go 
 behind_six : (cs : List ℕ) → 6 < length cs → get_or cs 6 0 ≡ 44 → cs ≡ take 6 cs ++ 44 ∷ drop 7 cs
 behind_six cs l h = sym (take-append-drop 6 cs) ∙ ap (λ (r : List ℕ). take 6 cs ++ r) (drop-cons cs 6 0 l ∙ ap (λ (c : ℕ). c ∷ drop 7 cs) h)
 
--- the date that a number stands for
-is_dated : (d n : ℕ) → dated_of d ≡ some n → d ≡ n
-unfolding dated_of
-is_dated d n h = go (eqb d 0) h
-  where
-    go : (t : Bool) → cond t none (some d) ≡ some n → d ≡ n
-    go true k = none_some k
-    go false k = some_is k
-
 -- ---- the loop: x is what the whole list is, and the bytes from a place are left
 
 module _ (list : List ℕ) (at last : ℕ) (x : Bool) (inv : rising last (from list at) ≡ x) where
@@ -117,14 +111,22 @@ module _ (list : List ℕ) (at last : ℕ) (x : Bool) (inv : rising last (from l
   pub rise_short : length list - at < 6 → false ≡ x
   rise_short h = stops (λ f. omega (arith, f.long, from_length list at))
 
-  module _ (d : ℕ) (u : dated_of d ≡ date (cut list at (at + 6))) where
+  -- q is the date that those six are
+  module _ (q : P.Option ℕ) (w : told q ≡ date (take (at + 6 - at) (drop at list))) where
+    told_six : date (take 6 (from list at)) ≡ told q
+    told_six = ap date (six_bytes ∙ sym (part_cut list at (at + 6) (omega arith))) ∙ sym w
+
+    pub rise_unread : q ≡ None → false ≡ x
+    rise_unread e = stops (λ f. none_some (sym (ap told e) ∙ sym told_six ∙ f.read))
+
+  module _ (q : P.Option ℕ) (w : told q ≡ date (take (at + 6 - at) (drop at list))) (d : ℕ) (u : q ≡ Some d) where
+    read : date (take 6 (from list at)) ≡ some d
+    read = told_six q w ∙ ap told u
+
     pub rise_early : d ≤ last → false ≡ x
-    rise_early h = stops (λ f. let e : d ≡ f.day = is_dated d f.day (u ∙ ap date (sym six_bytes) ∙ f.read) in omega (arith, f.after))
+    rise_early h = stops (λ f. let e : d ≡ f.day = some_is (sym read ∙ f.read) in omega (arith, f.after))
 
     module _ (l : last < d) where
-      read : date (take 6 (from list at)) ≡ some d
-      read = ap date six_bytes ∙ sym (stands_some d _ u (λ z. omega arith))
-
       pub rise_last : length list - at ≡ 6 → true ≡ x
       rise_last h =
           let a : take 6 (from list at) ≡ from list at = take_all 6 (from list at) (omega (arith, from_length list at)) in
@@ -183,4 +185,4 @@ passes_rising (c ∷ cs) r n l e = e ∙ go (read_each date (parted (c ∷ cs)))
         pick true = refl
         pick false = refl
 
-pub ruleset rises = (rise_start, rise_end, rise_short, rise_early, rise_last, rise_bad, rise_more, passes_empty, passes_long, passes_rising)
+pub ruleset rises = (rise_start, rise_end, rise_short, rise_unread, rise_early, rise_last, rise_bad, rise_more, passes_empty, passes_long, passes_rising)

@@ -13,10 +13,8 @@ fn days_before(year: u16, month: u16) -> u16
     ensures { DaysBefore year month result }
 {
     let mut days: u16 = 0;
-    let mut m: u16 = 1;
-    while m < month {
+    for m in 1..month {
         days += month_length(year, m as usize) as u16;
-        m += 1;
     }
     days
 }

@@ -1,25 +1,20 @@
 -- Which dates exist, and the date that six digits are, one law for each way that the code goes.
-use Rattle.std.specs.Prelude.{◌≡◌, refl, Bool, true, false, ◌&&◌, cond, List, [], ◌∷◌, ℕ, ◌+◌, ◌-◌, ◌*◌, ◌/◌, ◌%◌, ◌^◌, ◌≤◌, ◌<◌, leb, eqb, length, get_or}
+use Rattle.std.specs.Prelude.{◌≡◌, refl, Bool, true, false, ◌&&◌, cond, List, [], ◌∷◌, ℕ, ◌+◌, ◌-◌, ◌*◌, ◌/◌, ◌%◌, ◌^◌, ◌≤◌, ◌<◌, leb, length, get_or}
 use Rattle.std.proofs.Common.{sym, ap, ◌∙◌}
-use Rattle.std.proofs.Math.Option.{Option, none, some}
+use Rattle.std.proofs.Math.Option.{none, some}
 use native.Mathlib.Omega.{arith}
 use borrow.Author.Tests.{le-leb, lt-leb, eq-eqb, ne_eqb}
-use Rattle.rules.specs.Text.{between, is_digit, every, digits_from}
+use Rattle.rules.specs.Text.{between, is_digit, every, digits, digits_from}
 use Rattle.rules.specs.Dates.{month_lengths, leap_row, month_length, exists, date}
-use Rattle.laws.specs.Parts.{cut, cut_length, cut_two}
+use Rattle.laws.specs.Parts.{cut, cut_all, cut_two}
 use Rattle.laws.specs.Tests.{none_some, and_left, between_low}
 use Rattle.laws.specs.Reading.{digit_low, digit_small}
 use Rattle.laws.specs.Every.{every_front, every_piece, every_head, every_at}
-use Rattle.laws.specs.Places.{Passed, passed_all}
-use Rattle.laws.specs.Values.{Valued, valued, digits_take, behind_digits, passed_none}
+use Rattle.laws.specs.Values.{Valued, valued, digits_take, behind_digits, every_none}
 
 -- a year, a month and a day make an existing date
 unfoldable pub is_date : ℕ → ℕ → ℕ → Bool
 is_date year month day = between 1 12 month && between 1 (month_length year month) day
-
--- the date that a number stands for: 0 is no date
-unfoldable pub dated_of : ℕ → Option ℕ
-dated_of n = cond (eqb n 0) none (some n)
 
 -- ---- the length of a month
 
@@ -125,55 +120,53 @@ two_more s a k x y p q l =
     valued s a (k + 2) (x * 100 + y) (omega arith)
     (rw (e, behind_digits digits_from digits_take s a k (a + k + 2) x p (omega arith), c) (sym (two_behind _ _ x y (sym (rw c at q.value)))))
 
--- ---- the date at a place
+-- ---- six bytes that are digits: those of the year, of the month, of the day
 
--- six bytes that are digits: those of the year, of the month, of the day
-module _ (s : List ℕ) (a r : ℕ) (w : Passed is_digit s a 6 r) (h : 6 ≤ r) where
-  pub year_digits : every is_digit (cut s a (a + 2)) ≡ true
-  year_digits = every_front is_digit s a 6 (passed_all is_digit s a 6 r w h) 2 refl
+module _ (s : List ℕ) (h : length s ≡ 6) where
+  whole : cut s 0 (0 + 6) ≡ s
+  whole = rw h at (cut_all s)
 
-  pub month_digits : every is_digit (cut s (a + 2) (a + 2 + 2)) ≡ true
-  month_digits = every_piece is_digit s a 6 (passed_all is_digit s a 6 r w h) 2 2 refl
+  module _ (t : Bool) (u : t ≡ every is_digit s) where
+    pub date_none : t ≡ false → none ≡ date s
+    unfolding date
+    date_none k = rw (eq-eqb _ _ h, ← every_none s (sym u ∙ k))
 
-  pub day_digits : every is_digit (cut s (a + 4) (a + 4 + 2)) ≡ true
-  day_digits = every_piece is_digit s a 6 (passed_all is_digit s a 6 r w h) 4 2 refl
+    module _ (k : t ≡ true) where
+      six : every is_digit (cut s 0 (0 + 6)) ≡ true
+      six = rw whole (sym u ∙ k)
 
-module _ (s : List ℕ) (a : ℕ) (h : a + 6 ≤ length s) where
-  six : length (cut s a (a + 6)) ≡ 6
-  six = cut_length s a (a + 6) h ∙ omega arith
+      pub year_digits : every is_digit (cut s 0 2) ≡ true
+      year_digits = every_front is_digit s 0 6 six 2 refl
 
-  pub dated_none : (r : ℕ) → Passed is_digit s a 6 r → r < 6 → dated_of 0 ≡ date (cut s a (a + 6))
-  unfolding date dated_of
-  dated_none r w l = rw (eq-eqb _ _ six, ← passed_none s a 6 r w l)
+      pub month_digits : every is_digit (cut s 2 4) ≡ true
+      month_digits = every_piece is_digit s 0 6 six 2 2 refl
 
-  module _ (y m d : ℕ) (p : Valued s a 2 y) (q : Valued s (a + 2) 2 m) (r : Valued s (a + 4) 2 d) (t : Bool) (u : t ≡ is_date y m d) where
+      pub day_digits : every is_digit (cut s 4 6) ≡ true
+      day_digits = every_piece is_digit s 0 6 six 4 2 refl
+
+  module _ (y m d : ℕ) (p : Valued s 0 2 y) (q : Valued s 2 2 m) (r : Valued s 4 2 d) (t : Bool) (u : t ≡ is_date y m d) where
     abbrev number : ℕ
     number = y * 10000 + (m * 100 + d)
 
-    all_six : Valued s a 6 number
+    all_six : some number ≡ digits s
     all_six =
         let f : (y * 100 + m) * 100 + d ≡ number = omega arith in
-        rw f at (two_more s a 4 (y * 100 + m) d (two_more s a 2 y m p q (omega arith)) r (omega arith))
+        rw whole at ((rw f at (two_more s 0 4 (y * 100 + m) d (two_more s 0 2 y m p q (omega arith)) r (omega arith))).value)
 
     there : t ≡ exists number
     there = u ∙ exists_parts y m d number refl (omega (arith, p.small)) (omega (arith, q.small)) (omega (arith, r.small))
 
-    pub dated_there : t ≡ true → dated_of number ≡ date (cut s a (a + 6))
-    unfolding date dated_of
-    dated_there k = rw (eq-eqb _ _ six, ← all_six.value, ← there, k, ne_eqb number 0 (λ z. omega (arith, month_above y m d (sym u ∙ k))))
+    pub date_there : t ≡ true → some number ≡ date s
+    unfolding date
+    date_there k = rw (eq-eqb _ _ h, ← all_six, ← there, k)
 
-    pub dated_absent : t ≡ false → dated_of 0 ≡ date (cut s a (a + 6))
-    unfolding date dated_of
-    dated_absent k = rw (eq-eqb _ _ six, ← all_six.value, ← there, k)
+    pub date_absent : t ≡ false → none ≡ date s
+    unfolding date
+    date_absent k = rw (eq-eqb _ _ h, ← all_six, ← there, k)
 
--- what a number stands for
-module _ (n : ℕ) (x : Option ℕ) (e : dated_of n ≡ x) where
-  pub stands_none : n ≡ 0 → none ≡ x
-  unfolding dated_of
-  stands_none h = rw (eq-eqb n 0 h) at e
+-- of another length
+pub date_other : (s : List ℕ) → (length s ≡ 6 → ⊥) → none ≡ date s
+unfolding date
+date_other s n = rw (ne_eqb _ _ n)
 
-  pub stands_some : (n ≡ 0 → ⊥) → some n ≡ x
-  unfolding dated_of
-  stands_some h = rw (ne_eqb n 0 h) at e
-
-pub ruleset days = (row_leap, row_common, length_at, no_month, late_month, no_day, by_length, no_year, by_parts, digit_low, first_digit, second_digit, two_digits, digit_fits, tens_fit, two_fit, year_digits, month_digits, day_digits, dated_none, dated_there, dated_absent, stands_none, stands_some)
+pub ruleset days = (row_leap, row_common, length_at, no_month, late_month, no_day, by_length, no_year, by_parts, digit_low, first_digit, second_digit, two_digits, digit_fits, tens_fit, two_fit, year_digits, month_digits, day_digits, date_none, date_there, date_absent, date_other)

@@ -4,13 +4,13 @@
 ghost use Rattle.std.specs.Prelude.{◌≡◌, true, ◌+◌, ◌/◌, ◌%◌, ◌≤◌, length};
 ghost use Rattle.laws.specs.Parts.{cut};
 ghost use Rattle.laws.specs.Values.{Valued};
-ghost use Rattle.text.specs.Answers.{num_of};
+ghost use Rattle.laws.specs.Told.{told};
 ghost use Rattle.rules.specs.Text.{is_digit, every};
 ghost use Rattle.rules.specs.Dates.{month_length, date};
 ghost use Rattle.rules.specs.Dates as D;
-ghost use Rattle.calendar.specs.Days.{RowOf, is_date, dated_of};
+ghost use Rattle.calendar.specs.Days.{RowOf, is_date};
 
-use text::Num;
+use text::{Digit, is_all};
 
 // The lengths of the months, one row for leap years.
 const MONTHS: [[u8; 12]; 2] = [
@@ -58,10 +58,7 @@ pub fn month_and_day(n: u32, year: u16) -> u16
 fn is_date(year: u16, month: u16, day: u16) -> bool
     ensures { result ≡ is_date year month day }
 {
-    if month < 1 {
-        return false;
-    }
-    if 12 < month {
+    if month < 1 || 12 < month {
         return false;
     }
     let last = month_length(year, month as usize);
@@ -90,31 +87,18 @@ fn two_at(s: &[u8], at: usize) -> u16
     (s[at] - 48) as u16 * 10 + (s[at + 1] - 48) as u16
 }
 
-// The date at a place, 0 where there is none.
-pub fn date_at(s: &[u8], at: usize) -> u32
-    requires { at + 6 ≤ length s.now }
-    ensures { dated_of result ≡ date (cut s.now at (at + 6)) }
+// The date that six digits are: their number, where it exists.
+pub fn read_date(s: &[u8]) -> Option<u32>
+    ensures { told result ≡ date s.now }
 {
-    if text::digits_at(s, at, 6) < 6 {
-        return 0;
+    if s.len() != 6 || !is_all::<Digit>(s) {
+        return None;
     }
-    let year = two_at(s, at);
-    let month = two_at(s, at + 2);
-    let day = two_at(s, at + 4);
+    let year = two_at(s, 0);
+    let month = two_at(s, 2);
+    let day = two_at(s, 4);
     if is_date(year, month, day) {
-        return year as u32 * 10000 + (month * 100 + day) as u32;
+        return Some(year as u32 * 10000 + (month * 100 + day) as u32);
     }
-    0
-}
-
-// The date at a place: the number of its six digits, where it exists.
-pub fn read_date(s: &[u8], at: usize) -> Num
-    requires { at + 6 ≤ length s.now }
-    ensures { num_of result ≡ date (cut s.now at (at + 6)) }
-{
-    let n = date_at(s, at);
-    if n == 0 {
-        return Num::Bad;
-    }
-    Num::Value(n as u64)
+    None
 }

@@ -1,5 +1,5 @@
 -- A message, one law for each way out of the call.
-use Rattle.std.specs.Prelude.{◌≡◌, Bool, true, false, not, List, ◌++◌, ℕ, ◌+◌, ◌≤◌, ◌<◌, ◌^◌, eqb, ℤ, pos, length, drop, replicate}
+use Rattle.std.specs.Prelude.{◌≡◌, Bool, true, false, not, List, ◌++◌, ℕ, ◌+◌, ◌-◌, ◌≤◌, ◌<◌, ◌^◌, eqb, ℤ, pos, length, take, drop, replicate, Option, Err}
 use Rattle.std.proofs.Math.Path.{refl}
 use Rattle.std.proofs.Common.{sym, ap, ◌∙◌, le-leb, ne_eqb, arith}
 use Rattle.std.proofs.Math.Option.{some}
@@ -11,31 +11,27 @@ use Rattle.rules.specs.Messages.{Message, read}
 use Rattle.rules.specs.Engine.{Engine, Position}
 use Rattle.rules.specs.Calls.{first_of, holds_of, bank_of, addition, form_stops, input_stops, limit_stops, room_stops, state_stops, message_stops, message_text, messages_written, position_after, after_message, message_call, both_of, accepted_message}
 use Rattle.rules.specs.Area.{card_message, encode, decode, holds, area_size}
-use Rattle.laws.specs.Parts.{cut}
 use Rattle.laws.specs.Tests.{holds_told}
 use Rattle.laws.specs.Writing.{wrote_over, furthest}
 use Rattle.rule_laws.specs.Conditions.{numbered, first_later, first_earlier}
 use Rattle.rule_laws.specs.Clear.{LimitClear, limit_clear}
 use Rattle.engine_laws.specs.Decoded.{decoded, holds_decode}
-use Rattle.engine.specs.Totals.{TotalsOf}
+use Rattle.engine.specs.Totals.{TotalsOf, begun}
 use Rattle.engine.specs.Texts.{RegisterOf}
-use Rattle.engine.specs.declared.lookup.Totals.{Totals}
 use Rattle.engine_change.specs.Booking.{CanBook, booking_clear, booked_with, booked_after}
-use Rattle.engine.specs.References.{of_bank}
+use Rattle.engine.specs.References.{of_bank, part_is}
 use Rattle.outgoing_number.specs.declared.Numbered.{Numbered}
 use Rattle.details.specs.Message.{message_in}
 use Rattle.conditions.specs.Books.{Books}
-use Rattle.conditions.specs.Answers.{temporary_in, CheckedAs, Passes, refused_told, refused_some, passed_told}
+use Rattle.conditions.specs.Answers.{Checked, temporary_in, CheckedAs, Passes, refused_told, refused_some, passed_told, passed_room}
 use Rattle.conditions.specs.declared.booking.Booking.{Booking}
-use Rattle.conditions.specs.declared.message.Checked.{Checked}
-use Rattle.conditions.specs.declared.message.Checked.TheVariants.{Refused}
+use Rattle.refusal.specs.Numbers.{number_of}
+use Rattle.refusal.specs.declared.Refusal.{Refusal}
 use Rattle.verdict.specs.Details.{JudgedIn, JudgingRoom}
+use Rattle.verdict.specs.declared.detail.Judged.{Judged}
 use Rattle.state_conditions.specs.Stops.{addition_by}
-use Rattle.detail_lines.specs.Chosen.{CountsOf}
-use Rattle.detail_lines.specs.declared.chosen.Counts.{Counts}
-use Rattle.message_text.specs.Message.{AfterOf, amount_part, after_is, DueFor, DueIn, due_told, TextPut}
-use Rattle.message_text.specs.declared.numbered.Due.{Due}
-use Rattle.position.specs.Values.{key_value, position_value}
+use Rattle.message_text.specs.Message.{AfterOf, amount_part, after_is, TextPut}
+use Rattle.position.specs.Values.{position_value}
 use Rattle.position.specs.declared.Position as P
 use Rattle.card.specs.Answers.{Answers, answers_refused, answers_accepted}
 use Rattle.card.specs.Minus.{difference_small}
@@ -110,32 +106,24 @@ pub record Leaves (a s : List ℕ) (p : P.Position) : Type 0 where
   pub detailed_small : p.detailed < 2 ^ 62
 
 -- a message that none of 1 to 15 stops, to be written and booked
-pub record Ready (s a : List ℕ) (b : Booking) (p : P.Position) (due : Due) (amounts places verdicts : List ℕ) : Type 0 where
+pub record Ready (s a : List ℕ) (b : Booking) (p : P.Position) (kept : List Judged) : Type 0 where
   pub engine : is_some (holds a) ≡ true
   pub books : Books s (message_in s) b
   pub none_holds : 0 ≡ first_of (limit_stops (decode a) (some (message_in s)))
-  pub judged : JudgedIn (decode a).register s amounts places verdicts b.count
+  pub judged : JudgedIn (decode a).register s kept
   pub leaves : Leaves a s p
-  pub dues : DueIn (decode a) (message_in s) due
 
-pub leaves_told : (a s : List ℕ) (b : Booking) → Books s (message_in s) b → (x : Totals) → TotalsOf (decode a).positions (key_value b.key) x → (p : P.Position) → AfterOf b x p → Leaves a s p
+pub leaves_told : (a s : List ℕ) (b : Booking) → Books s (message_in s) b → (x : Option P.Position) → TotalsOf (decode a).positions b.key x → (p : P.Position) → AfterOf b (begun b.key x) p → Leaves a s p
 leaves_told a s b k x y p q = record {
   same = after_is a s b k x y p q;
   transferred_small = omega (arith, q.transferred, y.transferred_small, amount_part b.transfer b.amount, k.small);
   detailed_small = omega (arith, q.detailed, y.detailed_small, amount_part (not b.transfer) b.amount, k.small);
 }
 
-module _ (s area : List ℕ) (h : is_some (holds area) ≡ true) (b : Booking) {amounts places verdicts : List ℕ} (k : Passes s (decode area).register b amounts places verdicts) (p : P.Position) (q : Leaves area s p)
+module _ (s area : List ℕ) (h : is_some (holds area) ≡ true) (b : Booking) {kept : List Judged} (k : Passes s (decode area).register b kept) (p : P.Position) (q : Leaves area s p)
     (z : 0 ≡ first_of (limit_stops (decode area) (some (message_in s)))) where
-  pub ready : {n : Counts} → CountsOf verdicts b.count n → {due : Due} → DueFor b p n due → Ready s area b p due amounts places verdicts
-  ready c w = record {
-    engine = h;
-    books = k.books;
-    none_holds = z;
-    judged = k.judged;
-    leaves = q;
-    dues = due_told area s b k.books p q.same amounts places verdicts k.judged c w;
-  }
+  pub ready : Ready s area b p kept
+  ready = record { engine = h; books = k.books; none_holds = z; judged = k.judged; leaves = q }
 
 module _ (s area : List ℕ) (h : is_some (holds area) ≡ true) where
   engine : holds area ≡ some (decode area)
@@ -158,10 +146,10 @@ module _ (s area : List ℕ) (h : is_some (holds area) ≡ true) where
 
       -- the area with the message
       pub booked_done : {a' : List ℕ} {w : ℕ} → w ≡ (decode area).count + messages_written (decode area) (message_in s)
-          → a' ≡ encode (booked_with (decode area) (position_value p) (of_bank p.key.bank (cut s b.reference.start b.reference.end)) w) ++ drop area_size area → AreaBooked s area a'
-      booked_done f c = record { area = c ∙ rw (position_is, bank_is, k.reference, f, booked_after) refl }
+          → a' ≡ encode (booked_with (decode area) (position_value p) (of_bank p.key.bank (take (b.reference.end - b.reference.start) (drop b.reference.start s))) w) ++ drop area_size area → AreaBooked s area a'
+      booked_done f c = record { area = c ∙ rw (part_is s b.reference.start b.reference.end k.order, position_is, bank_is, k.reference, f, booked_after) refl }
 
-pub sent_done : {s area : List ℕ} {b : Booking} {p : P.Position} {due : Due} {amounts places verdicts : List ℕ} → Ready s area b p due amounts places verdicts → {out out' a' : List ℕ} {r : Numbered} {z : ℤ} → length (message_text (decode area) (message_in s)) ≤ length out
+pub sent_done : {s area : List ℕ} {b : Booking} {p : P.Position} {kept : List Judged} → Ready s area b p kept → {out out' a' : List ℕ} {r : Numbered} {z : ℤ} → length (message_text (decode area) (message_in s)) ≤ length out
     → TextPut (decode area) (message_in s) 0 out r out' → z ≡ sub_ℕ p.transferred p.detailed → AreaBooked s area a' → Sent s area out r.at z a' out'
 sent_done {s} {area} {b} {p} m l w e c = record {
   written = wrote_exact w.wrote l;
@@ -173,7 +161,7 @@ sent_done {s} {area} {b} {p} m l w e c = record {
 
 -- ---- the ways out of a message that passed 1 to 8
 
-module _ (s area : List ℕ) (h : is_some (holds area) ≡ true) (b : Booking) {amounts places verdicts : List ℕ} (k : Passes s (decode area).register b amounts places verdicts) (out : List ℕ) where
+module _ (s area : List ℕ) (h : is_some (holds area) ≡ true) (b : Booking) {kept : List Judged} (k : Passes s (decode area).register b kept) (out : List ℕ) where
   pub sent_state : (n : ℕ) → n ≡ first_of (limit_stops (decode area) (some (message_in s))) → 0 < n → Answers (card_message s area out) n 0 (pos 0) area out
   sent_state n e p = message_state s area out (decode area) (holds_decode area h) (message_in s) k.none_holds k.read n (sym e) (ne_eqb n 0 (λ z. omega arith))
 
@@ -196,19 +184,19 @@ text_fits_lem out w m f = size_fits w (length out) m f
 -- ---- the ways out of a message to an area that holds an engine
 
 -- by the engine's register
-pub check_told : (s area g : List ℕ) (r : Checked) {amounts places verdicts : List ℕ} → RegisterOf area g → CheckedAs s g r amounts places verdicts → CheckedAs s (decode area).register r amounts places verdicts
+pub check_told : (s area g : List ℕ) (r : Checked) {kept : List Judged} → RegisterOf area g → CheckedAs s g r kept → CheckedAs s (decode area).register r kept
 check_told s area g r f c = rw f.same at c
 
-pub checked_refused : (s area : List ℕ) → is_some (holds area) ≡ true → (r : Checked) {amounts places verdicts : List ℕ} → CheckedAs s (decode area).register r amounts places verdicts → (out : List ℕ) (k : ℕ) → r ≡ Refused k → Answers (card_message s area out) k 0 (pos 0) area out
-checked_refused s area h r {amounts} {places} {verdicts} c out k e =
-    message_input s area out (decode area) (holds_decode area h) k (sym (refused_told s _ r amounts places verdicts c k e)) (ne_eqb k 0 (λ z. omega (arith, refused_some s _ r amounts places verdicts c k e)))
+pub checked_refused : (s area : List ℕ) → is_some (holds area) ≡ true → (r : Checked) {kept : List Judged} → CheckedAs s (decode area).register r kept → (out : List ℕ) (k : Refusal) → r ≡ Err k → (n : ℕ) → n ≡ number_of k → Answers (card_message s area out) n 0 (pos 0) area out
+checked_refused s area h r {kept} c out k e n f =
+    rw f (message_input s area out (decode area) (holds_decode area h) (number_of k) (sym (refused_told s _ r kept c k e)) (ne_eqb (number_of k) 0 (λ z. omega (arith, refused_some s _ r kept c k e))))
 
 -- its register, and room for 16 details
-pub room_made : (area g : List ℕ) → RegisterOf area g → JudgingRoom g (replicate 16 0) (replicate 128 0) (replicate 16 0)
-room_made area g r = record { passes = r.passes; details = record { amounts_size = refl; places_size = refl }; size = refl }
+pub room_made : (area g : List ℕ) → RegisterOf area g → (j : Judged) → JudgingRoom g (replicate 16 j)
+room_made area g r j = record { passes = r.passes; size = refl }
 
 -- 10
 pub message_no_engine : (s area out : List ℕ) (t : Bool) → t ≡ is_some (holds area) → t ≡ false → Answers (card_message s area out) 10 0 (pos 0) area out
 message_no_engine s area out t u d = message_engine s area out (sym u ∙ d)
 
-pub ruleset sending = (holds_told, measured, leaves_told, ready, booking_of_lem, booked_done, sent_done, sent_state, sent_made, state_none, text_fits_lem, room_made, check_told, checked_refused, passed_told, message_no_engine)
+pub ruleset sending = (holds_told, measured, leaves_told, ready, booking_of_lem, booked_done, sent_done, sent_state, sent_made, state_none, text_fits_lem, room_made, check_told, checked_refused, passed_told, passed_room, message_no_engine)

@@ -12,37 +12,18 @@ ghost use Rattle.card.specs.Measured.{Measured};
 ghost use Rattle.card.specs.Message.{Sent, AreaBooked, Leaves, Ready};
 
 use crate::difference::minus;
-use conditions::{Booking, Checked};
-use message_text::Due;
+use conditions::Booking;
 use position::Position;
+use refusal::Refusal;
+use verdict::{Judged, NO_DETAIL};
 
 // How many bytes the message makes the card write.
-fn message_size(
-    message: &[u8],
-    amounts: &[u64; 16],
-    places: &[u16; 128],
-    verdicts: &[u8; 16],
-    area: &[u8],
-    b: Booking,
-    p: Position,
-    due: Due,
-) -> usize
-    requires { Ready message.now area.now b p due amounts.now places.now verdicts.now }
+fn message_size(message: &[u8], kept: &[Judged], area: &[u8], b: Booking, p: Position) -> usize
+    requires { Ready message.now area.now b p kept.now }
     ensures { Measured (message_text (decode area.now) (message_in message.now)) result }
 {
     let mut nothing = [0u8; 0];
-    let text = message_text::put_message_text(
-        &mut nothing,
-        0,
-        message,
-        amounts,
-        places,
-        verdicts,
-        area,
-        b,
-        p,
-        due,
-    );
+    let text = message_text::put_message_text(&mut nothing, 0, message, kept, area, b, p);
     text.at
 }
 
@@ -57,9 +38,7 @@ fn book_in(message: &[u8], area: &mut [u8], b: Booking, count: u32)
     let reference = b.reference;
     engine_change::book_area(
         area,
-        message,
-        reference.start as usize,
-        reference.end as usize,
+        &message[reference.start as usize..reference.end as usize],
         state_conditions::added_by(b),
         count,
     );
@@ -68,24 +47,19 @@ fn book_in(message: &[u8], area: &mut [u8], b: Booking, count: u32)
 // A message that no condition stops: its text is written, its difference told, and it is booked.
 fn accept_message(
     message: &[u8],
-    amounts: &[u64; 16],
-    places: &[u16; 128],
-    verdicts: &[u8; 16],
+    kept: &[Judged],
     b: Booking,
     p: Position,
-    due: Due,
     area: &mut [u8],
     output: &mut [u8],
     written: &mut usize,
     difference: &mut i64,
 )
-    requires ready { Ready message.now area.old b p due amounts.now places.now verdicts.now }
+    requires ready { Ready message.now area.old b p kept.now }
     requires message_in_bounds { length (message_text (decode area.old) (message_in message.now)) ≤ length output.old }
     ensures { Sent message.now area.old output.old written.new difference.new area.new output.new }
 {
-    let text = message_text::put_message_text(
-        output, 0, message, amounts, places, verdicts, area, b, p, due,
-    );
+    let text = message_text::put_message_text(output, 0, message, kept, area, b, p);
     *written = text.at;
     *difference = minus(p.transferred, p.detailed);
     book_in(message, area, b, text.count);
@@ -94,9 +68,7 @@ fn accept_message(
 // A message that none of 1 to 15 stops; p is its position as it leaves it.
 fn send_message(
     message: &[u8],
-    amounts: &[u64; 16],
-    places: &[u16; 128],
-    verdicts: &[u8; 16],
+    kept: &[Judged],
     b: Booking,
     p: Position,
     area: &mut [u8],
@@ -105,31 +77,25 @@ fn send_message(
     difference: &mut i64,
 ) -> u32
     requires area_value { is_some (holds area.old) ≡ true }
-    requires passes { Passes message.now (decode area.old).register b amounts.now places.now verdicts.now }
+    requires passes { Passes message.now (decode area.old).register b kept.now }
     requires value { 0 ≡ first_of (limit_stops (decode area.old) (some (message_in message.now))) }
     requires leaves { Leaves area.old message.now p }
     ensures { Answers (card_message message.now area.old output.old) result written.new difference.new area.new output.new }
 {
     *written = 0;
     *difference = 0;
-    let counts = detail_lines::count_verdicts(verdicts, b.count as u32);
-    let due = message_text::due_for(b, p, counts);
-    let size = message_size(message, amounts, places, verdicts, area, b, p, due);
+    let size = message_size(message, kept, area, b, p);
     if output.len() < size {
-        return 16;
+        return Refusal::OutputTooShort.number();
     }
-    accept_message(
-        message, amounts, places, verdicts, b, p, due, area, output, written, difference,
-    );
+    accept_message(message, kept, b, p, area, output, written, difference);
     0
 }
 
 // A message that passed 1 to 8.
 fn book_message(
     message: &[u8],
-    amounts: &[u64; 16],
-    places: &[u16; 128],
-    verdicts: &[u8; 16],
+    kept: &[Judged],
     b: Booking,
     area: &mut [u8],
     output: &mut [u8],
@@ -137,20 +103,17 @@ fn book_message(
     difference: &mut i64,
 ) -> u32
     requires area_value { is_some (holds area.old) ≡ true }
-    requires passes { Passes message.now (decode area.old).register b amounts.now places.now verdicts.now }
+    requires passes { Passes message.now (decode area.old).register b kept.now }
     ensures { Answers (card_message message.now area.old output.old) result written.new difference.new area.new output.new }
 {
     *written = 0;
     *difference = 0;
     let x = engine::totals_of(area, b.key);
-    let k = state_conditions::state_number(message, area, b, x);
-    if k > 0 {
-        return k;
+    if let Err(refusal) = state_conditions::state_number(message, area, b, x) {
+        return refusal.number();
     }
     let p = message_text::position_after(b, x);
-    send_message(
-        message, amounts, places, verdicts, b, p, area, output, written, difference,
-    )
+    send_message(message, kept, b, p, area, output, written, difference)
 }
 
 // A message to an area that holds an engine.
@@ -164,23 +127,21 @@ fn message_engine(
     requires { is_some (holds area.old) ≡ true }
     ensures { Answers (card_message message.now area.old output.old) result written.new difference.new area.new output.new }
 {
-    let mut amounts = [0u64; 16];
-    let mut places = [0u16; 128];
-    let mut verdicts = [0u8; 16];
-    match conditions::check_message(
-        message,
-        engine::register_text(area),
-        &mut amounts,
-        &mut places,
-        &mut verdicts,
-    ) {
-        Checked::Refused(k) => {
+    let mut kept = [NO_DETAIL; 16];
+    match conditions::check_message(message, engine::register_text(area), &mut kept) {
+        Err(refusal) => {
             *written = 0;
             *difference = 0;
-            k
+            refusal.number()
         }
-        Checked::Passed(b) => book_message(
-            message, &amounts, &places, &verdicts, b, area, output, written, difference,
+        Ok(b) => book_message(
+            message,
+            &kept[0..b.count as usize],
+            b,
+            area,
+            output,
+            written,
+            difference,
         ),
     }
 }
@@ -200,5 +161,5 @@ pub fn card_message(
     }
     *written = 0;
     *difference = 0;
-    10
+    Refusal::NoEngine.number()
 }

@@ -9,9 +9,8 @@ pub fn card_newer(text: &[u8], output: &mut [u8], written: &mut usize, differenc
 {
     *written = 0;
     *difference = 0;
-    let stop = register_moves::newer_stop(text, output.len());
-    if stop != 0 {
-        return stop;
+    if let Err(refusal) = register_moves::newer_stop(text, output.len()) {
+        return refusal.number();
     }
     *written = register_moves::put_newer(output, text);
     0
@@ -23,9 +22,8 @@ pub fn card_older(text: &[u8], output: &mut [u8], written: &mut usize, differenc
 {
     *written = 0;
     *difference = 0;
-    let stop = register_moves::older_stop(text, output.len());
-    if stop != 0 {
-        return stop;
+    if let Err(refusal) = register_moves::older_stop(text, output.len()) {
+        return refusal.number();
     }
     *written = register_moves::put_older(output, text);
     0

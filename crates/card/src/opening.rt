@@ -4,21 +4,24 @@ ghost use Rattle.rules.specs.Calls.{first_of};
 ghost use Rattle.rules.specs.Area.{card_open};
 ghost use Rattle.card.specs.Answers.{Answers};
 ghost use Rattle.card.specs.Opening.{text_stops};
+ghost use Rattle.refusal.specs.Numbers.{stop_of};
 
-// 9, 18 or 17, the first that holds: of the register, of the holiday list, and of the day; 0 where none does.
-fn opening_stop(registered: bool, listed: bool, banking: bool) -> u32
-    ensures { result ≡ first_of (text_stops registered listed banking) }
+use refusal::Refusal;
+
+// 9, 18 or 17, the first that holds: of the register, of the holiday list, and of the day.
+fn opening_stop(registered: bool, listed: bool, banking: bool) -> Result<(), Refusal>
+    ensures { stop_of result ≡ first_of (text_stops registered listed banking) }
 {
     if !registered {
-        return 9;
+        return Err(Refusal::BadRegister);
     }
     if !listed {
-        return 18;
+        return Err(Refusal::BadHolidays);
     }
     if !banking {
-        return 17;
+        return Err(Refusal::NotBankingDay);
     }
-    0
+    Ok(())
 }
 
 // Opens an engine with a register, a holiday list and a day.
@@ -35,17 +38,16 @@ pub fn card_open(
     *written = 0;
     *difference = 0;
     if !engine::has_room(area) {
-        return 10;
+        return Refusal::NoEngine.number();
     }
     if !calendar::exists(day) {
-        return 3;
+        return Refusal::NotInForm.number();
     }
     let registered = register::register_passes(text);
     let listed = banking_days::list_passes(list);
     let banking = banking_days::is_banking_day(list, day);
-    let stop = opening_stop(registered, listed, banking);
-    if stop != 0 {
-        return stop;
+    if let Err(refusal) = opening_stop(registered, listed, banking) {
+        return refusal.number();
     }
     engine_change::open_area(area, text, list, day);
     0

@@ -6,8 +6,10 @@ ghost use Rattle.rules.specs.Area.{holds, decode, card_turn};
 ghost use Rattle.card.specs.Answers.{Answers};
 ghost use Rattle.card.specs.Turn.{later_stops, day_stops, Turned};
 ghost use Rattle.card.specs.Measured.{Measured};
+ghost use Rattle.refusal.specs.Numbers.{stop_of};
 
 use crate::difference::minus;
+use refusal::Refusal;
 
 // A turn that no condition stops: its text is written, its difference told, and the area turned.
 fn accept_turn(
@@ -38,26 +40,26 @@ fn turn_size(day: u32, area: &[u8]) -> usize
     text.at
 }
 
-// 11 or 17, the first that holds: of a day that is no later, and of one that is no banking day; 0 where neither does.
-fn later_stop(early: bool, banking: bool) -> u32
-    ensures { result ≡ first_of (later_stops early banking) }
+// 11 or 17, the first that holds: of a day that is no later, and of one that is no banking day.
+fn later_stop(early: bool, banking: bool) -> Result<(), Refusal>
+    ensures { stop_of result ≡ first_of (later_stops early banking) }
 {
     if early {
-        return 11;
+        return Err(Refusal::Misdated);
     }
     if !banking {
-        return 17;
+        return Err(Refusal::NotBankingDay);
     }
-    0
+    Ok(())
 }
 
-// 3, 11 or 17, the first that holds of a turn to a day; 0 where none does.
-fn day_stop(day: u32, area: &[u8]) -> u32
+// 3, 11 or 17, the first that holds of a turn to a day.
+fn day_stop(day: u32, area: &[u8]) -> Result<(), Refusal>
     requires { is_some (holds area.now) ≡ true }
-    ensures { result ≡ first_of (day_stops (decode area.now) day) }
+    ensures { stop_of result ≡ first_of (day_stops (decode area.now) day) }
 {
     if !calendar::exists(day) {
-        return 3;
+        return Err(Refusal::NotInForm);
     }
     let h = engine::header_of(area);
     let banking = banking_days::is_banking_day(engine::holidays_text(area), day);
@@ -77,13 +79,12 @@ fn turn_engine(
 {
     *written = 0;
     *difference = 0;
-    let stop = day_stop(day, area);
-    if stop != 0 {
-        return stop;
+    if let Err(refusal) = day_stop(day, area) {
+        return refusal.number();
     }
     let size = turn_size(day, area);
     if output.len() < size {
-        return 16;
+        return Refusal::OutputTooShort.number();
     }
     accept_turn(day, area, output, written, difference);
     0
@@ -104,5 +105,5 @@ pub fn card_turn(
     }
     *written = 0;
     *difference = 0;
-    10
+    Refusal::NoEngine.number()
 }

@@ -1,5 +1,5 @@
 -- What stands before a length of a command line, and each line told by it: no command's, a turn's, or a start with lengths behind it.
-use Rattle.std.specs.Prelude.{◌≡◌, Bool, ◌&&◌}
+use Rattle.std.specs.Prelude.{◌≡◌, Bool, ◌&&◌, Option, Some, None}
 use Rattle.std.proofs.Math.Path.{refl, sym, ap}
 use Rattle.std.proofs.Common.{◌∙◌, arith, length-append, take-append-drop, take_at, drop_at}
 use Rattle.std.proofs.Math.Bool.{true, false}
@@ -19,8 +19,6 @@ use Rattle.rule_laws.specs.Lines.{in_line, plain_alnum}
 use Rattle.rule_laws.specs.Options.{There}
 use Rattle.commands.specs.declared.letter.Handed.{Handed}
 use Rattle.commands.specs.declared.letter.Handed.TheVariants.{Message, Newer, Older}
-use Rattle.commands.specs.declared.letter.Letter.{Letter}
-use Rattle.commands.specs.declared.letter.Letter.TheVariants.{Text, Other}
 use Rattle.commands.specs.Answers.{making}
 use Rattle.commands.specs.Letters.{letter_of, begins_with, begun_with, letter_in, text_letter, other_letter, text_read, other_read}
 use Rattle.commands.specs.Numbers.{digits_there}
@@ -137,9 +135,9 @@ module _ (l : List ℕ) (n : (h : Handed) → begins_with (letter_of h) l ≡ fa
 pub read_as : (l : List ℕ) → ReadAs l
 read_as l = go (letter_in l) refl
   where
-    go : (r : Letter) → letter_in l ≡ r → ReadAs l
-    go (Text h) e = texts_read _ (drop 2 l) (handing h) (text_letter l (letter_in l) refl h e)
-    go Other e = other l (other_letter l (letter_in l) refl e) (begins_with 84 l) refl (begins_with 79 l && equal (take 1 (drop 8 l)) (ascii ",")) refl
+    go : (r : Option Handed) → letter_in l ≡ r → ReadAs l
+    go (Some h) e = texts_read _ (drop 2 l) (handing h) (text_letter l h e)
+    go None e = other l (other_letter l e) (begins_with 84 l) refl (begins_with 79 l && equal (take 1 (drop 8 l)) (ascii ",")) refl
 
 -- ---- idle zeros
 

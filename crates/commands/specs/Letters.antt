@@ -1,15 +1,16 @@
 -- A command of one text, by the letter that its line begins with.
-use Rattle.std.specs.Prelude.{◌≡◌, Bool, true, false, cond, List, [], ◌∷◌, ◌++◌, ℕ, take, drop}
+use Rattle.std.specs.Prelude.{◌≡◌, Bool, true, false, cond, ◌&&◌, List, [], ◌∷◌, ◌++◌, ℕ, ◌+◌, ◌≤◌, Option, Some, None, length, nat_eq, eqb, take, drop}
+use Rattle.std.specs.Cmp.Lexicographic.{pointwise}
 use Rattle.std.proofs.Math.Path.{refl}
-use Rattle.std.proofs.Common.{sym, ap, subst, ◌∙◌, take-append-drop}
-use Rattle.std.proofs.Math.Option.{Option}
+use Rattle.std.proofs.Common.{sym, ap, subst, ◌∙◌, take-append-drop, arith}
+use Rattle.std.proofs.Math.Option as M
+use Rattle.std.proofs.lemmas.Slice.Eq.{starts_is}
+use Rattle.std.proofs.lemmas.Bool.Decides.{Decides-eqb}
 use Rattle.rules.specs.Text.{equal}
 use Rattle.rules.specs.Replay.{Commanded, single, texts_behind, command_of}
-use Rattle.laws.specs.Equal.{equal_true}
+use Rattle.laws.specs.Equal.{equal_true, equal_same}
 use Rattle.commands.specs.declared.letter.Handed.{Handed}
 use Rattle.commands.specs.declared.letter.Handed.TheVariants.{Message, Newer, Older}
-use Rattle.commands.specs.declared.letter.Letter.{Letter}
-use Rattle.commands.specs.declared.letter.Letter.TheVariants.{Text, Other}
 use Rattle.commands.specs.Answers.{making}
 
 -- the letter of a text's command
@@ -25,11 +26,38 @@ begins_with c l = equal (take 2 l) (c ∷ 44 ∷ [])
 pub begun_with : (c : ℕ) (l : List ℕ) → begins_with c l ≡ true → l ≡ c ∷ 44 ∷ drop 2 l
 begun_with c l e = sym (take-append-drop 2 l) ∙ ap (λ (x : List ℕ). x ++ drop 2 l) (equal_true _ _ e)
 
--- which command of one text it is
-unfoldable pub letter_in : List ℕ → Letter
-letter_in l = cond (begins_with 77 l) (Text Message) (cond (begins_with 78 l) (Text Newer) (cond (begins_with 80 l) (Text Older) Other))
+-- by the bytes that `starts_with` compares
+pub begins_is : (c : ℕ) (l : List ℕ) (r : Bool) → r ≡ pointwise nat_eq (c ∷ 44 ∷ []) (take 2 l) → r ≡ begins_with c l
+begins_is c l r e = go r (begins_with c l) (λ h. ap (begins_with c) (starts.0 h) ∙ equal_same (c ∷ 44 ∷ [])) (λ h. starts.1 (drop 2 l) (begun_with c l h))
+  where
+    starts : (r ≡ true → l ≡ (c ∷ 44 ∷ []) ++ drop 2 l) × ((rest : List ℕ) → l ≡ (c ∷ 44 ∷ []) ++ rest → r ≡ true)
+    starts = starts_is Decides-eqb l (c ∷ 44 ∷ []) r e
 
-letter_read : (h : Handed) (u : List ℕ) → letter_in (letter_of h ∷ 44 ∷ u) ≡ Text h
+    go : (a b : Bool) → (a ≡ true → b ≡ true) → (b ≡ true → a ≡ true) → a ≡ b
+    go true b f g = sym (f refl)
+    go false true f g = g refl
+    go false false f g = refl
+
+-- by those that `strip_prefix` compares: ps begin s, and x stands behind them
+abbrev pub Stripped : List ℕ → List ℕ → List ℕ → Type 0
+Stripped ps s x = (pointwise nat_eq (take (length ps) s) ps ≡ true) × (x ≡ drop (length ps) s) × (length x + length ps ≡ length s)
+
+pub stripped_is : (cs ds : List ℕ) → pointwise nat_eq cs ds ≡ equal cs ds
+unfolding equal
+stripped_is [] [] = refl
+stripped_is [] (d ∷ ds) = refl
+stripped_is (c ∷ cs) [] = refl
+stripped_is (c ∷ cs) (d ∷ ds) = rw (stripped_is cs ds) (go (eqb c d))
+  where
+    go : (t : Bool) → (t && equal cs ds) ≡ cond t (equal cs ds) false
+    go true = refl
+    go false = refl
+
+-- what is handed over
+unfoldable pub letter_in : List ℕ → Option Handed
+letter_in l = cond (begins_with 77 l) (Some Message) (cond (begins_with 78 l) (Some Newer) (cond (begins_with 80 l) (Some Older) None))
+
+letter_read : (h : Handed) (u : List ℕ) → letter_in (letter_of h ∷ 44 ∷ u) ≡ Some h
 unfolding letter_in equal
 letter_read Message u = refl
 letter_read Newer u = refl
@@ -44,24 +72,24 @@ text_read Older u cs = refl
 -- ---- by the tests of the code
 
 module _ (l : List ℕ) where
-  pub letter_one : (h : Handed) (t : Bool) → t ≡ begins_with (letter_of h) l → t ≡ true → Text h ≡ letter_in l
+  pub letter_one : (h : Handed) (t : Bool) → t ≡ begins_with (letter_of h) l → t ≡ true → Some h ≡ letter_in l
   letter_one h t u d = sym (ap letter_in (begun_with (letter_of h) l (sym u ∙ d)) ∙ letter_read h (drop 2 l))
 
-  pub letter_none : (m n p : Bool) → m ≡ begins_with 77 l → m ≡ false → n ≡ begins_with 78 l → n ≡ false → p ≡ begins_with 80 l → p ≡ false → Other ≡ letter_in l
+  pub letter_none : (m n p : Bool) → m ≡ begins_with 77 l → m ≡ false → n ≡ begins_with 78 l → n ≡ false → p ≡ begins_with 80 l → p ≡ false → None ≡ letter_in l
   unfolding letter_in
   letter_none m n p u a v b w c = rw (← u, a, ← v, b, ← w, c) refl
 
 -- ---- by the letter told
 
-abbrev LetterTold : List ℕ → Letter → Type 0
-LetterTold l (Text h) = begins_with (letter_of h) l ≡ true
-LetterTold l Other = (h : Handed) → begins_with (letter_of h) l ≡ false
+abbrev LetterTold : List ℕ → Option Handed → Type 0
+LetterTold l (Some h) = begins_with (letter_of h) l ≡ true
+LetterTold l None = (h : Handed) → begins_with (letter_of h) l ≡ false
 
 letter_told : (l : List ℕ) → LetterTold l (letter_in l)
 unfolding letter_in
 letter_told l = go (begins_with 77 l) refl (begins_with 78 l) refl (begins_with 80 l) refl
   where
-    go : (m : Bool) → begins_with 77 l ≡ m → (n : Bool) → begins_with 78 l ≡ n → (p : Bool) → begins_with 80 l ≡ p → LetterTold l (cond m (Text Message) (cond n (Text Newer) (cond p (Text Older) Other)))
+    go : (m : Bool) → begins_with 77 l ≡ m → (n : Bool) → begins_with 78 l ≡ n → (p : Bool) → begins_with 80 l ≡ p → LetterTold l (cond m (Some Message) (cond n (Some Newer) (cond p (Some Older) None)))
     go true e n f p g = e
     go false e true f p g = f
     go false e false f true g = g
@@ -72,13 +100,18 @@ letter_told l = go (begins_with 77 l) refl (begins_with 78 l) refl (begins_with 
         none Newer = f
         none Older = g
 
-module _ (l : List ℕ) (r : Letter) (u : r ≡ letter_in l) where
-  pub text_letter : (h : Handed) → r ≡ Text h → l ≡ letter_of h ∷ 44 ∷ drop 2 l
-  text_letter h e = begun_with (letter_of h) l (subst (LetterTold l) (sym u ∙ e) (letter_told l))
+module _ (l : List ℕ) where
+  pub text_letter : (h : Handed) → letter_in l ≡ Some h → l ≡ letter_of h ∷ 44 ∷ drop 2 l
+  text_letter h e = begun_with (letter_of h) l (subst (LetterTold l) e (letter_told l))
 
-  pub other_letter : r ≡ Other → (h : Handed) → begins_with (letter_of h) l ≡ false
-  other_letter e = subst (LetterTold l) (sym u ∙ e) (letter_told l)
+  pub letter_room : (h : Handed) → letter_in l ≡ Some h → 2 ≤ length l
+  letter_room h e = omega (arith, ap length (text_letter h e))
+
+  pub other_letter : letter_in l ≡ None → (h : Handed) → begins_with (letter_of h) l ≡ false
+  other_letter e = subst (LetterTold l) e (letter_told l)
 
 -- of another command the tests for these fail
-pub other_read : (l : List ℕ) → ((h : Handed) → begins_with (letter_of h) l ≡ false) → (a b c d : Option Commanded) → cond (begins_with 77 l) a (cond (begins_with 78 l) b (cond (begins_with 80 l) c d)) ≡ d
+pub other_read : (l : List ℕ) → ((h : Handed) → begins_with (letter_of h) l ≡ false) → (a b c d : M.Option Commanded) → cond (begins_with 77 l) a (cond (begins_with 78 l) b (cond (begins_with 80 l) c d)) ≡ d
 other_read l n a b c d = rw (n Message, n Newer, n Older)
+
+pub ruleset letters = (begins_is, letter_one, letter_none)

@@ -1,117 +1,70 @@
 -- Command lines: one law for each way out of the functions that read them.
-use Rattle.std.specs.Prelude.{◌≡◌, Bool, ℕ, ◌+◌, ◌-◌, ◌≤◌, ◌<◌, leb, eqb, length, get_or, drop}
+use Rattle.std.specs.Prelude.{◌≡◌, ℕ, ◌+◌, ◌≤◌, ◌<◌, Option, Some, None, nat_eq, length, take, drop}
+use Rattle.std.specs.Cmp.Lexicographic.{pointwise}
+use Rattle.std.specs.List.{IsSplitAt}
 use Rattle.std.proofs.Math.Path.{refl, sym, ap}
-use Rattle.std.proofs.Common.{◌∙◌}
-use Rattle.std.proofs.Math.Bool.{true, false, cond}
+use Rattle.std.proofs.Common.{◌∙◌, length-drop}
+use Rattle.std.proofs.Math.Bool.{true, false}
 use mathlib.Core.List.{List, [], ◌∷◌}
+use Rattle.std.proofs.Math.Option as M
 use Rattle.std.proofs.Math.Option.{none, some}
 use native.Mathlib.Omega.{arith}
-use Rattle.std.proofs.Math.ListN.{take}
-use borrow.Author.Tests.{le-leb, lt-leb, eq-eqb, ne_eqb}
+use Rattle.std.proofs.Math.Seq.{drop-drop}
+use borrow.Author.Tests.{le-leb, lt-leb}
 use Rattle.rules.specs.Text.{ascii, equal, then, added_up}
-use Rattle.rules.specs.Replay.{length_of, parted_lengths, six_digits, texts_in, with_texts, texts_behind, single, opening, command_of, command}
-use Rattle.laws.specs.Parts.{cut, from, cut_step, cut_length, cut_take, cut_drop, from_take, from_drop, from_length}
-use Rattle.laws.specs.Tests.{never}
+use Rattle.rules.specs.Lines.{take_line}
+use Rattle.rules.specs.Replay as R
+use Rattle.rules.specs.Replay.{Commanded, length_of, parted_lengths, six_digits, turns, texts_in, with_texts, texts_behind, single, opening, command_of, command}
+use Rattle.laws.specs.Parts.{cut, from, from_all}
 use Rattle.lines.specs.Answers.{LineAt, line_told, no_line_told}
-use Rattle.lines.specs.declared.line.Next.{Next}
-use Rattle.lines.specs.declared.line.Next.TheVariants.{Line, Bad as NoNext}
-use Rattle.text.specs.Answers.{num_of}
-use Rattle.text.specs.declared.numbers.Num.{Num}
-use Rattle.text.specs.declared.numbers.Num.TheVariants.{Value, Bad}
-use Rattle.commands.specs.declared.number.Lengths.{Lengths}
-use Rattle.commands.specs.declared.number.Lengths.TheVariants.{Two, Bad as NoLengths}
-use Rattle.commands.specs.declared.command.Command.{Command}
-use Rattle.commands.specs.declared.command.Command.TheVariants.{Opens, Hands, Turns, End}
 use Rattle.commands.specs.declared.letter.Handed.{Handed}
-use Rattle.commands.specs.declared.letter.Letter.{Letter}
-use Rattle.commands.specs.declared.letter.Letter.TheVariants.{Text, Other}
-use Rattle.commands.specs.Answers.{making, commanded_of, Placed, Commanding, text_line, turn_line, open_line}
-use Rattle.commands.specs.Letters.{letter_of, begins_with, letter_in, letter_one, letter_none, text_letter, other_letter, text_read, other_read}
-use Rattle.commands.specs.Numbers.{lengths_in, lengths_last, six_small, two_small}
-
--- ---- a letter and a comma
-
-few : (l : List ℕ) (c : ℕ) → length l < 2 → false ≡ begins_with c l
-unfolding equal
-few [] c h = refl
-few (x ∷ []) c h = go (eqb x c)
-  where
-    go : (t : Bool) → false ≡ cond t false false
-    go true = refl
-    go false = refl
-few (x ∷ y ∷ l) c h = absurd (omega arith)
-
-module _ (s : List ℕ) (at e c : ℕ) where
-  pub begins_short : at ≤ e → e ≤ length s → e - at < 2 → false ≡ begins_with c (cut s at e)
-  begins_short h k l = few (cut s at e) c (rw (cut_length s at e k) l)
-
-  module _ (k : e ≤ length s) (l : 2 ≤ e - at) where
-    two : take 2 (cut s at e) ≡ get_or s at 0 ∷ get_or s (at + 1) 0 ∷ []
-    two = rw (cut_step s at e (omega arith) k, cut_step s (at + 1) e (omega arith) k) refl
-
-    pub begins_other : (get_or s at 0 ≡ c → ⊥) → false ≡ begins_with c (cut s at e)
-    unfolding equal
-    begins_other n = rw (two, ne_eqb _ _ n) refl
-
-    pub begins_comma : get_or s at 0 ≡ c → eqb (get_or s (at + 1) 0) 44 ≡ begins_with c (cut s at e)
-    unfolding equal
-    begins_comma n = rw (two, eq-eqb _ _ n) (go (eqb (get_or s (at + 1) 0) 44))
-      where
-        go : (t : Bool) → t ≡ cond t true false
-        go true = refl
-        go false = refl
-
-  pub begins_long : (t : Bool) → t ≡ begins_with c (cut s at e) → t ≡ true → at ≤ e → e + 2 ≤ length s → at + 2 ≤ e
-  begins_long t u d h k = go (leb 2 (e - at)) refl
-    where
-      go : (b : Bool) → leb 2 (e - at) ≡ b → at + 2 ≤ e
-      go true z = omega (arith, borrow.Author.Tests.leb-true 2 (e - at) z)
-      go false z = never (begins_short h (omega arith) (borrow.Author.Tests.leb-false 2 (e - at) z) ∙ sym u ∙ d)
+use Rattle.commands.specs.Answers.{making, turn_behind, opening_behind}
+use Rattle.commands.specs.Letters.{letter_in, Stripped, stripped_is, text_letter, other_letter, text_read, other_read}
+use Rattle.commands.specs.Numbers.{lengths_last}
 
 -- ---- texts behind a command line
 
-module _ (s : List ℕ) (at : ℕ) (f : List (List ℕ) → Rattle.rules.specs.Replay.Command) (ns : List ℕ) where
-  texts_short : length s - at < added_up ns → with_texts f ns (from s at) ≡ none
+module _ (f : List (List ℕ) → R.Command) (ns others : List ℕ) where
+  texts_short : length others < added_up ns → with_texts f ns others ≡ none
   unfolding with_texts
-  texts_short h = rw (from_length s at, lt-leb _ _ h) refl
+  texts_short h = rw (lt-leb _ _ h) refl
 
-  texts_whole : added_up ns ≤ length s - at → with_texts f ns (from s at) ≡ some record { command = f (texts_in ns (from s at)); others = from s (at + added_up ns) }
+  texts_whole : added_up ns ≤ length others → with_texts f ns others ≡ some record { command = f (texts_in ns others); others = drop (added_up ns) others }
   unfolding with_texts
-  texts_whole h = rw (from_length s at, le-leb _ _ h, from_drop) refl
+  texts_whole h = rw (le-leb _ _ h) refl
 
 -- ---- one length and its text
 
-module _ (h : Handed) (s : List ℕ) (at e : ℕ) (q : Num) (u : num_of q ≡ length_of (cut s (at + 2) e)) where
-  pub text_none : q ≡ Bad → Commanding s (text_line h s at e) End
-  unfolding text_line texts_behind commanded_of Placed
-  text_none w = record { same = let z : length_of (cut s (at + 2) e) ≡ none = sym u ∙ ap num_of w in rw (lengths_last (cut s (at + 2) e), z) refl; places = tt }
+module _ (h : Handed) (part others : List ℕ) where
+  pub text_none : none ≡ length_of part → none ≡ texts_behind (single (making h)) 1 part others
+  unfolding texts_behind
+  text_none e = rw (lengths_last part, ← e) refl
 
-  module _ (n : ℕ) (w : q ≡ Value n) where
-    text_is : text_line h s at e ≡ with_texts (single (making h)) (n ∷ []) (from s (e + 2))
-    unfolding text_line texts_behind
-    text_is = let z : length_of (cut s (at + 2) e) ≡ some n = sym u ∙ ap num_of w in rw (lengths_last (cut s (at + 2) e), z) refl
+  module _ {n : ℕ} (e : some n ≡ length_of part) where
+    text_is : texts_behind (single (making h)) 1 part others ≡ with_texts (single (making h)) (n ∷ []) others
+    unfolding texts_behind
+    text_is = rw (lengths_last part, ← e) refl
 
-    pub text_short : length s - (e + 2) < n → Commanding s (text_line h s at e) End
-    unfolding commanded_of Placed added_up
-    text_short l = record { same = sym (text_is ∙ texts_short s (e + 2) (single (making h)) (n ∷ []) (omega arith)); places = tt }
+    pub text_short : length others < n → none ≡ texts_behind (single (making h)) 1 part others
+    unfolding added_up
+    text_short l = sym (text_is ∙ texts_short (single (making h)) (n ∷ []) others (omega arith))
 
-    pub text_whole : e + 2 ≤ length s → n ≤ length s - (e + 2) → Commanding s (text_line h s at e) (Hands h (e + 2) (e + 2 + n))
-    unfolding commanded_of Placed added_up texts_in single
-    text_whole k l = record {
-      same = let z : e + 2 + added_up (n ∷ []) ≡ e + 2 + n = omega arith in sym (text_is ∙ texts_whole s (e + 2) (single (making h)) (n ∷ []) (omega arith) ∙ rw (z, from_take));
-      places = (omega arith, omega arith);
-    }
+    pub text_whole : {text rest : List ℕ} → IsSplitAt others n text rest → some record { command = making h text; others = rest } ≡ texts_behind (single (making h)) 1 part others
+    unfolding added_up texts_in single
+    text_whole p =
+        let z : added_up (n ∷ []) ≡ n = omega arith in
+        sym (text_is ∙ texts_whole (single (making h)) (n ∷ []) others (omega arith) ∙ rw (z, p.1, p.2))
 
 -- ---- `T,day`
 
-module _ (s : List ℕ) (at e : ℕ) (q : Num) (u : num_of q ≡ six_digits (cut s (at + 2) e)) where
-  pub turn_none : q ≡ Bad → Commanding s (turn_line s at e) End
-  unfolding turn_line commanded_of Placed
-  turn_none w = record { same = let z : six_digits (cut s (at + 2) e) ≡ none = sym u ∙ ap num_of w in rw z refl; places = tt }
+module _ (part others : List ℕ) where
+  pub turn_none : none ≡ six_digits part → none ≡ turn_behind part others
+  unfolding turn_behind
+  turn_none e = rw (← e) refl
 
-  pub turn_day : (n : ℕ) → q ≡ Value n → e + 2 ≤ length s → Commanding s (turn_line s at e) (Turns n (e + 2))
-  unfolding turn_line commanded_of Placed
-  turn_day n w k = record { same = let z : six_digits (cut s (at + 2) e) ≡ some n = sym u ∙ ap num_of w in rw z refl; places = k }
+  pub turn_day : {n : ℕ} → some n ≡ six_digits part → some record { command = turns n; others = others } ≡ turn_behind part others
+  unfolding turn_behind
+  turn_day e = rw (← e) refl
 
 -- ---- `O,day,length,length`
 
@@ -120,100 +73,91 @@ unfolding equal
 no_comma [] h = refl
 no_comma (x ∷ l) h = absurd (omega arith)
 
-module _ (s : List ℕ) (at e : ℕ) where
-  pub open_short : e + 2 ≤ length s → e - at < 9 → Commanding s (open_line s at e) End
-  unfolding open_line commanded_of Placed
-  open_short k h = record { same = rw (no_comma (cut s (at + 8) e) (cut_length s (at + 8) e (omega arith) ∙ omega arith)) refl; places = tt }
+module _ (parts others : List ℕ) where
+  pub open_short : length parts < 6 → none ≡ opening_behind parts others
+  unfolding opening_behind
+  open_short h = rw (no_comma (drop 6 parts) (omega (arith, length-drop 6 parts))) refl
 
-  module _ (k : e + 2 ≤ length s) (h : 9 ≤ e - at) where
-    comma : take 1 (cut s (at + 8) e) ≡ get_or s (at + 8) 0 ∷ []
-    comma = rw (cut_step s (at + 8) e (omega arith) (omega arith)) refl
+  module _ {day behind : List ℕ} (p : IsSplitAt parts 6 day behind) where
+    pub open_other : pointwise nat_eq (take 1 behind) (44 ∷ []) ≡ false → none ≡ opening_behind parts others
+    unfolding opening_behind
+    open_other e = let z : equal (take 1 (drop 6 parts)) (ascii ",") ≡ false = sym (stripped_is (take 1 (drop 6 parts)) (44 ∷ [])) ∙ rw (← p.2) e in rw z refl
 
-    pub open_other : (get_or s (at + 8) 0 ≡ 44 → ⊥) → Commanding s (open_line s at e) End
-    unfolding open_line commanded_of Placed equal
-    open_other n = record { same = rw (comma, ne_eqb _ _ n) refl; places = tt }
-
-    module _ (m : get_or s (at + 8) 0 ≡ 44) (q : Num) (u : num_of q ≡ six_digits (cut s (at + 2) (at + 8))) where
-      line_is : open_line s at e ≡ then (six_digits (cut s (at + 2) (at + 8))) (λ d. texts_behind (opening d) 2 (cut s (at + 9) e) (from s (e + 2)))
-      unfolding open_line equal
+    module _ {sizes : List ℕ} (e : Stripped (44 ∷ []) behind sizes) where
+      line_is : opening_behind parts others ≡ then (six_digits day) (λ d. texts_behind (opening d) 2 sizes others)
+      unfolding opening_behind
       line_is =
-          let z : take 6 (cut s (at + 2) e) ≡ cut s (at + 2) (at + 8) = cut_take s (at + 2) e 6 (omega arith) ∙ ap (cut s (at + 2)) (omega arith) in
-          rw (comma, eq-eqb _ _ m, z) refl
+          let z : equal (take 1 (drop 6 parts)) (ascii ",") ≡ true = sym (stripped_is (take 1 (drop 6 parts)) (44 ∷ [])) ∙ rw (← p.2) e.0 in
+          let y : sizes ≡ drop 7 parts = e.1 ∙ rw p.2 (drop-drop 1 6 parts) in
+          rw (z, y, p.1) refl
 
-      pub open_no_day : q ≡ Bad → Commanding s (open_line s at e) End
-      unfolding commanded_of Placed
-      open_no_day w = record { same = let z : six_digits (cut s (at + 2) (at + 8)) ≡ none = sym u ∙ ap num_of w in rw (line_is, z) refl; places = tt }
+      pub open_no_day : none ≡ six_digits day → none ≡ opening_behind parts others
+      open_no_day w = sym (line_is ∙ rw (← w) refl)
 
-      module _ (d : ℕ) (w : q ≡ Value d) (p : Lengths) (v : lengths_in p ≡ parted_lengths 2 (cut s (at + 9) e)) where
-        day_is : open_line s at e ≡ then (lengths_in p) (λ ns. with_texts (opening d) ns (from s (e + 2)))
+      module _ {d : ℕ} (w : some d ≡ six_digits day) where
+        day_is : opening_behind parts others ≡ then (parted_lengths 2 sizes) (λ ns. with_texts (opening d) ns others)
         unfolding texts_behind
-        day_is = let z : six_digits (cut s (at + 2) (at + 8)) ≡ some d = sym u ∙ ap num_of w in rw (line_is, z, v)
+        day_is = line_is ∙ rw (← w) refl
 
-        pub open_no_lengths : p ≡ NoLengths → Commanding s (open_line s at e) End
-        unfolding commanded_of Placed
-        open_no_lengths y = record { same = rw (day_is, y) refl; places = tt }
+        pub open_no_lengths : none ≡ parted_lengths 2 sizes → none ≡ opening_behind parts others
+        open_no_lengths y = sym (day_is ∙ rw (← y) refl)
 
-        module _ (i j : ℕ) (y : p ≡ Two i j) where
-          pub open_cut : length s - (e + 2) < i + j → Commanding s (open_line s at e) End
-          unfolding commanded_of Placed added_up
-          open_cut l = record { same = rw (day_is, y, texts_short s (e + 2) (opening d) (i ∷ j ∷ []) (omega arith)) refl; places = tt }
+        module _ {i j : ℕ} (y : some (i ∷ j ∷ []) ≡ parted_lengths 2 sizes) where
+          pub open_cut : length others < i → none ≡ opening_behind parts others
+          unfolding added_up
+          open_cut l = sym (day_is ∙ rw (← y) (texts_short (opening d) (i ∷ j ∷ []) others (omega arith)))
 
-          pub open_whole : i + j ≤ length s - (e + 2) → Commanding s (open_line s at e) (Opens d (e + 2) (e + 2 + i) (e + 2 + i + j))
-          unfolding commanded_of Placed added_up texts_in opening
-          open_whole l = record {
-            same =
-                let z : e + 2 + added_up (i ∷ j ∷ []) ≡ e + 2 + i + j = omega arith in
-                sym (day_is ∙ rw y (texts_whole s (e + 2) (opening d) (i ∷ j ∷ []) (omega arith) ∙ rw (z, from_drop, from_take, from_take)));
-            places = (omega arith, (omega arith, omega arith));
-          }
+          module _ {register rest : List ℕ} (r : IsSplitAt others i register rest) where
+            pub open_cut_behind : length rest < j → none ≡ opening_behind parts others
+            unfolding added_up
+            open_cut_behind l = sym (day_is ∙ rw (← y) (texts_short (opening d) (i ∷ j ∷ []) others (omega (arith, r.4))))
+
+            pub open_whole : {holidays last : List ℕ} → IsSplitAt rest j holidays last → some record { command = R.opens d register holidays; others = last } ≡ opening_behind parts others
+            unfolding added_up texts_in opening
+            open_whole s =
+                let z : added_up (i ∷ j ∷ []) ≡ i + j = omega arith in
+                sym (day_is ∙ rw (← y) (texts_whole (opening d) (i ∷ j ∷ []) others (omega (arith, r.4, s.0)) ∙ rw (z, s.1, s.2, r.2, r.1, drop-drop j i others)))
 
 -- ---- by its letter
 
-module _ (s : List ℕ) (at e : ℕ) (q : Letter) (w : q ≡ letter_in (cut s at e)) where
-  pub text_long : (h : Handed) → q ≡ Text h → at ≤ e → e + 2 ≤ length s → at + 2 ≤ e
-  text_long h d a k = omega (arith, ap length (text_letter (cut s at e) q w h d), cut_length s at e (omega arith))
-
-  pub by_text : (h : Handed) → q ≡ Text h → {r : Command} → Commanding s (text_line h s at e) r → Commanding s (command_of (cut s at e) (from s (e + 2))) r
-  unfolding text_line
-  by_text h d c = record {
-    same = c.same ∙ sym (ap (λ (x : List ℕ). command_of x (from s (e + 2))) (text_letter (cut s at e) q w h d) ∙ text_read h (drop 2 (cut s at e)) (from s (e + 2)) ∙ rw cut_drop);
-    places = c.places;
-  }
+module _ (line others : List ℕ) where
+  pub by_text : {h : Handed} → Some h ≡ letter_in line → {x : M.Option Commanded} → x ≡ texts_behind (single (making h)) 1 (drop 2 line) others → x ≡ command_of line others
+  by_text {h} d e = e ∙ sym (ap (λ (l : List ℕ). command_of l others) (text_letter line h (sym d)) ∙ text_read h (drop 2 line) others)
 
   -- of no text's command
-  module _ (d : q ≡ Other) where
-    no_text : (h : Handed) → begins_with (letter_of h) (cut s at e) ≡ false
-    no_text = other_letter (cut s at e) q w d
+  module _ (d : None ≡ letter_in line) where
+    pub by_turn : {x : M.Option Commanded} {day : List ℕ} → Stripped (84 ∷ 44 ∷ []) line day → x ≡ turn_behind day others → x ≡ command_of line others
+    unfolding command_of turn_behind
+    by_turn f e =
+        let t : equal (take 2 line) (ascii "T,") ≡ true = sym (stripped_is (take 2 line) (84 ∷ 44 ∷ [])) ∙ f.0 in
+        e ∙ sym (other_read line (other_letter line (sym d)) _ _ _ _ ∙ rw (t, f.1))
 
-    pub by_turn : {r : Command} (t : Bool) → t ≡ begins_with 84 (cut s at e) → t ≡ true → Commanding s (turn_line s at e) r → Commanding s (command_of (cut s at e) (from s (e + 2))) r
-    unfolding command_of turn_line
-    by_turn t u f c = record { same = c.same ∙ sym (other_read (cut s at e) no_text _ _ _ _ ∙ rw (← u, f, cut_drop)); places = c.places }
+    module _ (f : pointwise nat_eq (take 2 line) (84 ∷ 44 ∷ []) ≡ false) where
+      no_turn : equal (take 2 line) (ascii "T,") ≡ false
+      no_turn = sym (stripped_is (take 2 line) (84 ∷ 44 ∷ [])) ∙ f
 
-    module _ (t : Bool) (u : t ≡ begins_with 84 (cut s at e)) (f : t ≡ false) where
-      pub by_open : {r : Command} (t₂ : Bool) → t₂ ≡ begins_with 79 (cut s at e) → t₂ ≡ true → Commanding s (open_line s at e) r
-          → Commanding s (command_of (cut s at e) (from s (e + 2))) r
-      unfolding command_of open_line
-      by_open t₂ u₂ f₂ c = record { same = c.same ∙ sym (other_read (cut s at e) no_text _ _ _ _ ∙ rw (← u, f, ← u₂, f₂, cut_drop, cut_drop, cut_drop)); places = c.places }
+      pub by_open : {x : M.Option Commanded} {parts : List ℕ} → Stripped (79 ∷ 44 ∷ []) line parts → x ≡ opening_behind parts others → x ≡ command_of line others
+      unfolding command_of opening_behind
+      by_open g e =
+          let o : equal (take 2 line) (ascii "O,") ≡ true = sym (stripped_is (take 2 line) (79 ∷ 44 ∷ [])) ∙ g.0 in
+          e ∙ sym (other_read line (other_letter line (sym d)) _ _ _ _ ∙ rw (no_turn, o, g.1, drop-drop 6 2 line, drop-drop 7 2 line))
 
-      pub by_none : (t₂ : Bool) → t₂ ≡ begins_with 79 (cut s at e) → t₂ ≡ false → Commanding s (command_of (cut s at e) (from s (e + 2))) End
-      unfolding command_of commanded_of Placed
-      by_none t₂ u₂ f₂ = record { same = sym (other_read (cut s at e) no_text _ _ _ _ ∙ rw (← u, f, ← u₂, f₂)); places = tt }
+      pub by_none : pointwise nat_eq (take 2 line) (79 ∷ 44 ∷ []) ≡ false → none ≡ command_of line others
+      unfolding command_of
+      by_none k =
+          let o : equal (take 2 line) (ascii "O,") ≡ false = sym (stripped_is (take 2 line) (79 ∷ 44 ∷ [])) ∙ k in
+          sym (other_read line (other_letter line (sym d)) _ _ _ _ ∙ rw (no_turn, o))
 
 -- ---- by its line
 
-module _ (s : List ℕ) (at : ℕ) (l : Next) (h : LineAt s at l) where
-  pub line_start : (e : ℕ) → l ≡ Line e → at ≤ e
-  line_start e k = (line_told s at l h e k).start
+module _ (s : List ℕ) (l : Option ℕ) (h : LineAt s 0 l) where
+  pub line_room : (e : ℕ) → l ≡ Some e → e + 2 ≤ length s
+  line_room e k = (line_told s 0 l h e k).room
 
-  pub line_room : (e : ℕ) → l ≡ Line e → e + 2 ≤ length s
-  line_room e k = (line_told s at l h e k).room
+  pub command_line : (e : ℕ) → l ≡ Some e → {x : M.Option Commanded} → x ≡ command_of (take e s) (drop (e + 2) s) → x ≡ command s
+  unfolding command cut from
+  command_line e k c = c ∙ let y : take_line s ≡ some record { line = take e s; others = drop (e + 2) s } = rw from_all at (line_told s 0 l h e k).same in sym (rw y refl)
 
-  pub command_line : (e : ℕ) → l ≡ Line e → {r : Command} → Commanding s (command_of (cut s at e) (from s (e + 2))) r → Commanding s (command (from s at)) r
+  pub command_none : l ≡ None → none ≡ command s
   unfolding command
-  command_line e k c = record { same = rw (line_told s at l h e k).same c.same; places = c.places }
-
-  pub command_none : l ≡ NoNext → Commanding s (command (from s at)) End
-  unfolding command commanded_of Placed
-  command_none k = record { same = rw (no_line_told s at l h k).same refl; places = tt }
-
-pub ruleset commanded = (begins_short, begins_other, begins_comma, begins_long, letter_one, letter_none, text_long, text_none, text_short, text_whole, turn_none, turn_day, open_short, open_other, open_no_day, open_no_lengths, open_cut, open_whole, by_text, by_turn, by_open, by_none, line_start, line_room, command_line, command_none, six_small, two_small)
+  command_none k = let y : take_line s ≡ none = rw from_all at (no_line_told s 0 l h k).same in sym (rw y refl)

@@ -1,26 +1,23 @@
 -- Laws of days and lengths in command lines: a length is parted from the next by the first comma.
-use Rattle.std.specs.Prelude.{◌≡◌, Bool, ◌&&◌, ℕ, zero, suc, ◌+◌, ◌-◌, ◌*◌, ◌≤◌, ◌<◌, leb, eqb, length, replicate}
+use Rattle.std.specs.Prelude.{◌≡◌, Bool, ◌&&◌, ◌==◌, not, ℕ, zero, suc, ◌+◌, ◌-◌, ◌*◌, ◌≤◌, ◌<◌, Option, Some, None, leb, eqb, length, get_or, take, drop, replicate, position}
+use Rattle.std.specs.List.{prefix_len, position_or_len}
 use Rattle.std.proofs.Math.Path.{refl, sym, ap}
-use Rattle.std.proofs.Common.{◌∙◌, lt_of_le_of_lt, lit<, Fits}
+use Rattle.std.proofs.Common.{◌∙◌, lt_of_le_of_lt, lit<, Fits, length-drop, take-append-drop, ltb-true, ltb-false}
 use Rattle.std.proofs.Math.Bool.{true, false, cond}
 use mathlib.Core.List.{List, [], ◌∷◌, ◌++◌}
-use Rattle.std.proofs.Math.Option.{Option, none, some, map}
+use Rattle.std.proofs.Math.Option as M
+use Rattle.std.proofs.Math.Option.{none, some, map}
 use native.Mathlib.Omega.{arith}
-use Rattle.std.proofs.Math.Dec.{eqb-suc-suc}
-use Rattle.std.proofs.Math.ListN.{get_or}
+use Rattle.std.proofs.Math.Dec.{eqb-suc-suc, ltb}
+use Rattle.std.proofs.Math.Seq.{take-length}
+use Rattle.std.proofs.lemmas.List.{drop_more}
 use borrow.Author.Tests.{le-leb, lt-leb, leb-true, eqb-true, ne_eqb, not-false}
 use borrow.Author.Rules.{Fits-under}
-use mir.Syntax.{w32, w64}
-use Rattle.text.specs.Answers.{num_of}
-use Rattle.text.specs.declared.numbers.Num.{Num}
-use Rattle.text.specs.declared.numbers.Num.TheVariants.{Value, Bad}
-use Rattle.commands.specs.declared.number.Lengths.{Lengths}
-use Rattle.commands.specs.declared.number.Lengths.TheVariants.{Two, Bad as NoLengths}
+use mir.Syntax.{w32}
 use Rattle.rules.specs.Text.{ascii, is_digit, digits_from, digits, every, fits, fits_sign, then, given, read_each, added_up}
 use Rattle.rules.specs.Lines.{parted}
 use Rattle.rules.specs.Replay.{length_of, parted_lengths, six_digits}
-use Rattle.laws.specs.Parts.{cut, cut_step, cut_done, cut_length, cut_join}
-use Rattle.laws.specs.Places.{Passed}
+use Rattle.laws.specs.Parts.{cut, cut_all, from, from_all, from_step, from_done}
 use Rattle.laws.specs.Reading.{Placed, power, fits_length}
 use Rattle.laws.specs.Numbers.{digits_small}
 use Rattle.laws.specs.Values.{digits_each}
@@ -30,7 +27,7 @@ use Rattle.rule_laws.specs.Commas.{in_part, parted_last, parted_next, AtCommas, 
 use Rattle.rule_laws.specs.Options.{There, Came, came, Gave, gave}
 
 -- the number v and the digits behind it, where it is at most 8192
-unfoldable pub limited : ℕ → List ℕ → Option ℕ
+unfoldable pub limited : ℕ → List ℕ → M.Option ℕ
 limited v cs = then (digits_from v cs) (λ n. given (leb n 8192) n)
 
 -- a larger number stays too large
@@ -43,42 +40,107 @@ limited_large v (c ∷ cs) h = go (is_digit c) (limited_large (v * 10 + (c - 48)
     go true e = e
     go false e = refl
 
-module _ (s : List ℕ) (a b : ℕ) where
-  pub length_empty : b ≤ length s → a ≡ b → none ≡ length_of (cut s a b)
+module _ (part : List ℕ) where
+  pub length_empty : length part ≡ 0 → none ≡ length_of part
   unfolding length_of
-  length_empty l e = rw (cut_done s a b (omega arith) (omega arith)) refl
-
-  pub length_starts : a ≤ b → b ≤ length s → (a ≡ b → ⊥) → limited 0 (cut s a b) ≡ length_of (cut s a b)
-  unfolding limited length_of
-  length_starts h l n = let k : a < b = more h n in rw (cut_step s a b k l) refl
+  length_empty h = go part h
     where
-      more : a ≤ b → (a ≡ b → ⊥) → a < b
-      more h n = omega arith
+      go : (l : List ℕ) → length l ≡ 0 → none ≡ length_of l
+      go [] h = refl
+      go (c ∷ l) h = absurd (omega arith)
 
--- v is read, the part from i is left, and x is what the whole is
-module _ (s : List ℕ) (i b v : ℕ) (x : Option ℕ) (inv : limited v (cut s i b) ≡ x) where
-  pub length_large : 8192 < v → none ≡ x
-  length_large h = limited_large v (cut s i b) h ∙ inv
+  pub length_starts : (length part ≡ 0 → ⊥) → limited 0 (from part 0) ≡ length_of part
+  unfolding limited length_of
+  length_starts n = rw from_all (go part n)
+    where
+      go : (l : List ℕ) → (length l ≡ 0 → ⊥) → limited 0 l ≡ length_of l
+      go [] n = absurd (n refl)
+      go (c ∷ l) n = refl
 
-  module _ (h : i < b) (l : b ≤ length s) where
-    pub length_more : {t : Bool} → t ≡ is_digit (get_or s i 0) → t ≡ true → (r : ℕ) → Placed 10 v (get_or s i 0 - 48) r → limited r (cut s (i + 1) b) ≡ x
+-- n is read, the part from k on is left, and x is what the whole is
+module _ (part : List ℕ) (k n : ℕ) (x : M.Option ℕ) (inv : limited n (from part k) ≡ x) where
+  module _ (h : k < length part) where
+    pub length_bad : is_digit (get_or part k 0) ≡ false → none ≡ x
     unfolding limited digits_from
-    length_more e d r p = rw p.value (rw (cut_step s i b h l, ← e, d) at inv)
+    length_bad d = rw (from_step part k h, d) at inv
 
-    pub length_bad : {t : Bool} → t ≡ is_digit (get_or s i 0) → t ≡ false → none ≡ x
-    unfolding limited digits_from
-    length_bad e d = rw (cut_step s i b h l, ← e, d) at inv
+    module _ (d : is_digit (get_or part k 0) ≡ true) (r : ℕ) (p : Placed 10 n (get_or part k 0 - 48) r) where
+      pub length_more : limited r (from part (k + 1)) ≡ x
+      unfolding limited digits_from
+      length_more = rw p.value (rw (from_step part k h, d) at inv)
 
-  pub length_end : i ≤ b → b ≤ i → v ≤ 8192 → some v ≡ x
+      pub length_large : 8192 < r → none ≡ x
+      length_large l = limited_large r (from part (k + 1)) l ∙ length_more
+
+  pub length_end : length part ≤ k → n ≤ 8192 → some n ≡ x
   unfolding limited digits_from
-  length_end h k l = rw (cut_done s i b h k, le-leb _ _ l) at inv
+  length_end h l = rw (from_done part k h, le-leb _ _ l) at inv
 
 -- ---- lengths behind each other
 
 -- two that are read, or none
-abbrev pub lengths_in : Lengths → Option (List ℕ)
-lengths_in (Two m n) = some (m ∷ n ∷ [])
-lengths_in NoLengths = none
+abbrev pub lengths_in : Option (ℕ × ℕ) → M.Option (List ℕ)
+lengths_in (Some (m, n)) = some (m ∷ n ∷ [])
+lengths_in None = none
+
+-- a slice from a place on
+pub rest_is : (s : List ℕ) (k : ℕ) → take (length s - k) (drop k s) ≡ drop k s
+rest_is s k = rw (← length-drop k s) (take-length (drop k s))
+
+-- how far a test holds from the front on
+pub record Front (p : ℕ → Bool) (l : List ℕ) (k : ℕ) : Type 0 where
+  pub within : k ≤ length l
+  pub passes : every p (take k l) ≡ true
+  pub next : k < length l → p (get_or l k 0) ≡ false
+
+pub front_of : (p : ℕ → Bool) (l : List ℕ) → Front p l (prefix_len p l)
+unfolding every
+front_of p [] = record { within = omega arith; passes = refl; next = λ (h : 0 < 0). absurd (omega arith) }
+front_of p (x ∷ l) = go (p x) refl (front_of p l)
+  where
+    go : (t : Bool) → p x ≡ t → Front p l (prefix_len p l) → Front p (x ∷ l) (cond t (1 + prefix_len p l) 0)
+    go true e f =
+        let k : 1 + prefix_len p l ≡ suc (prefix_len p l) = omega arith in
+        rw k record { within = omega (arith, f.within); passes = rw (e, f.passes); next = λ h. f.next (omega arith) }
+    go false e f = record { within = omega arith; passes = refl; next = λ _. e }
+
+-- the first comma stands at k
+record CommaAt (l : List ℕ) (k : ℕ) : Type 0 where
+  within : k < length l
+  front : every in_part (take k l) ≡ true
+  apart : l ≡ take k l ++ 44 ∷ drop (k + 1) l
+
+no_comma : (l : List ℕ) → position (λ c. c == 44) l ≡ None → every in_part l ≡ true
+unfolding in_part
+no_comma l e = go (ltb (position_or_len (λ c. c == 44) l) (length l)) refl e
+  where
+    f : Front in_part l (position_or_len (λ c. c == 44) l)
+    f = front_of in_part l
+
+    go : (t : Bool) → ltb (position_or_len (λ c. c == 44) l) (length l) ≡ t → cond t (Some (position_or_len (λ c. c == 44) l)) None ≡ None → every in_part l ≡ true
+    go true h k = absurd (cc)
+    go false h k = let m : position_or_len (λ c. c == 44) l ≡ length l = omega (arith, ltb-false _ _ h, f.within) in rw (m, take-length) at f.passes
+
+first_comma : (l : List ℕ) (k : ℕ) → position (λ c. c == 44) l ≡ Some k → CommaAt l k
+unfolding in_part
+first_comma l k e = go (ltb (position_or_len (λ c. c == 44) l) (length l)) refl e
+  where
+    f : Front in_part l (position_or_len (λ c. c == 44) l)
+    f = front_of in_part l
+
+    made : (k : ℕ) → position_or_len (λ c. c == 44) l ≡ k → k < length l → CommaAt l k
+    made k u h =
+        let n : not (eqb (get_or l k 0) 44) ≡ false = rw u at (f.next (omega arith)) in
+        let c : get_or l k 0 ≡ 44 = eqb-true _ _ (not-false _ n) in
+        record {
+          within = h;
+          front = rw u at f.passes;
+          apart = sym (take-append-drop k l) ∙ ap (λ (x : List ℕ). take k l ++ x) (drop_more l k 0 h ∙ rw c);
+        }
+
+    go : (t : Bool) → ltb (position_or_len (λ c. c == 44) l) (length l) ≡ t → cond t (Some (position_or_len (λ c. c == 44) l)) None ≡ Some k → CommaAt l k
+    go true h z = let u : position_or_len (λ c. c == 44) l ≡ k = cc in made k u (rw u at (ltb-true _ _ h))
+    go false h z = absurd (cc)
 
 -- what has a comma is no length
 comma_digits : (v : ℕ) (ds x : List ℕ) → digits_from v (ds ++ 44 ∷ x) ≡ none
@@ -86,7 +148,7 @@ unfolding digits_from is_digit
 comma_digits v [] x = refl
 comma_digits v (c ∷ ds) x = rw (comma_digits (v * 10 + (c - 48)) ds x) (go (is_digit c))
   where
-    go : (t : Bool) → cond {A = Option ℕ} t none none ≡ none
+    go : (t : Bool) → cond {A = M.Option ℕ} t none none ≡ none
     go true = refl
     go false = refl
 
@@ -104,7 +166,7 @@ lengths_none l = go (read_each length_of (parted l)) (parts_read length_of l)
     some_part (one p h) = refl
     some_part (next p rest {vs = vs} h r) = rw (ne_eqb (suc (length vs)) 0 (λ z. omega arith))
 
-    go : (o : Option (List ℕ)) → ((vs : List ℕ) → o ≡ some vs → PartsRead length_of l vs) → then o (λ ns. given (eqb (length ns) 0) ns) ≡ none
+    go : (o : M.Option (List ℕ)) → ((vs : List ℕ) → o ≡ some vs → PartsRead length_of l vs) → then o (λ ns. given (eqb (length ns) 0) ns) ≡ none
     go none f = refl
     go (some vs) f = some_part (f vs refl)
 
@@ -117,7 +179,7 @@ lengths_next n a rest h = rw (parted_next a rest h) (go (length_of a) (read_each
     counted v ns true = refl
     counted v ns false = refl
 
-    go : (x : Option ℕ) (o : Option (List ℕ)) → then (then x (λ v. map (λ more. v ∷ more) o)) (λ ns. given (eqb (length ns) (suc n)) ns) ≡ then x (λ v. map (λ more. v ∷ more) (then o (λ ns. given (eqb (length ns) n) ns)))
+    go : (x : M.Option ℕ) (o : M.Option (List ℕ)) → then (then x (λ v. map (λ more. v ∷ more) o)) (λ ns. given (eqb (length ns) (suc n)) ns) ≡ then x (λ v. map (λ more. v ∷ more) (then o (λ ns. given (eqb (length ns) n) ns)))
     go none o = refl
     go (some v) none = refl
     go (some v) (some ns) = rw (eqb-suc-suc (length ns) n) (counted v ns (eqb (length ns) n))
@@ -127,11 +189,11 @@ lengths_alone : (n : ℕ) (p : List ℕ) → every in_part p ≡ true → parted
 unfolding parted_lengths read_each
 lengths_alone n p h = rw (parted_last p h) (go (length_of p))
   where
-    go : (x : Option ℕ) → then (then x (λ v. some (v ∷ []))) (λ ns. given (eqb (length ns) n) ns) ≡ then x (λ v. given (eqb 1 n) (v ∷ []))
+    go : (x : M.Option ℕ) → then (then x (λ v. some (v ∷ []))) (λ ns. given (eqb (length ns) n) ns) ≡ then x (λ v. given (eqb 1 n) (v ∷ []))
     go none = refl
     go (some v) = refl
 
-nothing_made : (x : Option ℕ) → then {B = List ℕ} x (λ v. none) ≡ none
+nothing_made : (x : M.Option ℕ) → then {B = List ℕ} x (λ v. none) ≡ none
 nothing_made none = refl
 nothing_made (some v) = refl
 
@@ -143,35 +205,30 @@ lengths_last l = go (at_commas l)
     go (alone p h) = lengths_alone 1 p h
     go (comma p rest h _) = rw (lengths_next 0 p rest h, lengths_none rest, comma_none p rest) (nothing_made (length_of p))
 
--- k of the bytes from a up to e stand before a comma
-module _ (s : List ℕ) (a e k : ℕ) (w : Passed in_part s a (e - a) k) (h : a ≤ e) (l : e ≤ length s) where
-  pub lengths_one : k ≡ e - a → none ≡ parted_lengths 2 (cut s a e)
-  lengths_one u = let m : a + k ≡ e = omega arith in sym (lengths_alone 2 (cut s a e) (rw m at w.front) ∙ nothing_made (length_of (cut s a e)))
+-- by the first comma
+module _ (part : List ℕ) where
+  pub lengths_one : None ≡ position (λ c. c == 44) part → none ≡ parted_lengths 2 part
+  lengths_one e = sym (lengths_alone 2 part (no_comma part (sym e)) ∙ nothing_made (length_of part))
 
-  module _ (u : (k ≡ e - a → ⊥)) where
-    part_here : cut s a e ≡ cut s a (a + k) ++ 44 ∷ cut s (a + k + 1) e
-    unfolding in_part
-    part_here =
-        let m : k < e - a = omega (arith, w.within, u) in
-        let c : get_or s (a + k) 0 ≡ 44 = eqb-true _ _ (not-false _ (w.next m)) in
-        sym (cut_join s a k e (omega arith)) ∙ ap (λ (x : List ℕ). cut s a (a + k) ++ x) (cut_step s (a + k) e (omega arith) l ∙ rw c)
+  module _ {k : ℕ} (e : Some k ≡ position (λ c. c == 44) part) where
+    parting : CommaAt part k
+    parting = first_comma part k (sym e)
 
-    lengths_are : parted_lengths 2 (cut s a e) ≡ then (length_of (cut s a (a + k))) (λ n. map (λ more. n ∷ more) (then (length_of (cut s (a + k + 1) e)) (λ m. some (m ∷ []))))
-    lengths_are = rw (part_here, lengths_next 1 (cut s a (a + k)) (cut s (a + k + 1) e) w.front, lengths_last (cut s (a + k + 1) e))
+    pub comma_within : k < length part
+    comma_within = parting.within
 
-    module _ (q : Num) (v : num_of q ≡ length_of (cut s a (a + k))) where
-      pub lengths_bad : q ≡ Bad → none ≡ parted_lengths 2 (cut s a e)
-      lengths_bad b = let z : length_of (cut s a (a + k)) ≡ none = sym v ∙ ap num_of b in rw (lengths_are, z)
+    lengths_are : parted_lengths 2 part ≡ then (length_of (take k part)) (λ n. map (λ more. n ∷ more) (then (length_of (drop (k + 1) part)) (λ m. some (m ∷ []))))
+    lengths_are = ap (parted_lengths 2) parting.apart ∙ rw (lengths_next 1 (take k part) (drop (k + 1) part) parting.front, lengths_last (drop (k + 1) part))
 
-      module _ (n : ℕ) (b : q ≡ Value n) (p : Num) (y : num_of p ≡ length_of (cut s (a + k + 1) e)) where
-        length_first : length_of (cut s a (a + k)) ≡ some n
-        length_first = sym v ∙ ap num_of b
+    pub lengths_bad : none ≡ length_of (take k part) → none ≡ parted_lengths 2 part
+    lengths_bad u = sym (lengths_are ∙ rw (← u))
 
-        pub lengths_second_bad : p ≡ Bad → none ≡ parted_lengths 2 (cut s a e)
-        lengths_second_bad d = let z : length_of (cut s (a + k + 1) e) ≡ none = sym y ∙ ap num_of d in rw (lengths_are, length_first, z)
+    module _ {n : ℕ} (u : some n ≡ length_of (take k part)) where
+      pub lengths_second_bad : none ≡ length_of (drop (k + 1) part) → none ≡ parted_lengths 2 part
+      lengths_second_bad v = sym (lengths_are ∙ rw (← u, ← v))
 
-        pub lengths_two : (m : ℕ) → p ≡ Value m → some (n ∷ m ∷ []) ≡ parted_lengths 2 (cut s a e)
-        lengths_two m d = let z : length_of (cut s (a + k + 1) e) ≡ some m = sym y ∙ ap num_of d in rw (lengths_are, length_first, z)
+      pub lengths_two : {m : ℕ} → some m ≡ length_of (drop (k + 1) part) → some (n ∷ m ∷ []) ≡ parted_lengths 2 part
+      lengths_two v = sym (lengths_are ∙ rw (← u, ← v))
 
 -- ---- digits
 
@@ -187,32 +244,33 @@ digits_there (suc k) v (c ∷ cs) h =
     go : (t : Bool) → t ≡ true → There (digits_from (v * 10 + (c - 48)) cs) → There (cond t (digits_from (v * 10 + (c - 48)) cs) none)
     go t e r = record { value = r.value; is = rw e r.is }
 
-module _ (s : List ℕ) (a b : ℕ) where
-  pub six_other : b ≤ length s → (b - a ≡ 6 → ⊥) → none ≡ six_digits (cut s a b)
+module _ (part : List ℕ) where
+  pub six_other : (length part ≡ 6 → ⊥) → none ≡ six_digits part
   unfolding six_digits
-  six_other l n = go (fits (ascii "nnnnnn") (cut s a b)) refl
+  six_other n = go (fits (ascii "nnnnnn") part) refl
     where
-      go : (t : Bool) → fits (ascii "nnnnnn") (cut s a b) ≡ t → none ≡ cond t (digits (cut s a b)) none
-      go true e = absurd (n (sym (cut_length s a b l) ∙ sym (fits_length (ascii "nnnnnn") (cut s a b) e)))
+      go : (t : Bool) → fits (ascii "nnnnnn") part ≡ t → none ≡ cond t (digits part) none
+      go true e = absurd (n (sym (fits_length (ascii "nnnnnn") part e)))
       go false e = refl
 
-  pub six_read : b ≤ length s → b - a ≡ 6 → (o : Option ℕ) → o ≡ digits (cut s a b) → o ≡ six_digits (cut s a b)
+  pub six_read : length part ≡ 6 → (o : M.Option ℕ) → o ≡ digits part → o ≡ six_digits part
   unfolding six_digits
-  six_read l n o e = e ∙ go (digits (cut s a b)) refl
+  six_read n o e = e ∙ go (digits part) refl
     where
-      go : (d : Option ℕ) → digits (cut s a b) ≡ d → d ≡ cond (fits (ascii "nnnnnn") (cut s a b)) d none
-      go none z = pick (fits (ascii "nnnnnn") (cut s a b))
+      go : (d : M.Option ℕ) → digits part ≡ d → d ≡ cond (fits (ascii "nnnnnn") part) d none
+      go none z = pick (fits (ascii "nnnnnn") part)
         where
-          pick : (t : Bool) → none ≡ cond {A = Option ℕ} t none none
+          pick : (t : Bool) → none ≡ cond {A = M.Option ℕ} t none none
           pick true = refl
           pick false = refl
       go (some v) z =
-          let m : a + 6 ≡ b = omega arith in
-          let f : fits (ascii "nnnnnn") (cut s a b) ≡ every is_digit (cut s a (a + 6)) = fits_last 110 is_digit digit_sign s 6 a b m l in
-          rw (f, m, digits_each (cut s a b) 0 v z) refl
+          let x : cut part 0 6 ≡ part = rw n at (cut_all part) in
+          let f : fits (ascii "nnnnnn") (cut part 0 6) ≡ every is_digit (cut part 0 (0 + 6)) = fits_last 110 is_digit digit_sign part 6 0 6 refl (omega arith) in
+          let y : fits (ascii "nnnnnn") part ≡ true = rw x at f ∙ digits_each part 0 v z in
+          rw y refl
 
 -- a number within a limit
-given_within : (o : Option ℕ) (limit n : ℕ) → then o (λ m. given (leb m limit) m) ≡ some n → n ≤ limit
+given_within : (o : M.Option ℕ) (limit n : ℕ) → then o (λ m. given (leb m limit) m) ≡ some n → n ≤ limit
 given_within none limit n e = none_some e
 given_within (some m) limit n e = go (leb m limit) refl e
   where
@@ -248,58 +306,48 @@ lengths_read n l ns e =
     record { many = m; parts = p; limit = rw m at (parts_limit p) }
 
 -- as they were read, they fit their machine numbers
-module _ (s : List ℕ) (a b : ℕ) (q : Num) (n : ℕ) (w : q ≡ Value n) where
-  pub six_small : num_of q ≡ six_digits (cut s a b) → Fits w32 n
-  unfolding six_digits
-  six_small u = Fits-under w32 n 1000000 (go (fits (ascii "nnnnnn") (cut s a b)) refl (sym u ∙ ap num_of w)) tt
-    where
-      go : (t : Bool) → fits (ascii "nnnnnn") (cut s a b) ≡ t → cond t (digits (cut s a b)) none ≡ some n → n < 1000000
-      go true z e = rw (← fits_length (ascii "nnnnnn") (cut s a b) z) at (digits_small (cut s a b) n e)
-      go false z e = none_some e
-
-pub two_small : (l : List ℕ) (q : Lengths) (m n : ℕ) → q ≡ Two m n → lengths_in q ≡ parted_lengths 2 l → Fits w64 (m + n)
-unfolding added_up
-two_small l q m n w u = Fits-under w64 (m + n) 65536 (omega (arith, (lengths_read 2 l (m ∷ n ∷ []) (sym u ∙ ap lengths_in w)).limit)) tt
+pub six_small : (part : List ℕ) (n : ℕ) → some n ≡ six_digits part → Fits w32 n
+unfolding six_digits
+six_small part n u = Fits-under w32 n 1000000 (go (fits (ascii "nnnnnn") part) refl (sym u)) tt
+  where
+    go : (t : Bool) → fits (ascii "nnnnnn") part ≡ t → cond t (digits part) none ≡ some n → n < 1000000
+    go true z e = rw (← fits_length (ascii "nnnnnn") part z) at (digits_small part n e)
+    go false z e = none_some e
 
 -- a room of the output, as the program is told it: one to seven digits, at most 1,048,576
-unfoldable pub room_of : List ℕ → Option ℕ
+unfoldable pub room_of : List ℕ → M.Option ℕ
 room_of cs = cond (leb 1 (length cs) && leb (length cs) 7) (then (digits cs) (λ n. given (leb n 1048576) n)) none
 
-module _ (s : List ℕ) (a b : ℕ) (l : b ≤ length s) where
-  pub room_empty : a ≡ b → none ≡ room_of (cut s a b)
+module _ (part : List ℕ) where
+  pub room_empty : length part ≡ 0 → none ≡ room_of part
   unfolding room_of
-  room_empty e = rw (cut_done s a b (omega arith) (omega arith))
+  room_empty e = rw e
 
-  pub room_long : 7 < b - a → none ≡ room_of (cut s a b)
+  pub room_long : 7 < length part → none ≡ room_of part
   unfolding room_of
-  room_long h = rw (cut_length s a b l, lt-leb _ _ h, le-leb 1 (b - a) (omega arith))
+  room_long h = rw (lt-leb _ _ h, le-leb 1 (length part) (omega arith))
 
-  module _ (h : a ≤ b) (n : (a ≡ b → ⊥)) (k : b - a ≤ 7) (q : Num) (u : num_of q ≡ digits (cut s a b)) where
-    room_is : room_of (cut s a b) ≡ then (num_of q) (λ n. given (leb n 1048576) n)
+  module _ (n : (length part ≡ 0 → ⊥)) (k : length part ≤ 7) where
+    room_is : room_of part ≡ then (digits part) (λ n. given (leb n 1048576) n)
     unfolding room_of
-    room_is = rw (u, cut_length s a b l, le-leb _ _ k, le-leb 1 (b - a) (omega arith))
+    room_is = let m : 1 ≤ length part = positive n in rw (le-leb _ _ k, le-leb _ _ m)
+      where
+        positive : (length part ≡ 0 → ⊥) → 1 ≤ length part
+        positive n = omega arith
 
-    pub room_bad : q ≡ Bad → none ≡ room_of (cut s a b)
-    room_bad w = sym (room_is ∙ rw w)
+    pub room_bad : none ≡ digits part → none ≡ room_of part
+    room_bad w = sym (room_is ∙ rw (← w))
 
-    module _ (v : ℕ) (w : q ≡ Value v) where
-      pub room_large : 1048576 < v → none ≡ room_of (cut s a b)
-      room_large m = sym (room_is ∙ rw (w, lt-leb _ _ m))
+    module _ {v : ℕ} (w : some v ≡ digits part) where
+      pub room_large : 1048576 < v → none ≡ room_of part
+      room_large m = sym (room_is ∙ rw (← w, lt-leb _ _ m))
 
-      pub room_read : v ≤ 1048576 → some v ≡ room_of (cut s a b)
-      room_read m = sym (room_is ∙ rw (w, le-leb _ _ m))
-
-pub room_small : (cs : List ℕ) (q : Num) (v : ℕ) → num_of q ≡ room_of cs → q ≡ Value v → v ≤ 1048576
-unfolding room_of
-room_small cs q v u w = go (leb 1 (length cs) && leb (length cs) 7) (sym u ∙ ap num_of w)
-  where
-    go : (t : Bool) → cond t (then (digits cs) (λ n. given (leb n 1048576) n)) none ≡ some v → v ≤ 1048576
-    go true k = given_within (digits cs) 1048576 v k
-    go false k = none_some k
+      pub room_read : v ≤ 1048576 → some v ≡ room_of part
+      room_read m = sym (room_is ∙ rw (← w, le-leb _ _ m))
 
 -- a number that is no larger takes a further digit
 pub length_room : (v : ℕ) → v ≤ 8192 → v < power 10 17
 unfolding power
 length_room v h = lt_of_le_of_lt h (lit< tt)
 
-pub ruleset numbers = (holds_told, length_room, length_empty, length_starts, length_large, length_more, length_bad, length_end, lengths_one, lengths_bad, lengths_second_bad, lengths_two, six_other, six_read, room_empty, room_long, room_bad, room_large, room_read)
+pub ruleset numbers = (holds_told, length_room, length_empty, length_starts, length_large, length_more, length_bad, length_end, six_other, six_read)

@@ -1,7 +1,7 @@
 -- The input read in pieces: a command in the bytes read so far is the input's whatever follows, and behind the longest command's bytes without one none follows.
 use Rattle.std.specs.Prelude.{◌≡◌, Bool, cond, take}
 use Rattle.std.proofs.Math.Path.{refl, ap}
-use Rattle.std.proofs.Common.{sym, ◌∙◌, length-drop, take-append-drop, take_at}
+use Rattle.std.proofs.Common.{sym, ◌∙◌, length-drop, take-append-drop, take_at, drop_at}
 use Rattle.std.proofs.Math.Bool.{true, false}
 use mathlib.Core.List.{List, [], ◌∷◌, ◌++◌, append_assoc, append-nil}
 use Rattle.std.proofs.Math.Option.{Option, none, some}
@@ -10,7 +10,7 @@ use native.Mathlib.Omega.{arith}
 use Rattle.std.proofs.Math.Dec.{leb}
 use Rattle.std.proofs.Math.ListN.{length, drop, length-append}
 use Rattle.std.proofs.lemmas.List.{take-append-le}
-use Rattle.std.proofs.Math.Seq.{drop-append-le}
+use Rattle.std.proofs.Math.Seq.{drop-append-le, drop-drop}
 use borrow.Author.Tests.{le-leb, leb-true, leb-false}
 use Rattle.rules.specs.Text.{ascii, is_digit, digits_from, every, then, given, added_up}
 use Rattle.rules.specs.Lines.{TakenLine, take_line}
@@ -110,28 +110,52 @@ command_more w r c e =
     let t : Came (take_line w) (λ t. command_of t.line t.others) c = came _ _ e in
     rw (line_more w r t.value t.is) ((follows_line t.value.others r t.value.line).found c t.gives)
 
--- less input stands behind a command than before it
-texts_behind_lem : (f : List (List ℕ) → Rattle.rules.specs.Replay.Command) (k : ℕ) (u cs : List ℕ) (c : Commanded) → texts_behind f k u cs ≡ some c → length c.others ≤ length cs
+-- what stands behind a command is the input from a place on
+record Rest (cs others : List ℕ) : Type 0 where
+  far : ℕ
+  within : far ≤ length cs
+  is : others ≡ drop far cs
+
+texts_rest : (f : List (List ℕ) → Rattle.rules.specs.Replay.Command) (k : ℕ) (u cs : List ℕ) (c : Commanded) → texts_behind f k u cs ≡ some c → Rest cs c.others
 unfolding texts_behind with_texts
-texts_behind_lem f k u cs c e =
+texts_rest f k u cs c e =
     let t : Came (parted_lengths k u) (λ ns. with_texts f ns cs) c = came _ _ e in
     let n : ℕ = added_up t.value in
     let g : Gave (leb n (length cs)) record { command = f (texts_in t.value cs); others = drop n cs } c = gave _ _ t.gives in
-    rw (← g.is, length-drop) (omega arith)
+    record { far = n; within = leb-true _ _ g.test; is = ap (λ (x : Commanded). x.others) (sym g.is) }
 
-line_behind : (l cs : List ℕ) (c : Commanded) → command_of l cs ≡ some c → length c.others ≤ length cs
-line_behind l cs c h = go (read_as l)
+line_rest : (l cs : List ℕ) (c : Commanded) → command_of l cs ≡ some c → Rest cs c.others
+line_rest l cs c h = go (read_as l)
   where
-    go : ReadAs l → length c.others ≤ length cs
+    go : ReadAs l → Rest cs c.others
     go (none_read e) = none_some (sym (e cs) ∙ h)
-    go (turn_read d _ e) = let u : some record { command = turns d; others = cs } ≡ some c = sym (e cs) ∙ h in let v : cs ≡ c.others = cc in rw (← v) (omega arith)
-    go (texts_read q u s e) = let b : Bears q = starts_bears s in texts_behind_lem b.made b.many u cs c (sym (b.line u cs) ∙ ap (λ (x : List ℕ). command_of x cs) (sym e) ∙ h)
+    go (turn_read d _ e) = let u : some record { command = turns d; others = cs } ≡ some c = sym (e cs) ∙ h in let v : c.others ≡ cs = cc in record { far = 0; within = omega arith; is = v }
+    go (texts_read q u s e) = let b : Bears q = starts_bears s in texts_rest b.made b.many u cs c (sym (b.line u cs) ∙ ap (λ (x : List ℕ). command_of x cs) (sym e) ∙ h)
 
-pub command_behind : (w : List ℕ) (c : Commanded) → command w ≡ some c → length c.others < length w
+command_far : (w : List ℕ) (c : Commanded) → command w ≡ some c → (r : Rest w c.others) × (0 < r.far)
 unfolding command
-command_behind w c e =
+command_far w c e =
     let t : Came (take_line w) (λ t. command_of t.line t.others) c = came _ _ e in
-    omega (arith, first_length w t.value t.is, line_behind t.value.line t.value.others c t.gives)
+    let f : FirstLine w t.value = first_line_lem w t.value t.is in
+    let r : Rest t.value.others c.others = line_rest t.value.line t.value.others c t.gives in
+    let l : List ℕ = t.value.line ++ 13 ∷ 10 ∷ [] in
+    let n : length l ≡ length t.value.line + 2 = length-append t.value.line (13 ∷ 10 ∷ []) in
+    let x : w ≡ l ++ t.value.others = f.text ∙ sym (append_assoc t.value.line (13 ∷ 10 ∷ []) t.value.others) in
+    let y : drop (length t.value.line + 2) w ≡ t.value.others = ap (drop (length t.value.line + 2)) x ∙ drop_at l t.value.others _ n in
+    let k : length w ≡ length l + length t.value.others = ap length x ∙ length-append l t.value.others in
+    (record { far = length t.value.line + 2 + r.far; within = omega (arith, r.within); is = r.is ∙ ap (drop r.far) (sym y) ∙ drop-drop r.far (length t.value.line + 2) w }, omega arith)
+
+-- less input stands behind a command than before it
+pub command_behind : (w : List ℕ) (c : Commanded) → command w ≡ some c → length c.others < length w
+command_behind w c e = let r = command_far w c e in rw (r.0.is, length-drop r.0.far w) (omega (arith, r.0.within, r.1))
+
+-- and it is the input's end
+pub command_rest : (w : List ℕ) (c : Commanded) → command w ≡ some c → drop (length w - length c.others) w ≡ c.others
+command_rest w c e =
+    let r = command_far w c e in
+    let k : length c.others ≡ length w - r.0.far = ap length r.0.is ∙ length-drop r.0.far w in
+    let m : length w - length c.others ≡ r.0.far = omega (arith, r.0.within) in
+    rw m (sym r.0.is)
 
 -- ---- the longest command
 

@@ -1,5 +1,5 @@
 -- The places of a window where lengths begin, from one to the next: two zeros stand at one of them, or the window has no idle zeros.
-use Rattle.std.specs.Prelude.{◌≡◌, Bool, false, ◌&&◌, not, eqb, get_or, drop}
+use Rattle.std.specs.Prelude.{◌≡◌, Bool, false, ◌&&◌, not, eqb, get_or, drop, Option, Some, None, IfSome, is_some}
 use Rattle.std.proofs.Math.Path.{refl, sym, ap, subst}
 use Rattle.std.proofs.Common.{◌∙◌, arith, length-take, take-append-drop, length-take-le, drop_at, eqb-true}
 use Rattle.std.proofs.Math.Bool.{true}
@@ -9,7 +9,7 @@ use Rattle.std.proofs.Math.ListN.{length, take, length-append}
 use Rattle.std.proofs.Math.Seq.{take_at}
 use Rattle.std.proofs.lemmas.Bool.{not-true}
 use Rattle.rules.specs.Text.{ascii, is_digit, every, fits, fits_sign}
-use Rattle.laws.specs.Parts.{cut, from, from_take, from_cut, from_step, from_done, cut_join, cut_length}
+use Rattle.laws.specs.Parts.{cut, from, from_take, from_cut, from_step, cut_join, cut_length, cut_size}
 use Rattle.laws.specs.Places.{Passed}
 use Rattle.laws.specs.Tests.{and_left, and_right, cond_left, cond_right, never}
 use Rattle.laws.specs.Equal.{equal_same}
@@ -17,8 +17,6 @@ use Rattle.laws.specs.Every.{every_append}
 use Rattle.laws.specs.Reading.{fits_length, fits_front, fits_behind}
 use Rattle.commands.specs.declared.letter.Handed.{Handed}
 use Rattle.commands.specs.declared.letter.Handed.TheVariants.{Message, Newer, Older}
-use Rattle.commands.specs.declared.letter.Letter.{Letter}
-use Rattle.commands.specs.declared.letter.Letter.TheVariants.{Text, Other}
 use Rattle.commands.specs.Letters.{letter_of, begins_with, letter_in, text_letter, other_letter}
 use Rattle.commands.specs.Leads.{Starts, Starts.handing, Starts.opening, day_comma, Earlier, Earlier.nothing, Earlier.lengths, Leads, leads_on, NoIdleIn, NoIdle}
 
@@ -88,33 +86,41 @@ opening_of x h =
     let z : x ≡ 79 ∷ 44 ∷ (d ++ 44 ∷ []) = sym (take-append-drop 2 x) ∙ ap (λ (q : List ℕ). q ++ drop 2 x) (fits_itself (ascii "O,") _ refl (fits_front (ascii "O,") (ascii "nnnnnn,") x h)) ∙ ap (λ (q : List ℕ). 79 ∷ 44 ∷ q) y in
     subst Starts (sym z) (opening d b)
 
+-- a length begins at a place, or none does
+abbrev SeekingTold : List ℕ → Option ℕ → Type 0
+SeekingTold w (Some p) = Seeking w p
+SeekingTold w None = NoIdle w
+
+pub record SeekingAt (w : List ℕ) (place : Option ℕ) : Type 0 where
+  pub told : SeekingTold w place
+
 -- the first, by the tests of the code
-module _ (w : List ℕ) (l : Letter) (u : l ≡ letter_in (cut w 0 (length w))) where
-  letter_is : l ≡ letter_in w
-  unfolding from
-  letter_is = u ∙ ap letter_in (from_cut w 0 (length w) (omega arith))
+module _ (w : List ℕ) where
+  pub first_text : (o : Option Handed) → o ≡ letter_in w → is_some o ≡ true → SeekingAt w (Some 2)
+  first_text (Some h) u e = record { told = seek_start w (letter_of h ∷ 44 ∷ []) 2 (handing h) refl (ap (take 2) (text_letter w h (sym u))) }
+  first_text None u e = never e
 
-  pub first_text : (h : Handed) → l ≡ Text h → Seeking w 2
-  first_text h e = seek_start w (letter_of h ∷ 44 ∷ []) 2 (handing h) refl (ap (take 2) (text_letter w l letter_is h e))
-
-  module _ (f : l ≡ Other) (t : Bool) (v : t ≡ fits (ascii "O,nnnnnn,") (cut w 0 9)) where
-    pub first_opening : t ≡ true → Seeking w 9
+  module _ (t : Bool) (v : t ≡ fits (ascii "O,nnnnnn,") (cut w 0 9)) where
+    pub first_opening : t ≡ true → SeekingAt w (Some 9)
     unfolding cut
-    first_opening h = let k : fits (ascii "O,nnnnnn,") (take 9 w) ≡ true = sym v ∙ h in seek_start w (take 9 w) 9 (opening_of (take 9 w) k) (sym (fits_length (ascii "O,nnnnnn,") (take 9 w) k)) refl
+    first_opening h =
+        let k : fits (ascii "O,nnnnnn,") (take 9 w) ≡ true = sym v ∙ h in
+        record { told = seek_start w (take 9 w) 9 (opening_of (take 9 w) k) (sym (fits_length (ascii "O,nnnnnn,") (take 9 w) k)) refl }
 
-    pub first_none : t ≡ false → Seeking w (length w)
+    pub first_none : (o : Option Handed) → o ≡ letter_in w → is_some o ≡ false → t ≡ false → SeekingAt w None
     unfolding cut fits fits_sign
-    first_none h = record { within = omega arith; leads = λ (l : length w < length w). absurd (omega arith); rest = λ _. record { none = λ q x s e. absurd (no q x s e) } }
+    first_none (Some h) u f h' = never (sym f)
+    first_none None u f h = record { told = record { none = λ q x s e. absurd (no q x s e) } }
       where
         no : (q x : List ℕ) → Starts q → w ≡ q ++ x → ⊥
-        no q x (handing g) e = never (sym (other_letter w l letter_is f g) ∙ ap (begins_with (letter_of g)) e ∙ equal_same (letter_of g ∷ 44 ∷ []))
+        no q x (handing g) e = never (sym (other_letter w (sym u) g) ∙ ap (begins_with (letter_of g)) e ∙ equal_same (letter_of g ∷ 44 ∷ []))
         no q x (opening d k) e =
             never (sym h ∙ v ∙ ap (λ (y : List ℕ). fits (ascii "O,nnnnnn,") (cut y 0 9)) e ∙ ap (fits (ascii "nnnnnn,")) (take_at (d ++ 44 ∷ []) x 7 (day_comma d k)) ∙ fits_join (ascii "nnnnnn") d (ascii ",") (44 ∷ []) k)
 
--- the place r behind p
-pub record NextLength (w : List ℕ) (p r : ℕ) : Type 0 where
-  pub further : p < r
-  pub goes : Seeking w p → fits (ascii "00") (cut w p (p + 2)) ≡ false → Seeking w r
+-- the place behind p
+pub record NextLength (w : List ℕ) (p : ℕ) (r : Option ℕ) : Type 0 where
+  pub further : IfSome r (λ q. p < q)
+  pub goes : Seeking w p → fits (ascii "00") (cut w p (p + 2)) ≡ false → SeekingAt w r
 
 -- the byte behind some digits is one
 digits_one : (ds es : List ℕ) (c d : ℕ) (x y : List ℕ) → every is_digit ds ≡ true → every is_digit es ≡ true → is_digit c ≡ false → is_digit d ≡ false → ds ++ c ∷ x ≡ es ++ d ∷ y → (c ≡ d) × (x ≡ y)
@@ -142,62 +148,53 @@ idle_end = no_idle [] refl (λ es y h e. absurd (no es y e))
     no (c ∷ es) y e = nil≢cons e
 
 -- d digits stand at p
-module _ (w : List ℕ) (p d : ℕ) (b : p < length w) (q : Passed is_digit w p (length w - p) d) where
+module _ (w : List ℕ) (p d : ℕ) (b : p ≤ length w) (q : Passed is_digit w p (length w - p) d) where
   zeros_none : fits (ascii "00") (cut w p (p + 2)) ≡ false → fits (ascii "00") (take 2 (from w p)) ≡ false
   zeros_none z = ap (fits (ascii "00")) (from_take w p 2) ∙ z
 
-  pub next_end : p + d ≡ length w → NextLength w p (p + d)
+  pub next_end : length w ≤ p + d → NextLength w p None
   unfolding every is_digit
   next_end e = record {
-    further = omega arith;
+    further = tt;
     goes = λ s z. record {
-      within = omega arith;
-      leads = λ (l : p + d < length w). absurd (omega arith);
-      rest = λ _. s.rest (no_idle (from w p) (zeros_none z) (λ es y h f.
-          let g : every is_digit (es ++ 44 ∷ y) ≡ true = ap (every is_digit) (sym f ∙ sym (from_cut w p (p + d) (omega arith))) ∙ q.front in
+      told = s.rest (no_idle (from w p) (zeros_none z) (λ es y h f.
+          let g : every is_digit (es ++ 44 ∷ y) ≡ true = ap (every is_digit) (sym f ∙ sym (from_cut w p (p + d) e)) ∙ q.front in
           never (cond_right (every is_digit es) _ (sym (every_append is_digit es (44 ∷ y)) ∙ g))));
     };
   }
 
-  module _ (n : (p + d ≡ length w → ⊥)) where
-    inside : d < length w - p
-    inside = omega (arith, q.within, n)
-
+  module _ (inside : p + d < length w) where
     apart : from w p ≡ cut w p (p + d) ++ get_or w (p + d) 0 ∷ from w (p + d + 1)
-    apart =
-        let m : p + d < length w = omega (arith, inside) in
-        sym (from_cut w p (length w) (omega arith)) ∙ sym (cut_join w p d (length w) (omega arith)) ∙ ap (λ (x : List ℕ). cut w p (p + d) ++ x) (from_cut w (p + d) (length w) (omega arith) ∙ from_step w (p + d) m)
+    apart = sym (from_cut w p (length w) (omega arith)) ∙ sym (cut_join w p d (length w) (omega arith)) ∙ ap (λ (x : List ℕ). cut w p (p + d) ++ x) (from_cut w (p + d) (length w) (omega arith) ∙ from_step w (p + d) inside)
 
     split_at : (es y : List ℕ) → every is_digit es ≡ true → from w p ≡ es ++ 44 ∷ y → (get_or w (p + d) 0 ≡ 44) × (from w (p + d + 1) ≡ y)
     unfolding is_digit
-    split_at es y h e = digits_one (cut w p (p + d)) es (get_or w (p + d) 0) 44 (from w (p + d + 1)) y q.front h (q.next inside) refl (sym apart ∙ e)
+    split_at es y h e = digits_one (cut w p (p + d)) es (get_or w (p + d) 0) 44 (from w (p + d + 1)) y q.front h (q.next (omega arith)) refl (sym apart ∙ e)
 
-    pub next_none : (get_or w (p + d) 0 ≡ 44 → ⊥) → NextLength w p (length w)
+    pub next_none : (get_or w (p + d) 0 ≡ 44 → ⊥) → NextLength w p None
     next_none c = record {
-      further = b;
-      goes = λ s z. record {
-        within = omega arith;
-        leads = λ (l : length w < length w). absurd (omega arith);
-        rest = λ _. s.rest (no_idle (from w p) (zeros_none z) (λ es y h f. absurd (c (split_at es y h f).0)));
-      };
+      further = tt;
+      goes = λ s z. record { told = s.rest (no_idle (from w p) (zeros_none z) (λ es y h f. absurd (c (split_at es y h f).0))) };
     }
 
-    pub next_comma : get_or w (p + d) 0 ≡ 44 → NextLength w p (p + d + 1)
+    pub next_comma : get_or w (p + d) 0 ≡ 44 → NextLength w p (Some (p + d + 1))
     unfolding from
     next_comma c = record {
       further = omega arith;
       goes = λ s z. record {
-        within = omega (arith, inside);
-        leads = λ (l : p + d + 1 < length w).
-            let ds : List ℕ = cut w p (p + d) in
-            let x : List ℕ = take p w ++ (ds ++ 44 ∷ []) in
-            let m : length x ≡ p + d + 1 =
-            length-append (take p w) (ds ++ 44 ∷ []) ∙ rw (length-take-le p w (omega arith), length-append, cut_length w p (p + d) (omega arith)) (omega arith) in
-            let a : from w p ≡ ds ++ 44 ∷ from w (p + d + 1) = apart ∙ rw c in
-            let f : w ≡ x ++ from w (p + d + 1) = sym (take-append-drop p w) ∙ ap (λ (y : List ℕ). take p w ++ y) a ∙ simp append_assoc in
-            let g : take (p + d + 1) w ≡ x = ap (take (p + d + 1)) f ∙ take_at x (from w (p + d + 1)) (p + d + 1) m in
-            rw g (leads_on ds q.front (s.leads b));
-        rest = λ i. s.rest (no_idle (from w p) (zeros_none z) (λ es y h f. subst NoIdleIn (split_at es y h f).1 i));
+        told = record {
+          within = omega arith;
+          leads = λ (l : p + d + 1 < length w).
+              let ds : List ℕ = cut w p (p + d) in
+              let x : List ℕ = take p w ++ (ds ++ 44 ∷ []) in
+              let m : length x ≡ p + d + 1 =
+              length-append (take p w) (ds ++ 44 ∷ []) ∙ rw (length-take-le p w b, length-append, cut_length w p (p + d) (omega arith)) (omega arith) in
+              let a : from w p ≡ ds ++ 44 ∷ from w (p + d + 1) = apart ∙ rw c in
+              let f : w ≡ x ++ from w (p + d + 1) = sym (take-append-drop p w) ∙ ap (λ (y : List ℕ). take p w ++ y) a ∙ simp append_assoc in
+              let g : take (p + d + 1) w ≡ x = ap (take (p + d + 1)) f ∙ take_at x (from w (p + d + 1)) (p + d + 1) m in
+              rw g (leads_on ds q.front (s.leads (omega arith)));
+          rest = λ i. s.rest (no_idle (from w p) (zeros_none z) (λ es y h f. subst NoIdleIn (split_at es y h f).1 i));
+        };
       };
     }
 
@@ -206,26 +203,46 @@ pub record IdleHere (w : List ℕ) (p : ℕ) : Type 0 where
   pub leads : Leads (take p w)
   pub two : cut w p (p + 2) ≡ 48 ∷ 48 ∷ []
 
--- they stand at p, or p is the end and they stand nowhere
-pub record IdleAt (w : List ℕ) (p : ℕ) : Type 0 where
-  pub within : p ≤ length w
-  pub here : p < length w → IdleHere w p
-  pub none : length w ≤ p → NoIdle w
+-- they stand at a place, or nowhere
+abbrev pub IdleTold : List ℕ → Option ℕ → Type 0
+IdleTold w (Some p) = IdleHere w p
+IdleTold w None = NoIdle w
 
-module _ (w : List ℕ) (p : ℕ) (s : Seeking w p) where
-  module _ (l : p < length w) (t : Bool) (u : t ≡ fits (ascii "00") (cut w p (p + 2))) where
-    pub idle_found : t ≡ true → IdleAt w p
-    unfolding every itself
-    idle_found h = record {
-      within = s.within;
-      here = λ _. record { leads = s.leads l; two = fits_itself (ascii "00") (cut w p (p + 2)) refl (sym u ∙ h) };
-      none = λ (k : length w ≤ p). absurd (omega arith);
-    }
+pub record IdleAt (w : List ℕ) (place : Option ℕ) : Type 0 where
+  pub told : IdleTold w place
 
-    pub seek_on : t ≡ false → (r : ℕ) → NextLength w p r → Seeking w r
-    seek_on h r n = n.goes s (sym u ∙ h)
+module _ (w : List ℕ) (place : Option ℕ) (s : SeekingAt w place) where
+  pub idle_none : place ≡ None → IdleAt w None
+  idle_none e = record { told = subst (SeekingTold w) e s.told }
 
-  pub idle_none : length w ≤ p → IdleAt w p
-  idle_none l = record { within = s.within; here = λ (k : p < length w). absurd (omega arith); none = λ _. s.rest (subst NoIdleIn (sym (from_done w p l)) idle_end) }
+  module _ (p : ℕ) (e : place ≡ Some p) where
+    seeking_here : Seeking w p
+    seeking_here = subst (SeekingTold w) e s.told
 
-pub ruleset seeking = (first_text, first_opening, first_none, next_end, next_none, next_comma, idle_found, seek_on, idle_none)
+    pub seek_within : p ≤ length w
+    seek_within = seeking_here.within
+
+    module _ (t : Bool) (u : t ≡ fits (ascii "00") (cut w p (p + 2))) where
+      pub idle_found : t ≡ true → IdleAt w (Some p)
+      unfolding every itself
+      idle_found h =
+          let z : cut w p (p + 2) ≡ 48 ∷ 48 ∷ [] = fits_itself (ascii "00") (cut w p (p + 2)) refl (sym u ∙ h) in
+          let n : min (p + 2) (length w) - p ≡ 2 = sym (cut_size w p (p + 2)) ∙ ap length z in
+          record { told = record { leads = seeking_here.leads (omega arith); two = z } }
+
+      pub seek_on : t ≡ false → {r : Option ℕ} → NextLength w p r → SeekingAt w r
+      seek_on h n = n.goes seeking_here (sym u ∙ h)
+
+-- what is left behind a place
+abbrev pub behind : List ℕ → Option ℕ → ℕ
+behind w (Some p) = length w + 1 - p
+behind w None = 0
+
+pub seek_smaller : (w : List ℕ) (p : ℕ) {r : Option ℕ} → p ≤ length w → NextLength w p r → behind w r < length w + 1 - p
+seek_smaller w p {r} l n = go r n.further
+  where
+    go : (r : Option ℕ) → IfSome r (λ q. p < q) → behind w r < length w + 1 - p
+    go None f = omega arith
+    go (Some q) f = omega arith
+
+pub ruleset seeking = (first_text, first_opening, first_none, next_end, next_none, next_comma, idle_none, seek_within, idle_found, seek_on, seek_smaller)

@@ -1,102 +1,87 @@
 // Commands.
-ghost use Rattle.std.specs.Prelude.{◌+◌, ◌≤◌, length};
-ghost use Rattle.rules.specs.Replay.{command_of, command};
-ghost use Rattle.laws.specs.Parts.{cut, from};
-ghost use Rattle.commands.specs.Answers.{Commanding, text_line, turn_line, open_line};
+ghost use Rattle.std.specs.Prelude.{◌≡◌};
+ghost use Rattle.rules.specs.Replay.{command_of, command, single, texts_behind};
+ghost use Rattle.commands.specs.Answers.{commanded_of, making, turn_behind, opening_behind};
 
-use crate::letter::{Handed, Letter, begins, letter_at};
-use crate::number::{Lengths, read_length, six_digits, two_lengths};
-use lines::Next;
-use text::Num;
+use crate::letter::{Handed, letter_at};
+use crate::number::{read_length, six_digits, two_lengths};
 
-// A command, by its places in the input.
+// A command, with the parts of the input that are its texts.
 #[derive(Clone, Copy)]
-pub enum Command {
-    // An opening: its day, and where its register begins, where that ends and its holiday list begins, and where that ends.
-    Opens(u32, usize, usize, usize),
-    // One text: what it is, where it begins and where it ends.
-    Hands(Handed, usize, usize),
-    // A turn: its day, and the place behind it.
-    Turns(u32, usize),
-    // There is no command.
-    End,
+pub enum Command<'a> {
+    Opens {
+        day: u32,
+        register: &'a [u8],
+        holidays: &'a [u8],
+    },
+    Hands {
+        kind: Handed,
+        text: &'a [u8],
+    },
+    Turns {
+        day: u32,
+    },
 }
 
 // `M,length`, `N,length` or `P,length`, and the text.
-fn text_command(s: &[u8], at: usize, e: usize, h: Handed) -> Command
-    requires { (at + 2 ≤ e) × (e + 2 ≤ length s.now) }
-    ensures { Commanding s.now (text_line h s.now at e) result }
+fn text_command<'a>(kind: Handed, size: &[u8], behind: &'a [u8]) -> Option<(Command<'a>, &'a [u8])>
+    ensures { commanded_of result ≡ texts_behind (single (making kind)) 1 size.now behind.now }
 {
-    let Num::Value(n) = read_length(s, at + 2, e) else {
-        return Command::End;
-    };
-    let start = e + 2;
-    if s.len() - start < n as usize {
-        return Command::End;
-    }
-    Command::Hands(h, start, start + n as usize)
+    let n = read_length(size)?;
+    let (text, rest) = behind.split_at_checked(n as usize)?;
+    Some((Command::Hands { kind, text }, rest))
 }
 
 // `T,day`.
-fn turn_command(s: &[u8], at: usize, e: usize) -> Command
-    requires { (at + 2 ≤ e) × (e + 2 ≤ length s.now) }
-    ensures { Commanding s.now (turn_line s.now at e) result }
+fn turn_command<'a>(day: &[u8], behind: &'a [u8]) -> Option<(Command<'a>, &'a [u8])>
+    ensures { commanded_of result ≡ turn_behind day.now behind.now }
 {
-    let Num::Value(day) = six_digits(s, at + 2, e) else {
-        return Command::End;
-    };
-    Command::Turns(day as u32, e + 2)
+    let day = six_digits(day)? as u32;
+    Some((Command::Turns { day }, behind))
 }
 
 // `O,day,length,length`, a register and a holiday list.
-fn open_command(s: &[u8], at: usize, e: usize) -> Command
-    requires { (at + 2 ≤ e) × (e + 2 ≤ length s.now) }
-    ensures { Commanding s.now (open_line s.now at e) result }
+fn open_command<'a>(parts: &[u8], behind: &'a [u8]) -> Option<(Command<'a>, &'a [u8])>
+    ensures { commanded_of result ≡ opening_behind parts.now behind.now }
 {
-    if e - at < 9 {
-        return Command::End;
-    }
-    if s[at + 8] != 44 {
-        return Command::End;
-    }
-    let Num::Value(day) = six_digits(s, at + 2, at + 8) else {
-        return Command::End;
-    };
-    let Lengths::Two(m, n) = two_lengths(s, at + 9, e) else {
-        return Command::End;
-    };
-    let start = e + 2;
-    if s.len() - start < (m + n) as usize {
-        return Command::End;
-    }
-    let middle = start + m as usize;
-    Command::Opens(day as u32, start, middle, middle + n as usize)
+    let (day, sizes) = parts.split_at_checked(6)?;
+    let sizes = sizes.strip_prefix(b",")?;
+    let day = six_digits(day)? as u32;
+    let (m, n) = two_lengths(sizes)?;
+    let (register, others) = behind.split_at_checked(m as usize)?;
+    let (holidays, rest) = others.split_at_checked(n as usize)?;
+    Some((
+        Command::Opens {
+            day,
+            register,
+            holidays,
+        },
+        rest,
+    ))
 }
 
-// The command of the line from at to e.
-fn line_command(s: &[u8], at: usize, e: usize) -> Command
-    requires { (at ≤ e) × (e + 2 ≤ length s.now) }
-    ensures { Commanding s.now (command_of (cut s.now at e) (from s.now (e + 2))) result }
+// The command of a line, and what stands behind its texts.
+fn line_command<'a>(line: &[u8], behind: &'a [u8]) -> Option<(Command<'a>, &'a [u8])>
+    ensures { commanded_of result ≡ command_of line.now behind.now }
 {
-    if let Letter::Text(h) = letter_at(s, at, e) {
-        return text_command(s, at, e, h);
+    if let Some(kind) = letter_at(line) {
+        return text_command(kind, &line[2..], behind);
     }
-    if begins(s, at, e, b'T') {
-        return turn_command(s, at, e);
+    if let Some(day) = line.strip_prefix(b"T,") {
+        return turn_command(day, behind);
     }
-    if begins(s, at, e, b'O') {
-        return open_command(s, at, e);
+    if let Some(parts) = line.strip_prefix(b"O,") {
+        return open_command(parts, behind);
     }
-    Command::End
+    None
 }
 
-// The command at a place of the input.
-pub fn read_command(s: &[u8], at: usize) -> Command
-    requires { at ≤ length s.now }
-    ensures { Commanding s.now (command (from s.now at)) result }
+// The command that the input begins with, and what stands behind it.
+pub fn read_command(input: &[u8]) -> Option<(Command<'_>, &[u8])>
+    ensures { commanded_of result ≡ command input.now }
 {
-    match lines::next_line(s, at) {
-        Next::Line(e) => line_command(s, at, e),
-        Next::Bad => Command::End,
+    match lines::next_line(input, 0) {
+        Some(e) => line_command(&input[..e], &input[e + 2..]),
+        None => None,
     }
 }

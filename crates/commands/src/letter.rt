@@ -1,10 +1,9 @@
 // The letter that a command line begins with.
-ghost use Rattle.std.specs.Prelude.{◌≡◌, ◌≤◌, length};
-ghost use Rattle.laws.specs.Parts.{cut};
+ghost use Rattle.std.specs.Prelude.{◌≡◌};
 ghost use Rattle.commands.specs.Letters.{begins_with, letter_in};
 
 // What the text of a command is that has one text.
-#[derive(Clone, Copy)]
+#[derive(Clone, Copy, Debug, PartialEq, Eq)]
 pub enum Handed {
     // A message.
     Message,
@@ -14,42 +13,25 @@ pub enum Handed {
     Older,
 }
 
-// The command that a letter stands for.
-#[derive(Clone, Copy)]
-pub enum Letter {
-    // One that has one text.
-    Text(Handed),
-    // Another, or none.
-    Other,
-}
-
 // Does the line begin with the letter and a comma?
-pub fn begins(s: &[u8], at: usize, e: usize, c: u8) -> bool
-    requires { (at ≤ e) × (e ≤ length s.now) }
-    ensures { result ≡ begins_with c (cut s.now at e) }
+pub fn begins(line: &[u8], letter: u8) -> bool
+    ensures { result ≡ begins_with letter line.now }
 {
-    if e - at < 2 {
-        return false;
-    }
-    if s[at] != c {
-        return false;
-    }
-    s[at + 1] == 44
+    line.starts_with(&[letter, b','])
 }
 
-// The command that has one text, on the line from at to e.
-pub fn letter_at(s: &[u8], at: usize, e: usize) -> Letter
-    requires { (at ≤ e) × (e ≤ length s.now) }
-    ensures { result ≡ letter_in (cut s.now at e) }
+// What is handed over by a line's command, where it has one text.
+pub fn letter_at(line: &[u8]) -> Option<Handed>
+    ensures { result ≡ letter_in line.now }
 {
-    if begins(s, at, e, b'M') {
-        return Letter::Text(Handed::Message);
+    if begins(line, b'M') {
+        return Some(Handed::Message);
     }
-    if begins(s, at, e, b'N') {
-        return Letter::Text(Handed::Newer);
+    if begins(line, b'N') {
+        return Some(Handed::Newer);
     }
-    if begins(s, at, e, b'P') {
-        return Letter::Text(Handed::Older);
+    if begins(line, b'P') {
+        return Some(Handed::Older);
     }
-    Letter::Other
+    None
 }

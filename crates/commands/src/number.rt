@@ -1,114 +1,69 @@
 // Days and lengths of command lines.
-ghost use Rattle.std.specs.Prelude.{◌≡◌, ◌+◌, ◌≤◌, length};
+ghost use Rattle.std.specs.Prelude.{◌≡◌, ◌==◌, ◌≤◌, IfSome, length, position};
 ghost use Rattle.rules.specs.Replay.{length_of, parted_lengths, six_digits};
-ghost use Rattle.laws.specs.Parts.{cut};
-ghost use Rattle.laws.specs.Places.{Passed};
-ghost use Rattle.rule_laws.specs.Commas.{in_part};
-ghost use Rattle.text.specs.Answers.{num_of};
+ghost use Rattle.laws.specs.Told.{told};
 ghost use Rattle.commands.specs.Numbers.{lengths_in, room_of};
 
-use text::Num;
-
-// The reading of the lengths of an opening.
-#[derive(Clone, Copy)]
-pub enum Lengths {
-    // The register's and the holiday list's.
-    Two(u64, u64),
-    // They are not there.
-    Bad,
-}
+use text::{Class, Digit};
 
 // A length: one or more digits, at most 8192.
-pub fn read_length(s: &[u8], a: usize, b: usize) -> Num
-    requires { (a ≤ b) × (b ≤ length s.now) }
-    ensures { num_of result ≡ length_of (cut s.now a b) }
+pub fn read_length(part: &[u8]) -> Option<u64>
+    ensures { told result ≡ length_of part.now }
 {
-    if a == b {
-        return Num::Bad;
+    if part.is_empty() {
+        return None;
     }
-    let mut v: u64 = 0;
-    let mut i = a;
-    while i < b {
-        if v > 8192 {
-            return Num::Bad;
+    let mut n: u64 = 0;
+    for &c in part {
+        if !Digit::has(c) {
+            return None;
         }
-        let c = s[i];
-        if text::is_digit(c) {
-            v = text::with_digit(v, c);
-            i += 1;
-        } else {
-            return Num::Bad;
+        n = text::with_digit(n, c);
+        if n > 8192 {
+            return None;
         }
     }
-    if v > 8192 {
-        return Num::Bad;
-    }
-    Num::Value(v)
+    Some(n)
 }
 
-// How many of the n bytes from a stand before a comma.
-fn part_at(s: &[u8], a: usize, n: usize) -> usize
-    requires { a + n ≤ length s.now }
-    ensures { Passed in_part s.now a n result }
+// Where the first comma stands.
+fn comma_at(part: &[u8]) -> Option<usize>
+    ensures { result ≡ position (λ c. c == 44) part.now }
 {
-    let mut k = 0;
-    while k < n {
-        let inside = s[a + k] != 44;
-        if inside {
-            k += 1;
-        } else {
-            return k;
-        }
-    }
-    k
+    part.iter().position(|&c| c == b',')
 }
 
-// Two lengths with a comma between them.
-pub fn two_lengths(s: &[u8], a: usize, e: usize) -> Lengths
-    requires { (a ≤ e) × (e ≤ length s.now) }
-    ensures { lengths_in result ≡ parted_lengths 2 (cut s.now a e) }
+// Two lengths with a comma between them: the register's and the holiday list's.
+pub fn two_lengths(part: &[u8]) -> Option<(u64, u64)>
+    ensures { lengths_in result ≡ parted_lengths 2 part.now }
 {
-    let k = part_at(s, a, e - a);
-    if k == e - a {
-        return Lengths::Bad;
-    }
-    let Num::Value(m) = read_length(s, a, a + k) else {
-        return Lengths::Bad;
-    };
-    let Num::Value(n) = read_length(s, a + k + 1, e) else {
-        return Lengths::Bad;
-    };
-    Lengths::Two(m, n)
+    let k = comma_at(part)?;
+    let m = read_length(&part[..k])?;
+    let n = read_length(&part[k + 1..])?;
+    Some((m, n))
 }
 
 // A day: six digits.
-pub fn six_digits(s: &[u8], a: usize, b: usize) -> Num
-    requires { (a ≤ b) × (b ≤ length s.now) }
-    ensures { num_of result ≡ six_digits (cut s.now a b) }
+pub fn six_digits(part: &[u8]) -> Option<u64>
+    ensures { told result ≡ six_digits part.now }
 {
-    if b - a != 6 {
-        return Num::Bad;
+    if part.len() != 6 {
+        return None;
     }
-    text::read_digits(s, a, b)
+    text::read_digits(part)
 }
 
 // A room of the output: one to seven digits, at most 1,048,576.
-pub fn read_room(s: &[u8], a: usize, b: usize) -> Num
-    requires a_le_b { a ≤ b }
-    requires b_in_bounds { b ≤ length s.now }
-    ensures { num_of result ≡ room_of (cut s.now a b) }
+pub fn read_room(part: &[u8]) -> Option<usize>
+    ensures value { told result ≡ room_of part.now }
+    ensures within { IfSome result (λ room. room ≤ 1048576) }
 {
-    if a == b {
-        return Num::Bad;
+    if part.is_empty() || part.len() > 7 {
+        return None;
     }
-    if b - a > 7 {
-        return Num::Bad;
+    let room = text::read_digits(part)?;
+    if room > 1048576 {
+        return None;
     }
-    let Num::Value(v) = text::read_digits(s, a, b) else {
-        return Num::Bad;
-    };
-    if v > 1048576 {
-        return Num::Bad;
-    }
-    Num::Value(v)
+    Some(room as usize)
 }

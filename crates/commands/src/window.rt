@@ -1,95 +1,80 @@
 // Room made in a window of the input.
-ghost use Rattle.std.specs.Prelude.{◌+◌, ◌<◌, ◌≤◌, length};
-ghost use Rattle.laws.specs.Places.{Passed};
-ghost use Rattle.commands.specs.Seeking.{Seeking, NextLength, IdleAt};
-ghost use Rattle.commands.specs.Window.{is_null, Roomed};
+ghost use Rattle.std.specs.Prelude.{◌≡◌, ◌==◌, ◌≤◌, length, take_while};
+ghost use Rattle.commands.specs.Seeking.{SeekingAt, NextLength, IdleAt};
+ghost use Rattle.commands.specs.Window.{Roomed};
 
-use crate::letter::{Letter, letter_at};
+use crate::letter::letter_at;
 
-// Where the first length begins on the line that w begins with, w's end where there is none.
-fn first_length(w: &[u8]) -> usize
-    ensures { Seeking w.now result }
+// Where the first length begins on the line that w begins with.
+fn first_length(w: &[u8]) -> Option<usize>
+    ensures { SeekingAt w.now result }
 {
-    if let Letter::Text(_) = letter_at(w, 0, w.len()) {
-        return 2;
+    if letter_at(w).is_some() {
+        return Some(2);
     }
     if text::fits_pattern(b"O,nnnnnn,", w, 0) {
-        return 9;
+        return Some(9);
     }
-    w.len()
+    None
 }
 
-// Where the length behind the one at p begins, w's end where there is none.
-fn next_length(w: &[u8], p: usize) -> usize
-    requires p_in_bounds { p < length w.now }
-    requires w_len_bound { length w.now ≤ 1048576 }
+// Where the length behind the one at p begins.
+fn next_length(w: &[u8], p: usize) -> Option<usize>
+    requires within { p ≤ length w.now }
+    requires narrow { length w.now ≤ 1048576 }
     ensures { NextLength w.now p result }
 {
-    let e = p + text::digits_at(w, p, (w.len() - p) as u32) as usize;
-    if e == w.len() {
-        return e;
+    let e = p + text::leading_at::<text::Digit>(w, p, (w.len() - p) as u32) as usize;
+    if e < w.len() && w[e] == b',' {
+        return Some(e + 1);
     }
-    if w[e] == 44 {
-        return e + 1;
-    }
-    w.len()
+    None
 }
 
-// Where the first length begins that begins with two zeros, w's end where there is none.
-fn idle_place(w: &[u8]) -> usize
+// Where the first length begins that begins with two zeros.
+fn idle_place(w: &[u8]) -> Option<usize>
     requires { length w.now ≤ 1048576 }
     ensures { IdleAt w.now result }
 {
-    let mut p = first_length(w);
-    while p < w.len() {
+    let mut place = first_length(w);
+    while let Some(p) = place {
         if text::fits_pattern(b"00", w, p) {
-            return p;
+            return Some(p);
         }
-        p = next_length(w, p);
+        place = next_length(w, p);
     }
-    p
+    None
 }
 
-// How many of the n bytes from a are the digit 0, up to the first that is not.
-fn nulls_at(s: &[u8], a: usize, n: u32) -> u32
-    requires { a + n ≤ length s.now }
-    ensures { Passed is_null s.now a n result }
+// How many zeros stand at the front.
+fn zeros_at(part: &[u8]) -> usize
+    ensures { result ≡ length (take_while (λ c. c == 48) part.now) }
 {
-    let mut k: u32 = 0;
-    while k < n {
-        let null = s[a + k as usize] == 48;
-        if null {
-            k += 1;
-        } else {
-            return k;
-        }
-    }
-    k
+    part.iter().take_while(|c| **c == b'0').count()
 }
 
 // Takes all zeros but one off the front of a length that the first n bytes have; answers how many bytes are left.
 fn shorten(s: &mut [u8], n: usize) -> usize
-    requires n_in_bounds { n ≤ length s.old }
-    requires n_bound { n ≤ 1048576 }
+    requires within { n ≤ length s.old }
+    requires narrow { n ≤ 1048576 }
     ensures { Roomed s.old 0 n result s.new }
 {
-    let p = idle_place(&s[0..n]);
-    if p == n {
+    let Some(p) = idle_place(&s[..n]) else {
         return n;
-    }
+    };
     let a = p + 1;
-    let z = nulls_at(s, a, (n - a) as u32) as usize;
+    let z = zeros_at(&s[a..n]);
     let m = n - a - z;
-    put::move_down(s, a + z, a, m as u32);
+    put::move_bytes(s, a + z, a, m);
     a + m
 }
 
 // Moves the bytes from at up to n to the front and leaves out zeros that a length begins with; answers how many bytes are left.
 pub fn make_room(s: &mut [u8], at: usize, n: usize) -> usize
-    requires at_le_n { (at ≤ n) × (n ≤ length s.old) }
-    requires n_bound { n ≤ 1048576 }
+    requires within { (at ≤ n) × (n ≤ length s.old) }
+    requires narrow { n ≤ 1048576 }
     ensures { Roomed s.old at n result s.new }
 {
-    put::move_down(s, at, 0, (n - at) as u32);
+    put::move_bytes(s, at, 0, n - at);
     shorten(s, n - at)
 }

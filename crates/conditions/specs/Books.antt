@@ -105,8 +105,3 @@ pub order_books : (s : List ℕ) (o : Order) → Has s (mt101 o) → (p : Span) 
     → Books s (mt101 o) (booking_of s false p date sum count)
 unfolding date_of transferred_by detailed_by details_of misdated
 order_books s o h p w e {date} {sum} {count} d f l = books s (mt101 o) h p w e false date sum count d refl (sym f) (λ day. rw d refl) l (record { order = o; same = refl })
-
--- made of a bank that was read
-pub booking_made : (s : List ℕ) (t : Bool) (p : Span) (v date amount count : ℕ) → v ≡ big_endian (cut s 4 12)
-    → ◌≡◌ {A = Booking} (record { key = record { bank = v; date = date }; amount = amount; reference = p; transfer = t; count = count }) (booking_of s t p date amount count)
-booking_made s t p v date amount count e = rw e

@@ -1,68 +1,81 @@
--- The fields 21 of details, by their places, and which of them are the same. What is left of a walk over them gives the answer.
-use Rattle.std.specs.Prelude.{◌≡◌, refl, Bool, true, false, List, [], ◌∷◌, map, length, get_or}
-use Rattle.std.proofs.Common.{sym, ap, ◌∙◌, add-zero, zero-add}
-use Prim.Native.Nat.{ℕ, zero, suc, ◌+◌, ◌-◌, ◌≤◌, ◌<◌}
-use Rattle.std.proofs.Math.Nat.{sub-zero}
-use native.Mathlib.Omega.{arith}
+-- The fields 21 of the details that are kept, and which of them are the same. What is left of a walk over them gives the answer.
+use Rattle.std.specs.Prelude.{◌≡◌, refl, Bool, true, false, List, [], ◌∷◌, map, ℕ, suc, ◌+◌, ◌-◌, ◌≤◌, ◌<◌, length, get_or, take, drop}
+use Rattle.std.proofs.Common.{sym, arith, add-one, take_all, length-drop, drop-cons, drop_of_length-le}
+use Rattle.std.proofs.Math.Seq.{get_or-take}
+use Rattle.std.proofs.Math.ListN.{length-take}
 use Rattle.rules.specs.Text.{equal, any, twice}
-use Rattle.rules.specs.Forms.{detail21}
 use Rattle.rules.specs.Messages as M
-use Rattle.rules.specs.Messages.{field21}
-use Rattle.forms.specs.Spans.{span_of, no_span, SpanIn, within_at, span_line}
+use Rattle.rules.specs.Messages.{field21, past}
+use Rattle.forms.specs.Spans.{span_of, SpanIn}
 use Rattle.forms.specs.Fields.{Behind, behind_in, behind_bytes}
-use Rattle.forms.specs.Details.{DetailAt, detail_in}
 use Rattle.forms.specs.declared.rows.Span.{Span}
-use Rattle.forms.specs.declared.detail.Detail.{Detail}
-use Rattle.details.specs.Lines.{line_at, with_line, line_set, line_other}
 use Rattle.details.specs.Message.{detail_at}
 use Rattle.details.specs.Kept.{OfFirst}
+use Rattle.verdict.specs.Details.{no_judged, judged_at, JudgedAs}
+use Rattle.verdict.specs.declared.detail.Judged.{Judged}
 
--- the first n places, 16 at most, lie within the text
-pub record FieldsIn (s fields : List ℕ) (n : ℕ) : Type 0 where
-  pub inside : (i : ℕ) → i < n → i < 16 → SpanIn s (line_at fields i)
+-- field 21 of a detail that is kept
+abbrev pub named : List ℕ → Judged → List ℕ
+named s j = past ":21:" (span_of s j.detail.reference)
 
-field_in : (s fields : List ℕ) (n i : ℕ) → FieldsIn s fields n → i < n → n ≤ 16 → SpanIn s (line_at fields i)
-field_in s fields n i w h k = w.inside i h (omega arith)
+-- the lines of the fields 21 lie within the text
+pub record NamedIn (s : List ℕ) (kept : List Judged) : Type 0 where
+  pub inside : (i : ℕ) → i < length kept → SpanIn s (judged_at kept i).detail.reference
 
--- the bytes at k of the places, from place i on
-unfoldable pub fields_from : List ℕ → List ℕ → ℕ → ℕ → List (List ℕ)
-fields_from s fields i zero = []
-fields_from s fields i (suc k) = span_of s (line_at fields i) ∷ fields_from s fields (i + 1) k
+-- those of the first n, 16 at most
+pub record NamedFirst (s : List ℕ) (kept : List Judged) (n : ℕ) : Type 0 where
+  pub inside : n ≤ 16 → NamedIn s (take n kept)
 
--- ---- they are the fields 21 of the first 16 details
+-- ---- two of them the same: k are passed
 
--- the place kept for detail d is that of its field 21
-pub record FieldAt (s fields : List ℕ) (d : M.Detail) (i : ℕ) : Type 0 where
-  pub inside : SpanIn s (line_at fields i)
-  pub bytes : span_of s (line_at fields i) ≡ field21 d
+module _ (s : List ℕ) (p q : Span) (w : SpanIn s p) (b : Behind p 4 q) where
+  pub name_in : SpanIn s q
+  name_in = behind_in s p 4 w q b
 
-module _ (s fields : List ℕ) {n : ℕ} (q : Span) where
-  pub field_other : (e : M.Detail) (i : ℕ) → i < n → FieldAt s fields e i → FieldAt s (with_line fields n q) e i
-  field_other e i l f =
-      let stays : line_at (with_line fields n q) i ≡ line_at fields i = line_other fields n q i (λ z. omega arith) in
-      record { inside = rw stays f.inside; bytes = ap (span_of s) stays ∙ f.bytes }
+  pub name_bytes : span_of s q ≡ past ":21:" (span_of s p)
+  name_bytes = behind_bytes s p 4 w q b
 
-  module _ (r : length fields ≡ 32) (h : n < 16) (d : Detail) {at : ℕ} (w : DetailAt s at d) (b : Behind (get_or d.spans detail21 no_span) 4 q) where
-    own : line_at (with_line fields n q) n ≡ q
-    own = line_set fields n q (omega arith)
+module _ (s : List ℕ) (kept : List Judged) (k : ℕ) (x : Bool) where
+  none_left : length kept ≤ k → drop k kept ≡ []
+  none_left h = drop_of_length-le kept {i = k} h
 
-    first_in_lem : SpanIn s (get_or d.spans detail21 no_span)
-    first_in_lem = within_at s d.spans detail21 w.within
+  one_left : (other : Judged) → k < length kept → drop k kept ≡ get_or kept k other ∷ drop (k + 1) kept
+  one_left other h = rw (add-one k) (drop-cons kept k other h)
 
-    pub field_own : FieldAt s (with_line fields n q) (detail_in s d) n
-    field_own = record {
-      inside = rw own (behind_in s _ 4 first_in_lem q b);
-      bytes = ap (span_of s) own ∙ rw (span_line s d.spans 17 detail21 (omega arith)) (behind_bytes s _ 4 first_in_lem q b);
-    }
+  module _ (cs : List ℕ) (inv : any (equal cs) (map (named s) (drop k kept)) ≡ x) where
+    pub again_out : length kept ≤ k → false ≡ x
+    unfolding any
+    again_out h = rw (none_left h) at inv
 
--- the places hold the fields 21
-fields_named : (s fields : List ℕ) (es : List M.Detail) (i : ℕ) → ((j : ℕ) → j < length es → span_of s (line_at fields (i + j)) ≡ field21 (detail_at es j)) → fields_from s fields i (length es) ≡ map field21 es
-unfolding fields_from
-fields_named s fields [] i f = refl
-fields_named s fields (e ∷ es) i f =
-    let first : span_of s (line_at fields i) ≡ field21 e = rw (add-zero i) at (f 0 (omega arith)) in
-    let more : (j : ℕ) → j < length es → span_of s (line_at fields (i + 1 + j)) ≡ field21 (detail_at es j) = λ j h. (let q : i + suc j ≡ i + 1 + j = omega arith in rw q at (f (suc j) (omega arith))) in
-    rw (first, fields_named s fields es (i + 1) more)
+    module _ (other : Judged) (h : k < length kept) (t : Bool) (u : t ≡ equal cs (named s (get_or kept k other))) where
+      pub again_hit : t ≡ true → true ≡ x
+      unfolding any
+      again_hit d = rw (one_left other h, ← u, d) at inv
+
+      pub again_on : t ≡ false → any (equal cs) (map (named s) (drop (k + 1) kept)) ≡ x
+      unfolding any
+      again_on d = rw (one_left other h, ← u, d) at inv
+
+  module _ (inv : twice equal (map (named s) (drop k kept)) ≡ x) where
+    pub twice_out : length kept ≤ k → false ≡ x
+    unfolding twice
+    twice_out h = rw (none_left h) at inv
+
+    module _ (other : Judged) (h : k < length kept) (t : Bool) (told : t ≡ any (equal (named s (get_or kept k other))) (map (named s) (take (length kept - (k + 1)) (drop (k + 1) kept)))) where
+      u : t ≡ any (equal (named s (get_or kept k other))) (map (named s) (drop (k + 1) kept))
+      u = rw (take_all (length kept - (k + 1)) (drop (k + 1) kept) (omega (arith, length-drop (k + 1) kept))) at told
+
+      pub twice_hit : t ≡ true → true ≡ x
+      unfolding twice
+      twice_hit d = rw (one_left other h, ← u, d) at inv
+
+      pub twice_on : t ≡ false → twice equal (map (named s) (drop (k + 1) kept)) ≡ x
+      unfolding twice
+      twice_on d = rw (one_left other h, ← u, d) at inv
+
+pub ruleset walking = (name_in, name_bytes, again_out, again_hit, again_on, twice_out, twice_hit, twice_on)
+
+-- ---- they are the fields 21 of the details
 
 -- two details with one field 21
 unfoldable pub alike : M.Detail → M.Detail → Bool
@@ -77,60 +90,22 @@ twice_map (d ∷ ds) = rw (any_map d ds, twice_map ds) refl
     any_map d [] = refl
     any_map d (e ∷ es) = rw (any_map d es) refl
 
--- so that two of them are the same where two details have one field 21
-pub named_twice : (s : List ℕ) (ds : List M.Detail) (fields : List ℕ) → OfFirst (FieldAt s fields) ds → length ds ≤ 16 → twice equal (fields_from s fields 0 (length ds)) ≡ twice alike ds
-named_twice s ds fields k h =
-    rw (fields_named s fields ds 0 (λ j l. rw (zero-add j) (k.each j l (omega arith)).bytes)) (sym (twice_map ds))
+-- item by item
+named_each : (s : List ℕ) (es : List M.Detail) (js : List Judged) → length js ≡ length es → ((i : ℕ) → i < length es → named s (judged_at js i) ≡ field21 (detail_at es i)) → map (named s) js ≡ map field21 es
+named_each s [] [] e f = refl
+named_each s [] (j ∷ js) e f = absurd (omega arith)
+named_each s (d ∷ ds) [] e f = absurd (omega arith)
+named_each s (d ∷ ds) (j ∷ js) e f = rw (f 0 (omega arith), named_each s ds js (omega arith) (λ i l. f (suc i) (omega arith)))
 
--- ---- two of them the same: j of n are passed
+module _ (text s : List ℕ) (ds : List M.Detail) (kept : List Judged) (size : length kept ≡ 16) (o : OfFirst (λ d i. JudgedAs text s d (judged_at kept i)) ds) where
+  pub named_first : NamedFirst s kept (length ds)
+  named_first = record { inside = λ h. record { inside = λ i l. (let n : i < length ds = omega (arith, length-take (length ds) kept) in rw (get_or-take (length ds) kept i no_judged n) (o.each i n (omega arith)).kept.reference.inside) } }
 
-pub twice_start : (s fields : List ℕ) (n : ℕ) → twice equal (fields_from s fields 0 (n - 0)) ≡ twice equal (fields_from s fields 0 n)
-twice_start s fields n = rw (sub-zero n)
-
-pub again_start : (s fields : List ℕ) (i : ℕ) (p : Span) (ls : List (List ℕ)) → p ≡ line_at fields i → any (equal (span_of s p)) ls ≡ any (equal (span_of s (line_at fields i))) ls
-again_start s fields i p ls e = ap (λ (q : Span). any (equal (span_of s q)) ls) e
-
-pub line_in_lem : (s fields : List ℕ) (n i : ℕ) (p : Span) → FieldsIn s fields n → p ≡ line_at fields i → i < n → n ≤ 16 → SpanIn s p
-line_in_lem s fields n i p w e h k = rw e (field_in s fields n i w h k)
-
-module _ (s fields : List ℕ) (n j : ℕ) (x : Bool) where
-  fields_none : n ≤ j → fields_from s fields j (n - j) ≡ []
-  unfolding fields_from
-  fields_none h = let e : n - j ≡ 0 = omega arith in rw e
-
-  fields_one : j < n → fields_from s fields j (n - j) ≡ span_of s (line_at fields j) ∷ fields_from s fields (j + 1) (n - (j + 1))
-  unfolding fields_from
-  fields_one h = let e : n - j ≡ suc (n - (j + 1)) = omega arith in rw e
-
-  module _ (cs : List ℕ) (inv : any (equal cs) (fields_from s fields j (n - j)) ≡ x) where
-    pub again_out : n ≤ j → false ≡ x
-    unfolding any
-    again_out h = rw (fields_none h) at inv
-
-    module _ (h : j < n) (q : Span) (e : q ≡ line_at fields j) (t : Bool) (u : t ≡ equal cs (span_of s q)) where
-      told : t ≡ equal cs (span_of s (line_at fields j))
-      told = u ∙ ap (λ (p : Span). equal cs (span_of s p)) e
-
-      pub again_hit : t ≡ true → true ≡ x
-      unfolding any
-      again_hit d = rw (fields_one h, ← told, d) at inv
-
-      pub again_on : t ≡ false → any (equal cs) (fields_from s fields (j + 1) (n - (j + 1))) ≡ x
-      unfolding any
-      again_on d = rw (fields_one h, ← told, d) at inv
-
-  module _ (inv : twice equal (fields_from s fields j (n - j)) ≡ x) where
-    pub twice_out : n ≤ j → false ≡ x
-    unfolding twice
-    twice_out h = rw (fields_none h) at inv
-
-    module _ (h : j < n) (t : Bool) (u : t ≡ any (equal (span_of s (line_at fields j))) (fields_from s fields (j + 1) (n - (j + 1)))) where
-      pub twice_hit : t ≡ true → true ≡ x
-      unfolding twice
-      twice_hit d = rw (fields_one h, ← u, d) at inv
-
-      pub twice_on : t ≡ false → twice equal (fields_from s fields (j + 1) (n - (j + 1))) ≡ x
-      unfolding twice
-      twice_on d = rw (fields_one h, ← u, d) at inv
-
-pub ruleset walking = (line_in_lem, again_start, twice_start, again_out, again_hit, again_on, twice_out, twice_hit, twice_on)
+  -- so that two of them are the same where two details have one field 21
+  pub named_twice : length ds ≤ 16 → twice equal (map (named s) (take (length ds) kept)) ≡ twice alike ds
+  named_twice h =
+      rw (named_each s ds (take (length ds) kept) (omega (arith, length-take (length ds) kept)) (λ i l. rw (get_or-take (length ds) kept i no_judged l) (named_of i l)))
+      (sym (twice_map ds))
+    where
+      named_of : (i : ℕ) → i < length ds → named s (judged_at kept i) ≡ field21 (detail_at ds i)
+      named_of i l = rw (o.each i l (omega arith)).kept.reference.bytes

@@ -8,4 +8,4 @@ mod tally;
 mod walk;
 
 pub use booking::Booking;
-pub use message::{Checked, check_message};
+pub use message::check_message;

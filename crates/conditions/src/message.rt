@@ -1,4 +1,4 @@
-// The check of a whole message: the number of the lowest condition of 1 to 8 that holds, or what booking it needs.
+// The check of a whole message: the lowest condition of 1 to 8 that holds, or what booking it needs.
 ghost use Rattle.std.specs.Prelude.{◌≡◌, ◌≤◌, length};
 ghost use Rattle.rules.specs.Text.{equal};
 ghost use Rattle.rules.specs.Lines.{type};
@@ -14,64 +14,41 @@ use crate::tally::tally_details;
 use field_conditions::transfer_stop;
 use forms::{MESSAGE_20, behind, read_rows, read_transfer};
 use lines::is_framed;
+use refusal::Refusal;
 use text::equal_parts;
-
-// What the check of a message answers.
-#[derive(Clone, Copy)]
-pub enum Checked {
-    // One of 1 to 8 holds: its number.
-    Refused(u32),
-    // None holds: what booking the message needs.
-    Passed(Booking),
-}
+use verdict::Judged;
 
 // 3 to 8 of an MT103.
-fn check_transfer(s: &[u8], temporary: &[u8]) -> Checked
+fn check_transfer(s: &[u8], temporary: &[u8]) -> Result<Booking, Refusal>
     requires in_bounds { 23 ≤ length s.now }
     requires s_len_bound { length s.now ≤ 4096 }
     ensures { TransferChecked temporary.now s.now result }
 {
-    let t = read_transfer(s);
-    if t.ok {
-        let k = transfer_stop(s, temporary, t);
-        if k == 0 {
-            let reference = behind(t.spans[MESSAGE_20], 4);
-            return Checked::Passed(booking_of(s, true, reference, t.date, t.amount, 0));
-        }
-        return Checked::Refused(k);
-    }
-    Checked::Refused(3)
+    let Some(t) = read_transfer(s) else {
+        return Err(Refusal::NotInForm);
+    };
+    transfer_stop(s, temporary, t)?;
+    let reference = behind(t.spans[MESSAGE_20], 4);
+    Ok(booking_of(s, true, reference, t.date, t.amount, 0))
 }
 
 // 3 to 8 of an MT101, its details judged by the register's text.
-fn check_order(
-    s: &[u8],
-    text: &[u8],
-    amounts: &mut [u64; 16],
-    places: &mut [u16; 128],
-    verdicts: &mut [u8; 16],
-) -> Checked
+fn check_order(s: &[u8], text: &[u8], kept: &mut [Judged; 16]) -> Result<Booking, Refusal>
     requires in_bounds { 23 ≤ length s.now }
     requires s_len_bound { length s.now ≤ 4096 }
-    requires judging_room { JudgingRoom text.now amounts.old places.old verdicts.old }
-    ensures { CheckedBy s.now text.now (read_order s.now) result amounts.new places.new verdicts.new }
+    requires judging_room { JudgingRoom text.now kept.old }
+    ensures { CheckedBy s.now text.now (read_order s.now) result kept.new }
 {
-    let rows = read_rows(s, 23, 0, 1);
-    if rows.ok {
-        let line = rows.spans[MESSAGE_20];
-        let mut fields = [0u16; 32];
-        let t = tally_details(s, rows.next, text, amounts, places, verdicts, &mut fields);
-        if t.ok {
-            let k = order_stop(s, line, &fields, t);
-            if k == 0 {
-                let reference = behind(line, 4);
-                return Checked::Passed(booking_of(s, false, reference, t.date, t.sum, t.count));
-            }
-            return Checked::Refused(k);
-        }
-        return Checked::Refused(3);
-    }
-    Checked::Refused(3)
+    let Some(rows) = read_rows(s, 23, 0, 1) else {
+        return Err(Refusal::NotInForm);
+    };
+    let Some(t) = tally_details(s, rows.next, text, kept) else {
+        return Err(Refusal::NotInForm);
+    };
+    let line = rows.spans[MESSAGE_20];
+    order_stop(s, line, kept, t)?;
+    let reference = behind(line, 4);
+    Ok(booking_of(s, false, reference, t.date, t.sum, t.count))
 }
 
 // Is the message of the type t?
@@ -98,15 +75,9 @@ fn is_addressed(s: &[u8]) -> bool
 }
 
 // 1 to 8 of any bytes, by the text of a register, whose first line is the temporary account; the details judged by it.
-pub fn check_message(
-    s: &[u8],
-    text: &[u8],
-    amounts: &mut [u64; 16],
-    places: &mut [u16; 128],
-    verdicts: &mut [u8; 16],
-) -> Checked
-    requires { JudgingRoom text.now amounts.old places.old verdicts.old }
-    ensures { CheckedAs s.now text.now result amounts.new places.new verdicts.new }
+pub fn check_message(s: &[u8], text: &[u8], kept: &mut [Judged; 16]) -> Result<Booking, Refusal>
+    requires { JudgingRoom text.now kept.old }
+    ensures { CheckedAs s.now text.now result kept.new }
 {
     let temporary = &text[0..22];
     if is_framed(s) {
@@ -114,9 +85,9 @@ pub fn check_message(
             if is_type(s, b"103") {
                 return check_transfer(s, temporary);
             }
-            return check_order(s, text, amounts, places, verdicts);
+            return check_order(s, text, kept);
         }
-        return Checked::Refused(2);
+        return Err(Refusal::NotAddressed);
     }
-    Checked::Refused(1)
+    Err(Refusal::NotFramed)
 }

@@ -1,37 +1,35 @@
 // An MT101: 4 to 8.
-ghost use Rattle.std.specs.Prelude.{◌≡◌};
+ghost use Rattle.std.specs.Prelude.{◌≡◌, map, take};
 ghost use Rattle.rules.specs.Text.{equal, twice};
 ghost use Rattle.rules.specs.Messages.{past};
 ghost use Rattle.rules.specs.Engine.{slashed};
 ghost use Rattle.forms.specs.Spans.{span_of, SpanIn};
-ghost use Rattle.conditions.specs.Walk.{FieldsIn, fields_from};
+ghost use Rattle.refusal.specs.Numbers.{stop_of};
+ghost use Rattle.field_conditions.specs.Stops.{low_of};
+ghost use Rattle.conditions.specs.Walk.{NamedFirst, named};
 ghost use Rattle.conditions.specs.Order.{order_stop};
 
 use crate::tally::Tally;
 use crate::walk::appears_twice;
-use field_conditions::{NO_STOP, slashed_behind};
+use field_conditions::slashed_behind;
 use forms::Span;
+use refusal::Refusal;
+use verdict::Judged;
 
-// The lowest condition of 4 to 8 that holds, 0 where none does; p is field 20's line, fields the places of the fields 21, t the details' tally.
-pub fn order_stop(s: &[u8], p: Span, fields: &[u16; 32], t: Tally) -> u32
+// The lowest condition of 4 to 8 that holds; p is field 20's line, t the details' tally, the first 16 of which are kept.
+pub fn order_stop(s: &[u8], p: Span, kept: &[Judged; 16], t: Tally) -> Result<(), Refusal>
     requires span_in { SpanIn s.now p }
-    requires fields_in { FieldsIn s.now fields.now t.count }
-    ensures { result ≡ order_stop t.count (slashed (past ":20:" (span_of s.now p))) t.low (twice equal (fields_from s.now fields.now 0 t.count)) }
+    requires named_within { NamedFirst s.now kept.now t.count }
+    ensures { stop_of result ≡ order_stop t.count (slashed (past ":20:" (span_of s.now p))) (low_of t.low) (twice equal (map (named s.now) (take t.count kept.now))) }
 {
     if 16 < t.count {
-        return 4;
+        return Err(Refusal::TooManyDetails);
     }
     if slashed_behind(s, p, 4) {
-        return 5;
+        return Err(Refusal::BadReference);
     }
-    if t.low == 5 {
-        return 5;
-    }
-    if appears_twice(s, fields, t.count) {
-        return 5;
-    }
-    if t.low == NO_STOP {
-        return 0;
+    if appears_twice(s, &kept[0..t.count as usize]) {
+        return Err(Refusal::BadReference);
     }
     t.low
 }

@@ -1,20 +1,21 @@
-// The fields 21 of the details, by their places: 5, one field 21 twice.
-ghost use Rattle.std.specs.Prelude.{◌≡◌, ◌+◌, ◌-◌, ◌<◌, ◌≤◌};
+// The fields 21 of the details: 5, one field 21 twice.
+ghost use Rattle.std.specs.Prelude.{◌≡◌, map};
 ghost use Rattle.rules.specs.Text.{equal, any, twice};
-ghost use Rattle.forms.specs.Spans.{span_of, SpanIn};
-ghost use Rattle.details.specs.Lines.{line_at};
-ghost use Rattle.conditions.specs.Walk.{FieldsIn, fields_from};
+ghost use Rattle.forms.specs.Spans.{SpanIn};
+ghost use Rattle.conditions.specs.Walk.{NamedIn, named};
 
-use details::line_at;
-use forms::Span;
+use forms::behind;
 use text::same_parts;
+use verdict::Judged;
 
-// Have the two parts the same bytes?
-fn same_spans(s: &[u8], p: Span, q: Span) -> bool
-    requires span_in { SpanIn s.now p }
-    requires span_in_2 { SpanIn s.now q }
-    ensures { result ≡ equal (span_of s.now p) (span_of s.now q) }
+// Have the two details one field 21?
+fn same_names(s: &[u8], a: &Judged, b: &Judged) -> bool
+    requires a_within { SpanIn s.now a.now.detail.reference }
+    requires b_within { SpanIn s.now b.now.detail.reference }
+    ensures { result ≡ equal (named s.now a.now) (named s.now b.now) }
 {
+    let p = behind(a.detail.reference, 4);
+    let q = behind(b.detail.reference, 4);
     same_parts(
         s,
         p.start as usize,
@@ -25,37 +26,28 @@ fn same_spans(s: &[u8], p: Span, q: Span) -> bool
     )
 }
 
-// Has one behind field i, of n, its bytes?
-fn again(s: &[u8], fields: &[u16; 32], i: u32, n: u32) -> bool
-    requires fields_in { FieldsIn s.now fields.now n }
-    requires i_lt_n { i < n }
-    requires n_bound { n ≤ 16 }
-    ensures { result ≡ any (equal (span_of s.now (line_at fields.now i))) (fields_from s.now fields.now (i + 1) (n - (i + 1))) }
+// Has one of the others this one's field 21?
+fn again(s: &[u8], one: &Judged, others: &[Judged]) -> bool
+    requires one_within { SpanIn s.now one.now.detail.reference }
+    requires others_within { NamedIn s.now others.now }
+    ensures { result ≡ any (equal (named s.now one.now)) (map (named s.now) others.now) }
 {
-    let p = line_at(fields, i);
-    let mut j = i + 1;
-    while j < n {
-        if same_spans(s, p, line_at(fields, j)) {
+    for other in others {
+        if same_names(s, one, other) {
             return true;
-        } else {
-            j += 1;
         }
     }
     false
 }
 
-// Have two of the n fields the same bytes?
-pub fn appears_twice(s: &[u8], fields: &[u16; 32], n: u32) -> bool
-    requires fields_in { FieldsIn s.now fields.now n }
-    requires n_bound { n ≤ 16 }
-    ensures { result ≡ twice equal (fields_from s.now fields.now 0 n) }
+// Have two of the details one field 21?
+pub fn appears_twice(s: &[u8], kept: &[Judged]) -> bool
+    requires { NamedIn s.now kept.now }
+    ensures { result ≡ twice equal (map (named s.now) kept.now) }
 {
-    let mut i: u32 = 0;
-    while i < n {
-        if again(s, fields, i, n) {
+    for (i, one) in kept.iter().enumerate() {
+        if again(s, one, &kept[i + 1..]) {
             return true;
-        } else {
-            i += 1;
         }
     }
     false

@@ -3,19 +3,18 @@ use Rattle.std.specs.Prelude.{◌≡◌, refl, List, [], ◌∷◌, ◌++◌, �
 use Rattle.std.proofs.Math.Path.{sym}
 use Rattle.std.proofs.Common.{ap, ◌∙◌, append-nil, arith, take_at}
 use Rattle.std.proofs.Math.Option.{none, some}
-use Rattle.std.proofs.Math.ListN.{length, take, length-take}
+use Rattle.std.proofs.Math.ListN.{length, take}
 use Rattle.rules.specs.Text.{over}
 use Rattle.rules.specs.Area.{holds, area_size}
-use Rattle.rules.specs.Replay.{command, called, printed}
-use Rattle.laws.specs.Parts.{cut, from, cut_length}
+use Rattle.rules.specs.Replay as R
+use Rattle.rules.specs.Replay.{Commanded, command, called, printed}
+use Rattle.laws.specs.Parts.{cut, from, cut_length, cut_drop, from_take}
 use Rattle.laws.specs.Writing.{Wrote, ahead, wrote_over, wrote_length}
-use Rattle.commands.specs.Pieces.{longest, none_follows}
+use Rattle.commands.specs.Pieces.{longest, none_follows, command_behind, command_rest}
 use Rattle.commands.specs.Window.{Roomed}
-use Rattle.day.specs.declared.replay.Step.{Step}
-use Rattle.day.specs.declared.replay.Step.TheVariants.{Done, Nothing}
 use Rattle.day.specs.declared.onward.Onward.{Onward}
 use Rattle.day.specs.declared.onward.Onward.TheVariants.{Answered, Wants, Ends}
-use Rattle.day.specs.Replaying.{CommandStepped, Moved, Stayed, step_moved, step_stayed}
+use Rattle.day.specs.Replaying.{CarriedOut}
 use Rattle.day.specs.Whole.{InPieces, performs, reads, ends, stops}
 
 -- the bytes from at up to n of s are read and not yet carried out; every command fits the window, and every answer what is printed to
@@ -109,11 +108,6 @@ pub record Onwards (s : List ℕ) (at n : ℕ) (area out shown s' area' out' sho
   pub kept : WindowKept s area out shown s' area' out' shown'
   pub told : OnwardTold s at n area out s' area' shown' r
 
--- the first n bytes, as the part that they are
-window_from : (s : List ℕ) (at n : ℕ) → from (take (n - 0) (drop 0 s)) at ≡ cut s at n
-unfolding from cut
-window_from s at n = let e : n - 0 ≡ n = omega arith in rw e
-
 -- what was printed, as the bytes that are there
 shown_text : (text shown : List ℕ) {p : ℕ} {shown' : List ℕ} → Wrote text 0 shown p shown' → length text ≤ length shown → take p shown' ≡ text
 unfolding ahead over
@@ -121,46 +115,55 @@ shown_text text shown w h =
     let e : _ ≡ length text = w.cursor ∙ omega (arith, w.short) in
     rw (e, wrote_over w h) (take_at text (drop (length text) shown) (length text) refl)
 
-module _ {s area out shown : List ℕ} {at n : ℕ} (m : WindowReady s at n area out shown) {area' out' shown' : List ℕ} {r : Step} (w : CommandStepped (take (n - 0) (drop 0 s)) at area area' out out' shown 0 shown' r) where
-  pub onward_answers : (next p : ℕ) → r ≡ Done next p → Onwards s at n area out shown s area' out' shown' (Answered next p)
+module _ {s area out shown : List ℕ} {at n : ℕ} (m : WindowReady s at n area out shown) where
+  -- the bytes read, as a slice
+  window_is : take (n - at) (drop at s) ≡ cut s at n
+  unfolding from
+  window_is = let e : at + (n - at) ≡ n = omega (arith, m.order) in rw e at (from_take s at (n - at))
+
+  pub behind_within : {c : R.Command} {rest : List ℕ} → some record { command = c; others = rest } ≡ command (take (n - at) (drop at s)) → length rest ≤ n
+  behind_within e =
+      let k : length (cut s at n) ≡ n - at = cut_length s at n m.within in
+      omega (arith, command_behind (cut s at n) _ (ap command (sym window_is) ∙ sym e), k)
+
+  pub onward_answers : {c : R.Command} {rest : List ℕ} → some record { command = c; others = rest } ≡ command (take (n - at) (drop at s)) → {area' out' shown' : List ℕ} {p : ℕ} → CarriedOut c area out shown 0 area' out' shown' p → Onwards s at n area out shown s area' out' shown' (Answered (n - length rest) p)
   unfolding ahead
-  onward_answers next p e =
-      let t : Moved (take (n - 0) (drop 0 s)) at next area area' out out' shown 0 p shown' = step_moved w next p e in
-      let b : length (printed (called (length out) (holds area) t.found.command)) ≤ length shown = omega (arith, t.short, m.print) in
+  onward_answers {c} {rest} e {shown' = shown'} {p = p} t =
+      let found : Commanded = record { command = c; others = rest } in
+      let y : command (cut s at n) ≡ some found = ap command (sym window_is) ∙ sym e in
+      let b : length (printed (called (length out) (holds area) c)) ≤ length shown = omega (arith, t.short, m.print) in
       let f : length shown' ≡ length shown = wrote_length t.wrote in
-      let x : take p shown' ≡ printed (called (length out) (holds area) t.found.command) = shown_text _ shown t.wrote b in
-      let y : command (cut s at n) ≡ some t.found = sym (ap command (window_from s at n)) ∙ t.stands in
-      let z : cut s next n ≡ t.found.others = sym (window_from s next n) ∙ t.others in record {
+      let x : take p shown' ≡ printed (called (length out) (holds area) c) = shown_text _ shown t.wrote b in
+      let k : length (cut s at n) ≡ n - at = cut_length s at n m.within in
+      let d : length rest < length (cut s at n) = command_behind (cut s at n) found y in
+      let j : at + (length (cut s at n) - length rest) ≡ n - length rest = omega (arith, m.order) in
+      let z : cut s (n - length rest) n ≡ rest = rw j at (sym (cut_drop s at n (length (cut s at n) - length rest)) ∙ command_rest (cut s at n) found y) in record {
         kept = record { window = refl; size = t.size; lent = t.room; shows = f };
         told = record {
-          within = omega (arith, t.within, length-take (n - 0) s, m.within);
+          within = omega arith;
           fits = omega (arith, t.wrote.cursor, b, f);
-          goes = λ ps text h. rw x (performs (holds area) (cut s at n) ps text t.found y (rw (z, t.leaves) at h));
+          goes = λ ps text h. rw x (performs (holds area) (cut s at n) ps text found y (rw (z, t.leaves) at h));
         };
       }
 
-  pub onward_none : r ≡ Nothing → Unread s at n
-  onward_none e = record { order = m.order; within = m.within; wide = m.wide; narrow = m.narrow; stands = sym (ap command (window_from s at n)) ∙ (step_stayed w e).stands }
+  module _ (e : none ≡ command (take (n - at) (drop at s))) where
+    pub onward_none : Unread s at n
+    onward_none = record { order = m.order; within = m.within; wide = m.wide; narrow = m.narrow; stands = ap command (sym window_is) ∙ sym e }
 
-  pub onward_wants : r ≡ Nothing → {s' : List ℕ} {o : Onward} → Wanted s at n s' o → Onwards s at n area out shown s' area' out' shown' o
-  onward_wants e {s'} {o} v = go o v.told
-    where
-      t : Stayed (take (n - 0) (drop 0 s)) at area area' out out' shown shown'
-      t = step_stayed w e
+    pub onward_wants : {s' : List ℕ} {o : Onward} → Wanted s at n s' o → Onwards s at n area out shown s' area out shown o
+    onward_wants {s'} {o} v = go o v.told
+      where
+        kept : length s' ≡ length s → WindowKept s area out shown s' area out shown
+        kept l = record { window = l; size = refl; lent = refl; shows = refl }
 
-      kept : length s' ≡ length s → WindowKept s area out shown s' area' out' shown'
-      kept l = record { window = l; size = ap length t.left; lent = ap length t.lent; shows = ap length t.shows }
-
-      go : (o : Onward) → WantTold s at n s' o → Onwards s at n area out shown s' area' out' shown' o
-      go (Answered next p) u = absurd u
-      go (Wants left) u = record {
-        kept = kept u.size;
-        told = record {
-          room = u.room;
-          goes = λ p ps text h. reads (holds area) (cut s at n) (cut s' 0 left) p ps text u.same u.fewer (rw t.left at h);
-          ends = ends (holds area) (cut s at n) (onward_none e).stands;
-        };
-      }
-      go Ends u = record { kept = kept u.size; told = record { stops = λ ps. stops (holds area) (cut s at n) ps u.none } }
-
-pub ruleset onwards = (wants, wants_none, onward_answers, onward_none, onward_wants)
+        go : (o : Onward) → WantTold s at n s' o → Onwards s at n area out shown s' area out shown o
+        go (Answered next p) u = absurd u
+        go (Wants left) u = record {
+          kept = kept u.size;
+          told = record {
+            room = u.room;
+            goes = λ p ps text h. reads (holds area) (cut s at n) (cut s' 0 left) p ps text u.same u.fewer h;
+            ends = ends (holds area) (cut s at n) onward_none.stands;
+          };
+        }
+        go Ends u = record { kept = kept u.size; told = record { stops = λ ps. stops (holds area) (cut s at n) ps u.none } }

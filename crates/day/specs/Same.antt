@@ -20,9 +20,10 @@ use Rattle.rules.specs.Replay.{to_newer, to_older, called}
 use Rattle.rule_laws.specs.Conditions.{answered_accepted, answered_refused}
 use Rattle.rule_laws.specs.Moves.{newer_clear, older_clear}
 use Rattle.rule_laws.specs.Options.{There}
-use Rattle.commands.specs.declared.letter.Handed.{Handed}
 use Rattle.commands.specs.declared.letter.Handed.TheVariants.{Message, Newer, Older}
-use Rattle.commands.specs.Answers.{making}
+use Rattle.commands.specs.declared.command.Command.{Command}
+use Rattle.commands.specs.declared.command.Command.TheVariants.{Opens, Hands, Turns as TurnsTo}
+use Rattle.commands.specs.Answers.{making, command_in}
 use Rattle.engine_laws.specs.Keeps.{opened_within}
 use Rattle.engine_laws.specs.Calls.{Done, done_holds, done_text, done_length, Takes, message_there, message_from, Turns, turn_there, turn_from}
 
@@ -83,7 +84,7 @@ module _ (area : List ℕ) (l : area_size ≤ length area) where
     unfolding open_stops
     sizes = rw (le-leb _ _ l)
 
-    pub same_open : SameAnswer (open_call area_size (holds area) text list day) (card_open text list day area) area []
+    same_open : SameAnswer (open_call area_size (holds area) text list day) (card_open text list day area) area []
     unfolding open_call card_open
     same_open = rw sizes (same_answered (open_stops (length area) text list day) (accepted_opening text list day) area [] open_same)
 
@@ -112,7 +113,7 @@ module _ (area : List ℕ) (l : area_size ≤ length area) where
         let r : Result = on_areas (accepted_turn (some h.value) day) area out in
         rw h.is (same_done {r = r} (on_zero (accepted_turn (some h.value) day) area out refl) l w.clear.fits (rw (answered_accepted _ (holds area) (accepted_turn (holds area) day) k, h.is) at w.done))
 
-    pub same_turn : SameAnswer (turn_call (length out) (holds area) day) (card_turn day area out) area out
+    same_turn : SameAnswer (turn_call (length out) (holds area) day) (card_turn day area out) area out
     unfolding turn_call card_turn
     same_turn = same_answered (turn_stops (length out) (holds area) day) (accepted_turn (holds area) day) area out turn_same
 
@@ -138,16 +139,37 @@ unfolding service_call service_result newer_call card_newer older_call card_olde
 same_service area out (newer s) = beside_same (newer_stops (length out) s) area out (with_end s) (λ k. (newer_clear (length out) s k).fits)
 same_service area out (older s) = beside_same (older_stops (length out) s) area out (without_end s) (λ k. (older_clear (length out) s k).fits)
 
--- ---- the call of a text
+-- ---- the call that a command is for
+
+-- a call that is not lent the output: that is as it was
+abbrev pub unwritten : List ℕ → Result → Result
+unwritten out r = record { number = r.number; written = r.written; difference = r.difference; area = r.area; output = out }
 
 -- what it does to area and output
-unfoldable pub text_result : Handed → List ℕ → List ℕ → List ℕ → Result
-text_result Message s area out = card_message s area out
-text_result Newer s area out = service_result (newer s) area out
-text_result Older s area out = service_result (older s) area out
+unfoldable pub result_of : Command → List ℕ → List ℕ → Result
+result_of (Opens day register holidays) area out = unwritten out (card_open register.now holidays.now day area)
+result_of (Hands Message text) area out = card_message text.now area out
+result_of (Hands Newer text) area out = service_result (newer text.now) area out
+result_of (Hands Older text) area out = service_result (older text.now) area out
+result_of (TurnsTo day) area out = card_turn day area out
 
-pub same_text : (area : List ℕ) → area_size ≤ length area → (out : List ℕ) (h : Handed) (s : List ℕ) → SameAnswer (called (length out) (holds area) (making h s)) (text_result h s area out) area out
-unfolding called making to_newer to_older text_result
-same_text area l out Message s = same_message area l out s
-same_text area l out Newer s = same_service area out (newer s)
-same_text area l out Older s = same_service area out (older s)
+-- an opening writes nothing
+same_unwritten : {a : Answer} {r : Result} {area : List ℕ} (out : List ℕ) → SameAnswer a r area [] → SameAnswer a (unwritten out r) area out
+same_unwritten {r = r} out w =
+    let z : r.written ≡ 0 = omega (arith, w.fits) in record {
+      number = w.number;
+      difference = w.difference;
+      text = rw z (rw z at w.text);
+      next = w.next;
+      size = w.size;
+      room = refl;
+      fits = omega (arith, w.fits);
+    }
+
+pub same_call : (area : List ℕ) → area_size ≤ length area → (out : List ℕ) (c : Command) → SameAnswer (called (length out) (holds area) (command_in c)) (result_of c area out) area out
+unfolding called making to_newer to_older result_of
+same_call area l out (Opens day register holidays) = same_unwritten out (same_open area l register.now holidays.now day)
+same_call area l out (Hands Message text) = same_message area l out text.now
+same_call area l out (Hands Newer text) = same_service area out (newer text.now)
+same_call area l out (Hands Older text) = same_service area out (older text.now)
+same_call area l out (TurnsTo day) = same_turn area l out day

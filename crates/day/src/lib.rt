@@ -9,4 +9,4 @@ mod rooms;
 
 pub use onward::{Onward, go_on};
 pub use replay::replay_day;
-pub use rooms::{area_room, output_room};
+pub use rooms::room;

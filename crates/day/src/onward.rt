@@ -1,7 +1,8 @@
 // A turn over a window of the input.
 ghost use Rattle.day.specs.Onwards.{WindowReady, Unread, Wanted, Onwards};
 
-use crate::replay::{Step, carry_out};
+use crate::replay::carry_out;
+use commands::read_command;
 
 // What came of a turn.
 #[derive(Clone, Copy)]
@@ -38,8 +39,11 @@ pub fn go_on(
     requires { WindowReady input.old at n area.old out.old printed.old }
     ensures { Onwards input.old at n area.old out.old printed.old input.new area.new out.new printed.new result }
 {
-    match carry_out(&input[0..n], at, area, out, printed, 0) {
-        Step::Done(next, p) => Onward::Answered(next, p),
-        Step::Nothing => want(input, at, n),
+    match read_command(&input[at..n]) {
+        Some((command, rest)) => {
+            let next = n - rest.len();
+            Onward::Answered(next, carry_out(command, area, out, printed, 0))
+        }
+        None => want(input, at, n),
     }
 }

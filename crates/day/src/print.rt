@@ -16,5 +16,5 @@ pub fn put_answer(printed: &mut [u8], at: usize, a: Outcome, out: &[u8]) -> usiz
     let p = put::put_byte(printed, o, b',');
     let q = commands::put_signed(printed, p, a.difference);
     let r = put::put_end(printed, q);
-    put::put_part(printed, r, out, 0, a.written)
+    put::put_bytes(printed, r, &out[0..a.written])
 }

@@ -1,18 +1,11 @@
-// What the replay programs lend the card.
+// What the replay programs lend.
 ghost use Rattle.std.specs.Prelude.{◌≡◌, length};
-ghost use Rattle.rules.specs.Area.{zeros, area_size};
+ghost use Rattle.rules.specs.Area.{zeros};
 
-// The engine area, zeros.
-pub fn area_room() -> [u8; 6144]
-    ensures value { result ≡ zeros area_size }
-    ensures value_2 { 6144 ≡ length result }
+// Room of so many bytes: zeros, as the engine area begins.
+pub fn room<const N: usize>() -> [u8; N]
+    ensures zeros { result ≡ zeros N }
+    ensures size { length result ≡ N }
 {
-    [0; 6144]
-}
-
-// The card's output, as large as a room may be.
-pub fn output_room() -> [u8; 1048576]
-    ensures { 1048576 ≡ length result }
-{
-    [0; 1048576]
+    [0; N]
 }

@@ -1,5 +1,5 @@
 -- The posting lines of a message's details, each by its verdict.
-use Rattle.std.specs.Prelude.{◌≡◌, refl, true, ℕ, ◌+◌, ◌-◌, ◌≤◌, ◌<◌, length, take, drop}
+use Rattle.std.specs.Prelude.{◌≡◌, refl, true, ℕ, ◌+◌, ◌-◌, ◌≤◌, ◌<◌, length, get_or, take, drop}
 use Rattle.std.proofs.Common.{ap}
 use mathlib.Core.List.{List, [], ◌++◌}
 use native.Mathlib.Omega.{arith}
@@ -7,7 +7,7 @@ use Rattle.rules.specs.Text.{is_some}
 use Rattle.rules.specs.Messages.{Detail, payer_code, account59}
 use Rattle.rules.specs.Register.{Register, register, register_of}
 use Rattle.rules.specs.Verdict as paper
-use Rattle.rules.specs.Verdict.{credited, credited_by_code, returned, account_at}
+use Rattle.rules.specs.Verdict.{credited, credited_by_code, returned, account_at, is_returned}
 use Rattle.rules.specs.Written.{Book, to_account, to_bank}
 use Rattle.rules.specs.Calls as C
 use Rattle.rules.specs.Calls.{detail_posting, detail_postings}
@@ -15,14 +15,14 @@ use Rattle.laws.specs.Parts.{cut, from, from_take}
 use Rattle.laws.specs.Writing.{Wrote, Left, left_turn, left_none, left_length}
 use Rattle.register.specs.Passed.{temporary_at_lem, iban_at, LinePlace}
 use Rattle.details.specs.Message.{details_in, detail_at}
-use Rattle.details.specs.Kept.{LinesIn, AmountsIn, kept_next, kept_end}
-use Rattle.verdict.specs.Answers.{verdict_of, judged_in, InRegister, in_register, line_credited, line_coded}
-use Rattle.verdict.specs.Details.{VerdictsIn, JudgedAs, judged_as}
+use Rattle.verdict.specs.Answers.{verdict_of, InRegister, in_register, line_credited, line_coded}
+use Rattle.verdict.specs.Details.{JudgedIn, kept_at, verdict_at}
 use Rattle.verdict.specs.declared.Verdict.{Verdict}
 use Rattle.verdict.specs.declared.Verdict.TheVariants.{Credited, CreditedByCode, Returned}
-use Rattle.verdict.specs.declared.detail.Judged as J
+use Rattle.verdict.specs.declared.detail.Judged.{Judged}
 use Rattle.written.specs.Values.{book_of}
 use Rattle.written.specs.declared.Book as W
+use Rattle.detail_lines.specs.Chosen.{details_next, details_end}
 
 -- ---- one detail
 
@@ -63,25 +63,26 @@ module _ (text : List ℕ) (h : is_some (register text) ≡ true) (b : W.Book) (
 
 -- ---- detail by detail
 
-module _ (text s amounts places verdicts : List ℕ) (n i : ℕ) (k : LinesIn s places n) (a : AmountsIn s amounts n) (v : VerdictsIn text s verdicts n) (h : i < n) (j : J.Judged) (e : j ≡ judged_in amounts places verdicts i) where
-  its : JudgedAs text s (detail_at (details_in s) i) j
-  its = judged_as text s amounts places verdicts n i j k a v h e
+module _ (text s : List ℕ) (kept : List Judged) (v : JudgedIn text s kept) (i : ℕ) where
+  module _ (h : i < length kept) (j : Judged) where
+    verdict_is : verdict_of (get_or kept i j).verdict ≡ C.verdict_of (register_of text) (detail_at (details_in s) i)
+    verdict_is = verdict_at text s kept v i h j
 
-  pub judged_known : InRegister text j.verdict
-  judged_known = in_register text (payer_code (detail_at (details_in s) i)) (account59 (detail_at (details_in s) i)) j.verdict its.verdict
+    pub judged_known : InRegister text (get_or kept i j).verdict
+    judged_known = in_register text (payer_code (detail_at (details_in s) i)) (account59 (detail_at (details_in s) i)) (get_or kept i j).verdict verdict_is
 
-  module _ (b : Book) {o at : ℕ} {out whole start : List ℕ} (l : Left (detail_postings (register_of text) b (drop i (details_in s))) o out whole at start) where
-    credits_step : detail_postings (register_of text) b (drop i (details_in s)) ≡ verdict_posting (register_of text) b j.amount (verdict_of j.verdict) ++ detail_postings (register_of text) b (drop (i + 1) (details_in s))
-    unfolding detail_postings
-    credits_step =
-        rw (kept_next s places n k i h, its.verdict, its.amount)
-        (ap (λ (l : List ℕ). l ++ detail_postings (register_of text) b (drop (i + 1) (details_in s))) (detail_amount (register_of text) b (detail_at (details_in s) i) (C.verdict_of (register_of text) (detail_at (details_in s) i))))
+    module _ (b : Book) {o at : ℕ} {out whole start : List ℕ} (l : Left (detail_postings (register_of text) b (drop i (details_in s))) o out whole at start) where
+      credits_step : detail_postings (register_of text) b (drop i (details_in s)) ≡ verdict_posting (register_of text) b (get_or kept i j).detail.amount (verdict_of (get_or kept i j).verdict) ++ detail_postings (register_of text) b (drop (i + 1) (details_in s))
+      unfolding detail_postings
+      credits_step =
+          rw (details_next is_returned s kept v.kept_in i h, verdict_is, (kept_at s kept v.kept_in i h j).amount)
+          (ap (λ (l : List ℕ). l ++ detail_postings (register_of text) b (drop (i + 1) (details_in s))) (detail_amount (register_of text) b (detail_at (details_in s) i) (C.verdict_of (register_of text) (detail_at (details_in s) i))))
 
-    pub credits_more : {o' : ℕ} {out' : List ℕ} → Wrote (verdict_posting (register_of text) b j.amount (verdict_of j.verdict)) o out o' out' → Left (detail_postings (register_of text) b (drop (i + 1) (details_in s))) o' out' whole at start
-    credits_more u = left_turn (rw credits_step at l) u
+      pub credits_more : {o' : ℕ} {out' : List ℕ} → Wrote (verdict_posting (register_of text) b (get_or kept i j).detail.amount (verdict_of (get_or kept i j).verdict)) o out o' out' → Left (detail_postings (register_of text) b (drop (i + 1) (details_in s))) o' out' whole at start
+      credits_more u = left_turn (rw credits_step at l) u
 
-pub credits_end : (text s places : List ℕ) (n i : ℕ) (b : Book) {o at : ℕ} {out whole start : List ℕ} → Left (detail_postings (register_of text) b (drop i (details_in s))) o out whole at start → LinesIn s places n → n ≤ i → Wrote whole at start o out
-unfolding detail_postings
-credits_end text s places n i b l k h = left_none (rw (kept_end s places n k i h) at l)
+  pub credits_end : (b : Book) {o at : ℕ} {out whole start : List ℕ} → Left (detail_postings (register_of text) b (drop i (details_in s))) o out whole at start → length kept ≤ i → Wrote whole at start o out
+  unfolding detail_postings
+  credits_end b l h = left_none (rw (details_end is_returned s kept v.kept_in i h) at l)
 
 pub ruleset crediting = (left_length, line_credited, line_coded, credit_wrote, posting_credited, posting_coded, posting_returned, judged_known, credits_more, credits_end)

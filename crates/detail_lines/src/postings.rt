@@ -7,18 +7,17 @@ ghost use Rattle.rules.specs.Written.{to_account};
 ghost use Rattle.rules.specs.Calls.{detail_postings};
 ghost use Rattle.laws.specs.Writing.{Wrote};
 ghost use Rattle.details.specs.Message.{details_in};
-ghost use Rattle.details.specs.Kept.{LinesIn, AmountsIn};
 ghost use Rattle.verdict.specs.Answers.{verdict_of, InRegister};
-ghost use Rattle.verdict.specs.Details.{VerdictsIn};
+ghost use Rattle.verdict.specs.Details.{JudgedIn};
 ghost use Rattle.detail_lines.specs.Postings.{book_by, verdict_posting};
 
 use register::account_place;
-use verdict::{Verdict, judged_at};
+use verdict::{Judged, Verdict};
 use written::{Book, put_to_account, put_to_bank};
 
 // The posting line that credits account line i.
 fn put_credit(out: &mut [u8], at: usize, book: Book, text: &[u8], i: usize, amount: u64) -> usize
-    requires text_value { is_some (register text.now) ≡ true }
+    requires text_passes { is_some (register text.now) ≡ true }
     requires i_in_bounds { i < length (register_of text.now).accounts }
     requires in_bounds { 22 ≤ length text.now }
     ensures { Wrote (to_account (book_by text.now book) (account_at (register_of text.now) i).iban amount) at out.old result out.new }
@@ -36,7 +35,7 @@ fn put_verdict_posting(
     v: Verdict,
     amount: u64,
 ) -> usize
-    requires text_value { is_some (register text.now) ≡ true }
+    requires text_passes { is_some (register text.now) ≡ true }
     requires in_register { InRegister text.now v }
     requires in_bounds { 22 ≤ length text.now }
     ensures { Wrote (verdict_posting (register_of text.now) (book_by text.now book) amount (verdict_of v)) at out.old result out.new }
@@ -48,32 +47,23 @@ fn put_verdict_posting(
     }
 }
 
-// The posting lines of the n details of the message s, in their order.
+// The posting lines of the details of the message s, in their order.
 pub fn put_detail_postings(
     out: &mut [u8],
     at: usize,
     book: Book,
     text: &[u8],
     s: &[u8],
-    amounts: &[u64; 16],
-    places: &[u16; 128],
-    verdicts: &[u8; 16],
-    n: u32,
+    kept: &[Judged],
 ) -> usize
-    requires text_value { is_some (register text.now) ≡ true }
+    requires text_passes { is_some (register text.now) ≡ true }
     requires in_bounds { 22 ≤ length text.now }
-    requires lines_in { LinesIn s.now places.now n }
-    requires amounts_in { AmountsIn s.now amounts.now n }
-    requires verdicts_in { VerdictsIn text.now s.now verdicts.now n }
+    requires judged_in { JudgedIn text.now s.now kept.now }
     ensures { Wrote (detail_postings (register_of text.now) (book_by text.now book) (details_in s.now)) at out.old result out.new }
 {
     let mut o = at;
-    let mut i: u32 = 0;
-    while i < n {
-        let j = judged_at(amounts, places, verdicts, i);
-        let v = j.verdict;
-        o = put_verdict_posting(out, o, book, text, v, j.amount);
-        i += 1;
+    for j in kept {
+        o = put_verdict_posting(out, o, book, text, j.verdict, j.detail.amount);
     }
     o
 }

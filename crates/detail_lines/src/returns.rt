@@ -6,8 +6,8 @@ ghost use Rattle.laws.specs.Writing.{Wrote};
 ghost use Rattle.written.specs.Values.{book_of};
 ghost use Rattle.forms.specs.Spans.{span_of, SpanIn};
 
+use details::Kept;
 use forms::behind;
-use verdict::Judged;
 use written::{Book, put_return};
 
 // From what is kept of the detail, by the number of its return: 52D's lines and 50H's, behind their tags, as they stand in the message s.
@@ -18,22 +18,22 @@ pub fn put_detail_return(
     temporary: &[u8],
     n: u32,
     s: &[u8],
-    j: Judged,
+    detail: &Kept,
 ) -> usize
     requires in_bounds { 22 ≤ length temporary.now }
-    requires span_in { SpanIn s.now j.branch }
-    requires span_in_2 { SpanIn s.now j.payer }
-    ensures { Wrote (return103 (book_of temporary.now book) n j.amount (past ":52D:" (span_of s.now j.branch)) (past ":50H:" (span_of s.now j.payer))) at out.old result out.new }
+    requires branch_within { SpanIn s.now detail.now.branch }
+    requires payer_within { SpanIn s.now detail.now.payer }
+    ensures { Wrote (return103 (book_of temporary.now book) n detail.now.amount (past ":52D:" (span_of s.now detail.now.branch)) (past ":50H:" (span_of s.now detail.now.payer))) at out.old result out.new }
 {
-    let branch = behind(j.branch, 5);
-    let payer = behind(j.payer, 5);
+    let branch = behind(detail.branch, 5);
+    let payer = behind(detail.payer, 5);
     put_return(
         out,
         at,
         book,
         temporary,
         n,
-        j.amount,
+        detail.amount,
         &s[branch.start as usize..branch.end as usize],
         &s[payer.start as usize..payer.end as usize],
     )

@@ -14,7 +14,7 @@ fn put_behind(out: &mut [u8], at: usize, s: &[u8], p: Span, k: u16) -> usize
     ensures { Wrote (drop k (span_of s.now p)) at out.old result out.new }
 {
     let q = behind(p, k);
-    put::put_part(out, at, s, q.start as usize, q.end as usize)
+    put::put_bytes(out, at, &s[q.start as usize..q.end as usize])
 }
 
 // n bytes behind the first k of a line, or what there is of them.
@@ -24,15 +24,15 @@ fn put_front(out: &mut [u8], at: usize, s: &[u8], p: Span, k: u16, n: u16) -> us
 {
     let q = behind(p, k);
     if q.end - q.start <= n {
-        return put::put_part(out, at, s, q.start as usize, q.end as usize);
+        return put::put_bytes(out, at, &s[q.start as usize..q.end as usize]);
     }
-    put::put_part(out, at, s, q.start as usize, q.start as usize + n as usize)
+    put::put_bytes(out, at, &s[q.start as usize..q.start as usize + n as usize])
 }
 
 // 52D's BAE, a slash, BAEREF's date, a slash.
 fn put_row_front(out: &mut [u8], at: usize, s: &[u8], branch: Span, baeref: Span) -> usize
-    requires span_in { SpanIn s.now branch }
-    requires span_in_2 { SpanIn s.now baeref }
+    requires branch_within { SpanIn s.now branch }
+    requires baeref_within { SpanIn s.now baeref }
     ensures { Wrote (row_front s.now branch baeref) at out.old result out.new }
 {
     let a = put_front(out, at, s, branch, 5, 8);
@@ -43,8 +43,8 @@ fn put_row_front(out: &mut [u8], at: usize, s: &[u8], branch: Span, baeref: Span
 
 // The first row: BAEREF's N behind it.
 fn put_reference_row(out: &mut [u8], at: usize, s: &[u8], branch: Span, baeref: Span) -> usize
-    requires span_in { SpanIn s.now branch }
-    requires span_in_2 { SpanIn s.now baeref }
+    requires branch_within { SpanIn s.now branch }
+    requires baeref_within { SpanIn s.now baeref }
     ensures { Wrote (row_front s.now branch baeref ++ past "BAEREFnnnnnn" (span_of s.now baeref) ++ ascii "\r\n") at out.old result out.new }
 {
     let a = put_row_front(out, at, s, branch, baeref);
@@ -70,9 +70,9 @@ pub fn put_listed_rows(
     account: Span,
     baeref: Span,
 ) -> usize
-    requires span_in { SpanIn s.now branch }
-    requires span_in_2 { SpanIn s.now account }
-    requires span_in_3 { SpanIn s.now baeref }
+    requires branch_within { SpanIn s.now branch }
+    requires account_within { SpanIn s.now account }
+    requires baeref_within { SpanIn s.now baeref }
     ensures { Wrote (rows_of s.now branch account baeref) at out.old result out.new }
 {
     let a = put_reference_row(out, at, s, branch, baeref);

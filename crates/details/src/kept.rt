@@ -1,9 +1,25 @@
 // A detail kept.
-ghost use Rattle.std.specs.Prelude.{◌≡◌, ◌<◌};
-ghost use Rattle.details.specs.Kept.{Keeps};
+ghost use Rattle.std.specs.Prelude.{◌≡◌};
+ghost use Rattle.details.specs.Kept.{kept_of};
 
-use crate::places::set_line;
-use forms::{DETAIL_50H, DETAIL_52D, DETAIL_59, DETAIL_BAEREF, Detail, Span};
+use forms::{DETAIL_21, DETAIL_50H, DETAIL_52D, DETAIL_59, DETAIL_BAEREF, Detail, Span};
+
+// What is kept of a detail.
+#[derive(Clone, Copy)]
+pub struct Kept {
+    // Its amount.
+    pub amount: u64,
+    // The line of field 21.
+    pub reference: Span,
+    // 50H's account line and its first three further lines.
+    pub payer: Span,
+    // 52D's lines.
+    pub branch: Span,
+    // 59's account line.
+    pub account: Span,
+    // The line of BAEREF.
+    pub baeref: Span,
+}
 
 // The stretch from the beginning of one line up to that of another.
 fn stretch(p: Span, q: Span) -> Span
@@ -15,22 +31,17 @@ fn stretch(p: Span, q: Span) -> Span
     }
 }
 
-// Detail i: its amount, 50H's account line with the first three further lines, 52D's lines, and the lines of 59 and BAEREF.
-pub fn keep(amounts: &mut [u64; 16], places: &mut [u16; 128], i: u32, d: Detail)
-    requires { i < 16 }
-    ensures { Keeps i d amounts.old places.old amounts.new places.new }
-{
-    amounts[i as usize] = d.amount;
-    set_line(
-        places,
-        4 * i,
-        stretch(d.spans[DETAIL_50H], d.spans[DETAIL_50H + 4]),
-    );
-    set_line(
-        places,
-        4 * i + 1,
-        stretch(d.spans[DETAIL_52D], d.spans[DETAIL_52D + 2]),
-    );
-    set_line(places, 4 * i + 2, d.spans[DETAIL_59]);
-    set_line(places, 4 * i + 3, d.spans[DETAIL_BAEREF]);
+impl From<Detail> for Kept {
+    ghost from_gives = { λ d k. k ≡ kept_of d };
+
+    fn from(d: Detail) -> Self {
+        Kept {
+            amount: d.amount,
+            reference: d.spans[DETAIL_21],
+            payer: stretch(d.spans[DETAIL_50H], d.spans[DETAIL_50H + 4]),
+            branch: stretch(d.spans[DETAIL_52D], d.spans[DETAIL_52D + 2]),
+            account: d.spans[DETAIL_59],
+            baeref: d.spans[DETAIL_BAEREF],
+        }
+    }
 }

@@ -2,7 +2,5 @@
 #![tactic(auto)]
 
 mod kept;
-mod places;
 
-pub use kept::keep;
-pub use places::{line_at, set_line};
+pub use kept::Kept;

@@ -1,6 +1,7 @@
 -- The positions of an area walked from one to the next, up to the place of a key.
-use Rattle.std.specs.Prelude.{◌≡◌, refl, Bool, true, false, List, ◌∷◌, map, ℕ, zero, suc, ◌+◌, ◌*◌, ◌≤◌, ◌<◌, get_or, take, drop}
-use Rattle.std.proofs.Common.{sym, ◌∙◌, arith, drop_of_length-le, drop-drop, drop-cons}
+use Rattle.std.specs.Prelude.{◌≡◌, refl, Bool, true, false, not, List, ◌∷◌, map, ℕ, zero, suc, ◌+◌, ◌*◌, ◌≤◌, ◌<◌, get_or, take, drop}
+use Rattle.std.proofs.Common.{◌∙◌, arith, drop_of_length-le, drop-drop, drop-cons}
+use Rattle.std.proofs.Math.Bool.{not-not}
 use Rattle.std.proofs.Math.ListN.{length}
 use Rattle.rules.specs.Text.{is_some}
 use Rattle.rules.specs.Engine.{Key, Position, key_before, same_key}
@@ -58,16 +59,16 @@ module _ (a : List ℕ) (n i : ℕ) (m : Many a n) where
       pub walk_end : n ≤ i → PlaceOf k (decode a).positions i
       walk_end h = place_end g (omega (arith, m.same))
 
-      module _ (t : Bool) (h : i < n) (p : ℕ) (w : p ≡ positions_place + record_size * i) (l : Key) (f : l ≡ key_at a p) (e : t ≡ key_before l k) where
-        here : key_before (get_or (decode a).positions i (position k 0 0)).key k ≡ t
+      module _ (t : Bool) (h : i < n) (p : ℕ) (w : p ≡ positions_place + record_size * i) (l : Key) (f : l ≡ key_at a p) (e : t ≡ not (key_before l k)) where
+        here : key_before (get_or (decode a).positions i (position k 0 0)).key k ≡ not t
         unfolding value_at position_in
-        here = rw (nth_read a i (position k 0 0) (omega (arith, m.same)), ← w, ← f) (sym e)
+        here = rw (nth_read a i (position k 0 0) (omega (arith, m.same)), ← w, ← f, e, not-not)
 
-        pub walk_on : t ≡ true → KeysBefore k (decode a).positions (i + 1)
-        walk_on d = before_more g (omega (arith, m.same)) (here ∙ d)
+        pub walk_on : t ≡ false → KeysBefore k (decode a).positions (i + 1)
+        walk_on d = before_more g (omega (arith, m.same)) (here ∙ rw d)
 
-        pub walk_here : t ≡ false → PlaceOf k (decode a).positions i
-        walk_here d = place_here g (omega (arith, m.same)) (here ∙ d)
+        pub walk_here : t ≡ true → PlaceOf k (decode a).positions i
+        walk_here d = place_here g (omega (arith, m.same)) (here ∙ rw d)
 
     -- is the position there that of a key?
     pub first_none : n ≤ i → false ≡ is_first k (drop i (decode a).positions)

@@ -1,18 +1,18 @@
 -- A bank's reference compared with those of an area: its bytes against a text that ends at the first zero.
 use Rattle.std.specs.Prelude.{◌≡◌, Bool, cond, ℕ, ◌+◌, ◌-◌, ◌*◌, ◌≤◌, ◌<◌, eqb, length, get_or, take, drop}
 use Rattle.std.proofs.Math.Path.{refl, ap}
-use Rattle.std.proofs.Common.{sym, ◌∙◌, arith, eq-eqb, ne_eqb, eqb-true, lit≤}
+use Rattle.std.proofs.Common.{sym, ◌∙◌, arith, eqb-true, lit≤}
 use Rattle.std.proofs.Math.Bool.{true, false, and-true, and-false}
 use mathlib.Core.List.{List, [], ◌∷◌}
-use Rattle.std.proofs.Math.Nat.{add-zero}
+use Rattle.std.proofs.Math.Nat.{add-zero, zero-add, sub-zero}
 use Rattle.rules.specs.Text.{is_text, every, equal, any}
 use Rattle.rules.specs.Engine.{Reference, same_reference}
-use Rattle.rules.specs.Area.{until_zero, reference_in, positions_place, record_size, number_at, references_place}
-use Rattle.laws.specs.Parts.{cut, cut_step, cut_done, cut_length, cut_drop, cut_take}
+use Rattle.rules.specs.Area.{until_zero, reference_in, record_size, number_at, references_place}
+use Rattle.laws.specs.Parts.{cut, cut_step, cut_done, cut_length, cut_drop, cut_take, cut_all}
 use Rattle.laws.specs.Tests.{cond_left, cond_right}
 use Rattle.engine_laws.specs.Checked.{text_in}
 use Rattle.engine_laws.specs.Layout.{text_byte}
-use Rattle.engine_laws.specs.Records.{number_within}
+use Rattle.engine_laws.specs.Records.{number_within, cut_is}
 use Rattle.engine_laws.specs.Tests.{value_at}
 use Rattle.text.specs.Numbers.{NumberAt}
 use Rattle.engine.specs.Positions.{values_at, values_next, values_none}
@@ -20,6 +20,10 @@ use Rattle.engine.specs.Positions.{values_at, values_next, values_none}
 -- a bank's reference
 abbrev pub of_bank : ℕ → List ℕ → Reference
 of_bank bank text = record { sender = bank; text = text }
+
+-- the bytes of a text from a up to b, as a slice has them
+pub part_is : (s : List ℕ) (a b : ℕ) → a ≤ b → take (b - a) (drop a s) ≡ cut s a b
+part_is s a b h = let e : a + (b - a) ≡ b = omega arith in sym (rw e at (cut_is s a (b - a)))
 
 -- the reference at a place, and those of an area
 abbrev pub reference_at : List ℕ → ℕ → Reference
@@ -61,22 +65,21 @@ until_equal (x ∷ xs) (y ∷ ys) t h = go (eqb y 0) refl (eqb x y) refl (until_
     go false f true g i = rw (f, g) i
     go false f false g i = rw (f, g)
 
-module _ (area s : List ℕ) (q a b r : ℕ) (h : a ≤ b) (k : b ≤ length s) (m : b - a ≤ 16) (l : q + 16 ≤ length area) (t : every is_text (cut s a b) ≡ true) where
-  whole : equal (cut s a b) (until_zero (cut area q (q + 16))) ≡ cond (equal (cut s a b) (cut area q (q + (b - a)))) (equal [] (until_zero (cut area (q + (b - a)) (q + 16)))) false
+module _ (area xs : List ℕ) (q : ℕ) (h : length xs ≤ 16) (l : q + 16 ≤ length area) (t : every is_text xs ≡ true) where
+  whole : equal xs (until_zero (cut area q (q + 16))) ≡ cond (equal xs (cut area q (q + length xs))) (equal [] (until_zero (cut area (q + length xs) (q + 16)))) false
   whole =
-      let n : length (cut s a b) ≡ b - a = cut_length s a b k in
       let o : length (cut area q (q + 16)) ≡ 16 = cut_length area q (q + 16) l ∙ omega arith in
-      rw (n, cut_take area q (q + 16) (b - a) (omega arith), cut_drop area q (q + 16) (b - a)) at (until_equal (cut s a b) (cut area q (q + 16)) t (omega arith))
+      rw (cut_take area q (q + 16) (length xs) (omega arith), cut_drop area q (q + 16) (length xs)) at (until_equal xs (cut area q (q + 16)) t (omega arith))
 
-  module _ (u : eqb r 0 ≡ equal (cut s a (a + (b - a))) (cut area q (q + (b - a)))) where
-    told : eqb r 0 ≡ equal (cut s a b) (cut area q (q + (b - a)))
-    told = let e : a + (b - a) ≡ b = omega arith in rw e at u
+  module _ (r : Bool) (u : r ≡ equal (cut xs 0 (0 + length xs)) (cut area q (q + length xs))) where
+    told : r ≡ equal xs (cut area q (q + length xs))
+    told = rw (zero-add (length xs), cut_all xs) at u
 
-    pub text_other : (r ≡ 0 → ⊥) → false ≡ equal (cut s a b) (until_zero (cut area q (q + 16)))
-    text_other d = sym (whole ∙ rw (← told, ne_eqb r 0 d))
+    pub text_other : r ≡ false → false ≡ equal xs (until_zero (cut area q (q + 16)))
+    text_other d = sym (whole ∙ rw (← told, d))
 
-    pub text_same : r ≡ 0 → (x : Bool) → x ≡ equal [] (until_zero (cut area (q + (b - a)) (q + 16))) → x ≡ equal (cut s a b) (until_zero (cut area q (q + 16)))
-    text_same d x v = v ∙ sym (whole ∙ rw (← told, eq-eqb r 0 d))
+    pub text_same : r ≡ true → {x : Bool} → x ≡ equal [] (until_zero (cut area (q + length xs) (q + 16))) → x ≡ equal xs (until_zero (cut area q (q + 16)))
+    text_same d v = v ∙ sym (whole ∙ rw (← told, d))
 
 -- ---- one reference
 
@@ -98,28 +101,32 @@ module _ (area : List ℕ) (p : ℕ) where
     unfolding same_reference
     reference_bank d v n = rw (sender_at, ← n.value, text_at_lem, ← u, d, and-true)
 
--- ---- among those of an area: the k records from p on answer for all
+-- ---- among those of an area: the records from the i-th of n on answer for all
 
-pub record Among (area : List ℕ) (p k : ℕ) (r : Reference) (x : Bool) : Type 0 where
-  pub room : p + record_size * k ≤ positions_place
-  pub same : any (same_reference r) (references_at area p k) ≡ x
+pub record Among (area : List ℕ) (n : ℕ) (r : Reference) (i : ℕ) : Type 0 where
+  pub same : any (same_reference r) (references_at area (references_place + record_size * i) (n - i)) ≡ any (same_reference r) (references_at area references_place n)
 
-module _ (area : List ℕ) (r : Reference) where
-  pub among_start : (n : ℕ) → n ≤ 64 → Among area references_place n r (any (same_reference r) (references_at area references_place n))
-  among_start n h = record { room = omega arith; same = refl }
+module _ (area : List ℕ) (n : ℕ) (r : Reference) where
+  pub among_start : Among area n r 0
+  among_start = record { same = rw sub-zero }
 
-  module _ (p k : ℕ) (x : Bool) (m : Among area p k r x) where
-    pub among_end : k ≤ 0 → false ≡ x
+  module _ (i : ℕ) (m : Among area n r i) where
+    pub among_end : n ≤ i → false ≡ any (same_reference r) (references_at area references_place n)
     unfolding any
-    among_end h = rw (values_none reference_in area p k h) at m.same
+    among_end h = rw (values_none reference_in area (references_place + record_size * i) (n - i) (omega arith)) at m.same
 
-    module _ (h : 0 < k) (t : Bool) (u : t ≡ same_reference r (reference_at area p)) where
-      pub among_found : t ≡ true → true ≡ x
+    module _ (h : i < n) (t : Bool) (u : t ≡ same_reference r (reference_at area (references_place + record_size * i))) where
+      next : any (same_reference r) (references_at area (references_place + record_size * i) (n - i)) ≡ cond t true (any (same_reference r) (references_at area (references_place + record_size * (i + 1)) (n - (i + 1))))
       unfolding any
-      among_found d = rw (values_next reference_in area p k h, ← u, d) at m.same
+      next =
+          let e : references_place + record_size * i + record_size ≡ references_place + record_size * (i + 1) = omega arith in
+          let f : n - i - 1 ≡ n - (i + 1) = omega arith in
+          rw (values_next reference_in area (references_place + record_size * i) (n - i) (omega arith), ← u, e, f)
 
-      pub among_on : t ≡ false → Among area (p + record_size) (k - 1) r x
-      unfolding any
-      among_on d = record { room = omega (arith, m.room); same = rw (values_next reference_in area p k h, ← u, d) at m.same }
+      pub among_found : t ≡ true → true ≡ any (same_reference r) (references_at area references_place n)
+      among_found d = rw (next, d) at m.same
+
+      pub among_on : t ≡ false → Among area n r (i + 1)
+      among_on d = record { same = rw (next, d) at m.same }
 
 pub ruleset used = (ends_byte, ends_room, text_other, text_same, reference_other, reference_bank, among_start, among_end, among_found, among_on)

@@ -1,5 +1,5 @@
 -- The totals of a key's position, looked up at its place.
-use Rattle.std.specs.Prelude.{◌≡◌, Bool, List, ℕ, suc, ◌+◌, ◌*◌, ◌≤◌, ◌<◌, ◌^◌}
+use Rattle.std.specs.Prelude.{◌≡◌, Bool, List, ℕ, suc, ◌+◌, ◌*◌, ◌≤◌, ◌<◌, ◌^◌, Option, Some, None, is_some, unwrap_or}
 use Rattle.std.proofs.Math.Path.{refl}
 use Rattle.std.proofs.Common.{sym, ap, ◌∙◌, arith, lit<, drop_of_length-le}
 use Rattle.std.proofs.Math.Bool.{true, false}
@@ -7,25 +7,36 @@ use Rattle.std.proofs.Math.Dec.{leb}
 use Rattle.std.proofs.Math.ListN.{length, drop}
 use borrow.Author.Tests.{leb-true, leb-false}
 use Rattle.rules.specs.Engine.{Key, Position, position_of, is_open}
-use Rattle.rules.specs.Text.{is_some}
+use Rattle.rules.specs.Text.{is_some as is_some_of}
 use Rattle.rules.specs.Area.{decode, holds, positions_place, record_size}
 use Rattle.laws.specs.Tests.{never}
 use Rattle.engine_laws.specs.Positions.{found_same}
+use Rattle.position.specs.declared.Key as K
 use Rattle.position.specs.declared.Position as P
-use Rattle.engine.specs.declared.lookup.Totals.{Totals}
+use Rattle.position.specs.Values.{key_value, position_value, empty}
 use Rattle.engine.specs.declared.header.Header.{Header}
 use Rattle.engine.specs.Header.{HeaderOf}
 use Rattle.engine.specs.Positions.{nth_position, PositionAt}
 use Rattle.engine.specs.Places.{position, is_first, PlaceOf}
 use Rattle.engine.specs.Records.{Many, many, positions_from_lem}
 
--- r has what the position of a key has, each total of six bytes
-pub record TotalsOf (ps : List Position) (k : Key) (r : Totals) : Type 0 where
-  pub opens : r.is_open ≡ is_open k ps
-  pub transferred : r.transferred ≡ (position_of k ps).transferred
-  pub detailed : r.detailed ≡ (position_of k ps).detailed
-  pub transferred_small : r.transferred < 2 ^ 48
-  pub detailed_small : r.detailed < 2 ^ 48
+-- what a position begins with where none is open
+abbrev pub begun : K.Key → Option P.Position → P.Position
+begun k r = unwrap_or r (empty k)
+
+-- r is the position of a key, if it is open; each total of six bytes
+pub record TotalsOf (ps : List Position) (k : K.Key) (r : Option P.Position) : Type 0 where
+  pub opens : is_some r ≡ is_open (key_value k) ps
+  pub same : position_value (begun k r) ≡ position_of (key_value k) ps
+  pub transferred_small : (begun k r).transferred < 2 ^ 48
+  pub detailed_small : (begun k r).detailed < 2 ^ 48
+
+module _ {ps : List Position} {k : K.Key} {r : Option P.Position} (w : TotalsOf ps k r) where
+  pub total_transferred : (begun k r).transferred ≡ (position_of (key_value k) ps).transferred
+  total_transferred = ap (λ (y : Position). y.transferred) w.same
+
+  pub total_detailed : (begun k r).detailed ≡ (position_of (key_value k) ps).detailed
+  total_detailed = ap (λ (y : Position). y.detailed) w.same
 
 -- an open position stands at its place
 pub record PositionFound (a : List ℕ) (n i : ℕ) (k : Key) : Type 0 where
@@ -46,28 +57,16 @@ module _ (a : List ℕ) (n i : ℕ) (k : Key) (m : Many a n) (p : PlaceOf k (dec
           let c : drop i (decode a).positions ≡ _ = positions_from_lem a n i m l in
           record { inside = l; is = p.found ∙ rw (c, found_same (position k 0 0) (nth_position a i) (drop (suc i) (decode a).positions) (rw c at f)) }
 
-module _ (a : List ℕ) (x : Header) (i : ℕ) (k : Key) (s : is_some (holds a) ≡ true) (n : HeaderOf a x) (p : PlaceOf k (decode a).positions i) (t : Bool) (e : t ≡ is_first k (drop i (decode a).positions)) where
+module _ (a : List ℕ) (x : Header) (i : ℕ) (k : K.Key) (s : is_some_of (holds a) ≡ true) (n : HeaderOf a x) (p : PlaceOf (key_value k) (decode a).positions i) (t : Bool) (e : t ≡ is_first (key_value k) (drop i (decode a).positions)) where
   module _ (h : t ≡ true) where
-    here : PositionFound a x.positions i k
-    here = found a x.positions i k (many a x s n) p (sym e ∙ h)
+    here : PositionFound a x.positions i (key_value k)
+    here = found a x.positions i (key_value k) (many a x s n) p (sym e ∙ h)
 
     pub found_place : i < 32
     found_place = omega (arith, here.inside, n.positions_few)
 
-    pub totals_found : (q : P.Position) → PositionAt a (positions_place + record_size * i) q → TotalsOf (decode a).positions k (record { is_open = true; transferred = q.transferred; detailed = q.detailed })
-    totals_found q v = record {
-      opens = sym (p.opens ∙ sym e ∙ h);
-      transferred = ap (λ (y : Position). y.transferred) (v.value ∙ sym here.is);
-      detailed = ap (λ (y : Position). y.detailed) (v.value ∙ sym here.is);
-      transferred_small = v.transferred;
-      detailed_small = v.detailed;
-    }
+    pub totals_found : (q : P.Position) → PositionAt a (positions_place + record_size * i) q → TotalsOf (decode a).positions k (Some q)
+    totals_found q v = record { opens = sym (p.opens ∙ sym e ∙ h); same = v.value ∙ sym here.is; transferred_small = v.transferred; detailed_small = v.detailed }
 
-  pub totals_missing : t ≡ false → TotalsOf (decode a).positions k (record { is_open = false; transferred = 0; detailed = 0 })
-  totals_missing h = record {
-    opens = sym (p.opens ∙ sym e ∙ h);
-    transferred = ap (λ (y : Position). y.transferred) (sym (p.missing (sym e ∙ h)));
-    detailed = ap (λ (y : Position). y.detailed) (sym (p.missing (sym e ∙ h)));
-    transferred_small = lit< tt;
-    detailed_small = lit< tt;
-  }
+  pub totals_missing : t ≡ false → TotalsOf (decode a).positions k None
+  totals_missing h = record { opens = sym (p.opens ∙ sym e ∙ h); same = sym (p.missing (sym e ∙ h)); transferred_small = lit< tt; detailed_small = lit< tt }

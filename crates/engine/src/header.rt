@@ -44,7 +44,7 @@ pub fn header_at(area: &[u8]) -> Header
     }
 }
 
-// The header of an area that holds an engine.
+// The header of an area that holds an engine. Beside `header_at`: its callers know of an engine and of no length, and learn what the numbers count.
 pub fn header_of(area: &[u8]) -> Header
     requires { is_some (holds area.now) ≡ true }
     ensures { HeaderOf area.now result }

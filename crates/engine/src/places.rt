@@ -6,22 +6,19 @@ ghost use Rattle.engine.specs.Places.{is_first, PlaceOf};
 ghost use Rattle.engine.specs.Records.{Many};
 
 use crate::positions::{key_at, position_place};
-use position::{Key, is_before, is_same};
+use position::Key;
 
 // How many of the n positions stand before a key.
 pub fn place_of(area: &[u8], n: u32, k: Key) -> u32
     requires { Many area.now n }
     ensures { PlaceOf (key_value k) (decode area.now).positions result }
 {
-    let mut i: u32 = 0;
-    while i < n {
-        if is_before(key_at(area, position_place(i)), k) {
-            i += 1;
-        } else {
+    for i in 0..n {
+        if key_at(area, position_place(i)) >= k {
             return i;
         }
     }
-    i
+    n
 }
 
 // Is the i-th position that of a key?
@@ -29,8 +26,5 @@ pub fn is_at(area: &[u8], n: u32, i: u32, k: Key) -> bool
     requires { Many area.now n }
     ensures { result ≡ is_first (key_value k) (drop i (decode area.now).positions) }
 {
-    if i >= n {
-        return false;
-    }
-    is_same(key_at(area, position_place(i)), k)
+    i < n && key_at(area, position_place(i)) == k
 }

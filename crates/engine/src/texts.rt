@@ -26,10 +26,8 @@ pub fn text_place(area: &[u8], k: u32) -> usize
     ensures { PlaceAt area.now k result }
 {
     let mut p = TEXTS;
-    let mut i: u32 = 0;
-    while i < k {
+    for i in 0..k {
         p += length_at(area, i);
-        i += 1;
     }
     p
 }

@@ -12,7 +12,6 @@ use Rattle.rules.specs.Engine.{Key, Position, Reference, Engine, limit, position
 use Rattle.rules.specs.Calls.{addition, own_reference, position_after, no_room, over_limit, messages_written, after_message}
 use Rattle.rules.specs.Area.{reference_record, key_bytes, position_record, header, encode, decode, holds, area_size, positions_place, positions_room, references_room, texts_of, references_place, record_size}
 use Rattle.laws.specs.Digits.{places_length}
-use Rattle.laws.specs.Parts.{cut, cut_length}
 use Rattle.laws.specs.Laid.{laid, laid_length}
 use Rattle.laws.specs.Writing.{Wrote, wrote_then}
 use Rattle.laws.specs.Sections.{Each, inserted, replaced, each_map, each_inserted, map_inserted, padded_length}
@@ -165,20 +164,19 @@ pub reference_wide : (r : Reference) → length r.text ≤ 16 → length (refere
 unfolding reference_record
 reference_wide r h = rw (length-append, places_length, padded_length 16 r.text h)
 
-module _ (a : List ℕ) (x : Header) (q : Position) (bank : ℕ) (text : List ℕ) (from to count : ℕ) (h : is_some (holds a) ≡ true) (n : HeaderOf a x) (g : CanBook (decode a) q) where
-  module _ {i : ℕ} (f : FiledAt (of_bank bank (cut text from to)) (decode a).references i) {k : ℕ} {b : List ℕ} (p : Positions (booked q (decode a).positions) a k b) where
+module _ (a : List ℕ) (x : Header) (q : Position) (bank : ℕ) (cs : List ℕ) (count : ℕ) (h : is_some (holds a) ≡ true) (n : HeaderOf a x) (g : CanBook (decode a) q) where
+  module _ {i : ℕ} (f : FiledAt (of_bank bank cs) (decode a).references i) {k : ℕ} {b : List ℕ} (p : Positions (booked q (decode a).positions) a k b) where
     -- there is room for the reference
     pub file_fits : RoomFor references_place record_size x.references i (length b)
     file_fits =
         let l : length b ≡ length a = ap length p.bytes ∙ laid_length (position_part (booked q (decode a).positions)) positions_place a in
         opens references_place record_size x.references i (length b) (omega (arith, f.within, n.references)) (omega (arith, g.references_few, n.references, n.long, l))
 
-    pub book_done : {z : ℕ} {c d : List ℕ} → to ≤ length text → to - from ≤ 16 → Files x.references i (of_bank bank (cut text from to)) b c
-        → Wrote (numbers x.day count k (x.references + 1)) 0 c z d → d ≡ encode (booked_with (decode a) q (of_bank bank (cut text from to)) count) ++ drop area_size a
+    pub book_done : {z : ℕ} {c d : List ℕ} → length cs ≤ 16 → Files x.references i (of_bank bank cs) b c
+        → Wrote (numbers x.day count k (x.references + 1)) 0 c z d → d ≡ encode (booked_with (decode a) q (of_bank bank cs) count) ++ drop area_size a
     unfolding booked_with texts_of reference_part
-    book_done {z} {c} {d} j m u w =
-        let r : Reference = of_bank bank (cut text from to) in
-        let s : length r.text ≤ 16 = rw (cut_length text from to j) m in
+    book_done {z} {c} {d} s u w =
+        let r : Reference = of_bank bank cs in
         let e : Engine = decode a in
         let rs : List Reference = e.references in
         let H : EngineIn a e = decoded a h in

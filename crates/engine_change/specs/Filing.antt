@@ -1,12 +1,12 @@
 -- The place of a reference among those of an area, which stand by sender in byte order and then text: it is put before the first one that does not precede it.
 use Rattle.std.specs.Prelude.{◌≡◌, Bool, true, false, List, [], ℕ, ◌+◌, ◌-◌, ◌*◌, ◌≤◌, ◌<◌, length, get_or}
 use Rattle.std.proofs.Math.Path.{refl}
-use Rattle.std.proofs.Common.{sym, ◌∙◌, arith}
+use Rattle.std.proofs.Common.{sym, ◌∙◌, arith, zero-add}
 use borrow.Author.Tests.{le-leb, lt-leb, eq-eqb, ne_eqb}
 use Rattle.rules.specs.Text.{is_text, every, text_before}
 use Rattle.rules.specs.Engine.{Reference, precedes, filed}
 use Rattle.rules.specs.Area.{number_at, reference_in, reference_record, decode, area_size, many_references_place, references_place, record_size}
-use Rattle.laws.specs.Parts.{cut}
+use Rattle.laws.specs.Parts.{cut, cut_all}
 use Rattle.laws.specs.Sections.{inserted}
 use Rattle.laws.specs.Putting.{PutBehind, put_on, put_end, put_before}
 use Rattle.laws.specs.Standing.{moved}
@@ -29,14 +29,10 @@ module _ (a : List ℕ) (at x bank : ℕ) (cs : List ℕ) (e : x ≡ number_at a
   unfolding precedes
   sender_high h = rw (sender_at a at, ← e, le-leb bank x (omega arith), ne_eqb x bank (λ (z : x ≡ bank). omega arith))
 
-  same_told : bank ≤ x → x ≤ bank → every is_text cs ≡ true → {r : Bool} → r ≡ text_before (cut a (at + 8) (at + 8 + 16)) cs → r ≡ precedes (reference_at a at) (of_bank bank cs)
+  pub sender_same : bank ≤ x → x ≤ bank → every is_text cs ≡ true → {r : Bool} → r ≡ text_before (cut a (at + 8) (at + 8 + 16)) (cut cs 0 (0 + length cs)) → r ≡ precedes (reference_at a at) (of_bank bank cs)
   unfolding precedes
-  same_told h k t g =
-      rw (sender_at a at, ← e, le-leb bank x h, eq-eqb x bank (omega arith), text_at_lem a at, ← until_before (cut a (at + 8) (at + 8 + 16)) (texts_some cs t)) g
-
-pub sender_same : (a : List ℕ) (at x bank : ℕ) (s : List ℕ) (i j : ℕ) → x ≡ number_at a at 8 → bank ≤ x → x ≤ bank → i ≤ j → every is_text (cut s i j) ≡ true
-    → {r : Bool} → r ≡ text_before (cut a (at + 8) (at + 8 + 16)) (cut s i (i + (j - i))) → r ≡ precedes (reference_at a at) (of_bank bank (cut s i j))
-sender_same a at x bank s i j e h k l t g = let f : i + (j - i) ≡ j = omega arith in same_told a at x bank (cut s i j) e h k t (rw f at g)
+  sender_same h k t g =
+      rw (sender_at a at, ← e, le-leb bank x h, eq-eqb x bank (omega arith), text_at_lem a at, ← until_before (cut a (at + 8) (at + 8 + 16)) (texts_some cs t)) (rw (zero-add (length cs), cut_all cs) at g)
 
 -- ---- its place
 

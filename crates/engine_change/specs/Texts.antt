@@ -1,17 +1,15 @@
 -- Texts and lengths written one behind the other, with zeros behind the last.
-use Rattle.std.specs.Prelude.{◌≡◌, List, [], ◌∷◌, ◌++◌, ℕ, ◌-◌, ◌≤◌, length}
+use Rattle.std.specs.Prelude.{◌≡◌, List, [], ◌∷◌, ◌++◌, ℕ, ◌-◌, length}
 use Rattle.std.proofs.Common.{append_assoc, arith, length-append}
 use Rattle.rules.specs.Text.{bytes}
 use Rattle.rules.specs.Area.{zeros, padded, joined}
 use Rattle.laws.specs.Digits.{places_length}
-use Rattle.laws.specs.Parts.{cut, cut_length}
 use Rattle.laws.specs.Writing.{Wrote, wrote_then}
 
 -- a part of a text and the zeros behind it
-pub padded_wrote : (n : ℕ) (s : List ℕ) (a b : ℕ) {at m r : ℕ} {out out₁ out₂ : List ℕ} → b ≤ length s → Wrote (cut s a b) at out m out₁
-    → Wrote (zeros (n - (b - a))) m out₁ r out₂ → Wrote (padded n (cut s a b)) at out r out₂
+pub padded_wrote : (n : ℕ) (cs : List ℕ) {at m r : ℕ} {out out₁ out₂ : List ℕ} → Wrote cs at out m out₁ → Wrote (zeros (n - length cs)) m out₁ r out₂ → Wrote (padded n cs) at out r out₂
 unfolding padded
-padded_wrote n s a b h v w = rw (cut_length s a b h) (wrote_then v w)
+padded_wrote n cs v w = wrote_then v w
 
 -- in room for n bytes: the first, and the others in the room that it leaves
 first_apart : (n : ℕ) (x : List ℕ) (xs : List (List ℕ)) → padded n (joined (x ∷ xs)) ≡ x ++ padded (n - length x) (joined xs)

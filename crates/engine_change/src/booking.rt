@@ -1,9 +1,8 @@
 // A message booked in an area: its position raised or put in its place, its reference put in its place, the header's numbers.
-ghost use Rattle.std.specs.Prelude.{◌≡◌, true, ◌++◌, ◌-◌, ◌≤◌, length, drop};
+ghost use Rattle.std.specs.Prelude.{◌≡◌, true, ◌++◌, ◌≤◌, length, drop};
 ghost use Rattle.rules.specs.Text.{is_text, every, is_some};
 ghost use Rattle.rules.specs.Engine.{booked};
 ghost use Rattle.rules.specs.Area.{key_bytes, position_record, encode, decode, holds, area_size};
-ghost use Rattle.laws.specs.Parts.{cut};
 ghost use Rattle.laws.specs.Writing.{Wrote};
 ghost use Rattle.position.specs.Values.{key_value, position_value};
 ghost use Rattle.engine.specs.Records.{Many};
@@ -67,21 +66,19 @@ fn book_position(area: &mut [u8], n: u32, p: Position) -> u32
     n + 1
 }
 
-// A bank's message booked: what it adds to its position, its reference, the bytes of s from a up to b, and the outgoing count behind it.
-pub fn book_area(area: &mut [u8], s: &[u8], a: usize, b: usize, p: Position, count: u32)
-    requires area_value { is_some (holds area.old) ≡ true }
+// A bank's message booked: what it adds to its position, its reference, and the outgoing count behind it.
+pub fn book_area(area: &mut [u8], reference: &[u8], p: Position, count: u32)
+    requires holds_engine { is_some (holds area.old) ≡ true }
     requires can_book { CanBook (decode area.old) (position_value p) }
-    requires a_le_b { a ≤ b }
-    requires b_in_bounds { b ≤ length s.now }
-    requires a_bound { b - a ≤ 16 }
-    requires b_value { every is_text (cut s.now a b) ≡ true }
-    ensures { area.new ≡ encode (booked_with (decode area.old) (position_value p) (of_bank p.key.bank (cut s.now a b)) count) ++ drop area_size area.old }
+    requires short { length reference.now ≤ 16 }
+    requires is_text { every is_text reference.now ≡ true }
+    ensures { area.new ≡ encode (booked_with (decode area.old) (position_value p) (of_bank p.key.bank reference.now) count) ++ drop area_size area.old }
 {
     let h = header_of(area);
     let n = h.references;
     let bank = p.key.bank;
-    let i = reference_place(area, n, bank, s, a, b);
+    let i = reference_place(area, n, bank, reference);
     let k = book_position(area, h.positions, p);
-    file_reference(area, n, i, bank, s, a, b);
+    file_reference(area, n, i, bank, reference);
     put_numbers(area, h.day, count, k, n + 1);
 }

@@ -1,7 +1,6 @@
 // Parts of an area that more than one step reads or writes.
-ghost use Rattle.std.specs.Prelude.{◌-◌, ◌≤◌, length};
+ghost use Rattle.std.specs.Prelude.{◌≤◌, length};
 ghost use Rattle.rules.specs.Area.{padded};
-ghost use Rattle.laws.specs.Parts.{cut};
 ghost use Rattle.laws.specs.Writing.{Wrote};
 ghost use Rattle.engine_change.specs.Header.{numbers};
 
@@ -16,13 +15,11 @@ pub fn put_numbers(area: &mut [u8], day: u32, count: u32, positions: u32, refere
     put::put_be(area, d, 1, references as u64)
 }
 
-// A part of a text in room for n bytes, with zeros behind it.
-pub fn put_padded(out: &mut [u8], at: usize, n: usize, src: &[u8], a: usize, b: usize) -> usize
-    requires a_le_b { a ≤ b }
-    requires b_in_bounds { b ≤ length src.now }
-    requires a_bound { b - a ≤ n }
-    ensures { Wrote (padded n (cut src.now a b)) at out.old result out.new }
+// A text in room for n bytes, with zeros behind it.
+pub fn put_padded(out: &mut [u8], at: usize, n: usize, cs: &[u8]) -> usize
+    requires { length cs.now ≤ n }
+    ensures { Wrote (padded n cs.now) at out.old result out.new }
 {
-    let o = put::put_part(out, at, src, a, b);
-    put::put_zeros(out, o, n - (b - a))
+    let o = put::put_bytes(out, at, cs);
+    put::put_zeros(out, o, n - cs.len())
 }

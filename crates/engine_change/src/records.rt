@@ -4,7 +4,7 @@ ghost use Rattle.rules.specs.Area.{area_size};
 ghost use Rattle.laws.specs.Standing.{moved};
 ghost use Rattle.laws.specs.Moving.{RoomFor, Lowers};
 
-use put::{move_down, move_up};
+use put::move_bytes;
 
 // Room before record i of some records of w bytes at base: those from i on are moved up by a record.
 pub fn open_record(area: &mut [u8], base: usize, w: u32, count: u32, i: u32)
@@ -13,7 +13,7 @@ pub fn open_record(area: &mut [u8], base: usize, w: u32, count: u32, i: u32)
     ensures { area.new ≡ moved (base + w * i) (base + w * i + w) (w * (count - i)) area.old }
 {
     let p = base + (w * i) as usize;
-    move_up(area, p, p + w as usize, w * (count - i));
+    move_bytes(area, p, p + w as usize, (w * (count - i)) as usize);
 }
 
 // Record i of w bytes at base, kept as record j.
@@ -22,5 +22,10 @@ pub fn keep_record(area: &mut [u8], base: usize, w: u32, i: u32, j: u32)
     requires lowers { Lowers base w i j (length area.old) }
     ensures { area.new ≡ moved (base + w * i) (base + w * j) w area.old }
 {
-    move_down(area, base + (w * i) as usize, base + (w * j) as usize, w);
+    move_bytes(
+        area,
+        base + (w * i) as usize,
+        base + (w * j) as usize,
+        w as usize,
+    );
 }

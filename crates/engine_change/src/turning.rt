@@ -17,11 +17,7 @@ fn stays_at(area: &[u8], at: usize) -> bool
     requires { at + record_size ≤ length area.now }
     ensures { result ≡ stays (take record_size (drop at area.now)) }
 {
-    let detailed = number_at(area, at + DETAILED, 6);
-    if detailed > 0 {
-        return false;
-    }
-    true
+    number_at(area, at + DETAILED, 6) == 0
 }
 
 // Of n positions those without details are kept, in their order; the room of the others is zero. Answers how many are kept.
@@ -30,15 +26,11 @@ fn remove_detailed(area: &mut [u8], n: u32) -> u32
     requires n_in_bounds { positions_place + record_size * n ≤ length area.old }
     ensures { Sifted stays record_size n positions_place area.old result area.new }
 {
-    let mut i: u32 = 0;
     let mut j: u32 = 0;
-    while i < n {
+    for i in 0..n {
         if stays_at(area, (POSITIONS + RECORD * i) as usize) {
             crate::records::keep_record(area, FIRST_POSITION, RECORD, i, j);
-            i += 1;
             j += 1;
-        } else {
-            i += 1;
         }
     }
     put::put_zeros(

@@ -1,1 +1,3 @@
 pub mod Read
+pub mod Walks
+pub mod Zeros

@@ -6,8 +6,8 @@ ghost use Rattle.engine_laws.specs.Walk.{walk, always};
 ghost use Rattle.engine_laws.specs.Tests.{text_fits, reference_test, filed_test, references_test};
 ghost use Rattle.engine_laws.specs.Texts.{ended_fits};
 
-use crate::header::{zeros_at, zeros_hold};
-use crate::positions::before_last;
+use crate::header::zeros_hold;
+use crate::records::each_passes;
 use engine::layout::{FIRST_POSITION, FIRST_REFERENCE, RECORD, REFERENCES, SIZE, TEXT};
 
 // Are the n bytes at a, a text's, a reference that 5 lets pass, with zeros behind them up to 16?
@@ -23,7 +23,7 @@ fn ended_fits(s: &[u8], a: usize, n: u32) -> bool
     if references::is_slashed(s, a, end) {
         return false;
     }
-    zeros_at(s, end, 16 - n) == 16 - n
+    zeros_hold(s, end, end + (16 - n) as usize)
 }
 
 // Do the 16 bytes at a hold a reference's text?
@@ -31,7 +31,7 @@ fn text_fits(s: &[u8], a: usize) -> bool
     requires { a + 16 ≤ length s.now }
     ensures { result ≡ text_fits (cut s.now a (a + 16)) }
 {
-    ended_fits(s, a, text::texts_at(s, a, 16))
+    ended_fits(s, a, text::leading_at::<text::Text>(s, a, 16))
 }
 
 // Is the record there a bank's reference?
@@ -39,7 +39,7 @@ fn reference_fits(area: &[u8], p: usize) -> bool
     requires { p + record_size ≤ length area.now }
     ensures { result ≡ reference_test area.now p }
 {
-    if !account::is_bic(area, p) {
+    if !account::is_bic(&area[p..p + 8]) {
         return false;
     }
     text_fits(area, p + TEXT)
@@ -47,21 +47,11 @@ fn reference_fits(area: &[u8], p: usize) -> bool
 
 // Is each of the n records a bank's reference?
 fn references_fit(area: &[u8], n: u32) -> bool
-    requires n_bound { n ≤ 64 }
-    requires texts_place_in_bounds { texts_place ≤ length area.now }
+    requires few { n ≤ 64 }
+    requires references_in_bounds { texts_place ≤ length area.now }
     ensures { result ≡ walk (always (reference_test area.now)) n 16 }
 {
-    let mut k = n;
-    let mut p = FIRST_REFERENCE;
-    while k > 0 {
-        if reference_fits(area, p) {
-            k -= 1;
-            p += SIZE;
-        } else {
-            return false;
-        }
-    }
-    true
+    each_passes(FIRST_REFERENCE, n, |p| reference_fits(area, p))
 }
 
 // Does the record there stand before the next one: by sender, then by text?
@@ -83,21 +73,15 @@ fn stands_before(area: &[u8], p: usize) -> bool
 
 // Do the n references stand in order?
 fn references_ordered(area: &[u8], n: u32) -> bool
-    requires n_bound { n ≤ 64 }
-    requires texts_place_in_bounds { texts_place ≤ length area.now }
+    requires few { n ≤ 64 }
+    requires references_in_bounds { texts_place ≤ length area.now }
     ensures { result ≡ walk (always (filed_test area.now)) (n - 1) 16 }
 {
-    let mut k = before_last(n);
-    let mut p = FIRST_REFERENCE;
-    while k > 0 {
-        if stands_before(area, p) {
-            k -= 1;
-            p += SIZE;
-        } else {
-            return false;
-        }
-    }
-    true
+    each_passes(
+        FIRST_REFERENCE,
+        n.saturating_sub(1),
+        |p| stands_before(area, p),
+    )
 }
 
 // Does the section of n references pass?

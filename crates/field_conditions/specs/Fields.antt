@@ -16,6 +16,7 @@ use Rattle.laws.specs.Parts.{cut, cut_length, cut_take, cut_drop, cut_all, from,
 use Rattle.laws.specs.Tests.{not_holds}
 use Rattle.laws.specs.Reading.{fits_length}
 use Rattle.laws.specs.Equal.{equal_true}
+use Rattle.account.specs.Part.{part_at}
 use Rattle.forms.specs.Spans.{span_of, SpanIn}
 use Rattle.forms.specs.Fields.{Behind, behind_in, behind_bytes}
 use Rattle.forms.specs.declared.rows.Span.{Span}
@@ -77,9 +78,12 @@ module _ (s : List ℕ) (p : Span) (w : SpanIn s p) where
       let e : false ≡ fits (ascii "BGnnaaaannnnnncccccccc") (take 22 (drop 6 (span_of s p))) = not_holds _ (λ q. omega (arith, fits_length _ _ q)) in
       rw (← e)
 
-  module _ (h : p.start + 6 + 22 ≤ p.end) (t : Bool) (u : t ≡ passes (cut s (p.start + 6) (p.start + 6 + 22))) where
-    account : take 22 (drop 6 (span_of s p)) ≡ cut s (p.start + 6) (p.start + 6 + 22)
-    account = rw (cut_drop, cut_take s (p.start + 6) p.end 22 h)
+  module _ (h : p.start + 6 + 22 ≤ p.end) (t : Bool) (u : t ≡ passes (take (p.start + 6 + 22 - (p.start + 6)) (drop (p.start + 6) s))) where
+    account : take 22 (drop 6 (span_of s p)) ≡ take (p.start + 6 + 22 - (p.start + 6)) (drop (p.start + 6) s)
+    account = rw (part_at s (p.start + 6) 22, cut_drop, cut_take s (p.start + 6) p.end 22 h)
+
+    bank : take 4 (drop 4 (take 22 (drop 6 (span_of s p)))) ≡ cut s (p.start + 6 + 4) (p.start + 6 + 4 + 4)
+    bank = rw (account, part_at s (p.start + 6) 22, cut_drop, cut_take s (p.start + 6 + 4) (p.start + 6 + 22) 4 (omega arith))
 
     pub payer_not : t ≡ false → true ≡ foreign (sender s) (span_of s p)
     unfolding foreign
@@ -88,10 +92,10 @@ module _ (s : List ℕ) (p : Span) (w : SpanIn s p) where
     module _ (d : t ≡ true) (q : Bool) (v : q ≡ equal (cut s (p.start + 6 + 4) (p.start + 6 + 4 + 4)) (cut s 4 8)) where
       pub payer_own : q ≡ true → false ≡ foreign (sender s) (span_of s p)
       unfolding foreign
-      payer_own g = rw (account, ← u, d, cut_drop, cut_take s (p.start + 6 + 4) (p.start + 6 + 22) 4 (omega arith), sender_cut, ← v, g)
+      payer_own g = rw (bank, account, ← u, d, sender_cut, ← v, g)
 
       pub payer_other : q ≡ false → true ≡ foreign (sender s) (span_of s p)
       unfolding foreign
-      payer_other g = rw (account, ← u, d, cut_drop, cut_take s (p.start + 6 + 4) (p.start + 6 + 22) 4 (omega arith), sender_cut, ← v, g)
+      payer_other g = rw (bank, account, ← u, d, sender_cut, ← v, g)
 
 pub ruleset fielding = (behind_in, slashed_there, same_there, sum_zero, sum_short, sum_other, sum_good, payer_short, payer_not, payer_own, payer_other)

@@ -1,5 +1,5 @@
 -- The conditions in their order, as the code asks them, and that they are document 01's.
-use Rattle.std.specs.Prelude.{◌≡◌, refl, Bool, true, false, ◌||◌, not, cond, List, ℕ, eqb, get_or, take}
+use Rattle.std.specs.Prelude.{◌≡◌, refl, Bool, true, false, ◌||◌, not, cond, List, ℕ, eqb, get_or, take, Result, Ok, Err}
 use Rattle.std.proofs.Math.Option.{some}
 use Rattle.std.proofs.Common.{arith, eq-eqb, ne_eqb}
 use Rattle.rules.specs.Text.{equal, any, twice}
@@ -9,6 +9,8 @@ use Rattle.rules.specs.Forms.{message20, transfer32a, transfer59, detail21, deta
 use Rattle.rules.specs.Messages as M
 use Rattle.rules.specs.Messages.{mt103, field20, account103, field21, currency32b, reference_of, details_of, past}
 use Rattle.rules.specs.Calls.{form_stops, first_of, holds_of, bad_reference, bad_sum, bad_amount, foreign_payer, bad_account, many_dates}
+use Rattle.refusal.specs.Numbers.{number_of}
+use Rattle.refusal.specs.declared.Refusal.{Refusal}
 use Rattle.forms.specs.Spans.{span_of, no_span, within_at, span_line}
 use Rattle.forms.specs.Details.{detail_in}
 use Rattle.forms.specs.Transfers.{transfer_in}
@@ -62,9 +64,14 @@ transfer_stops s temporary t =
 
 -- ---- a detail
 
--- above the conditions of a detail: none of them holds
+-- above all conditions of refusal: none holds
 abbrev pub no_stop : ℕ
-no_stop = 9
+no_stop = 20
+
+-- the number of what refuses a detail, and `no_stop` where nothing does
+abbrev pub low_of : {A : Type 0} → Result A Refusal → ℕ
+low_of (Ok v) = no_stop
+low_of (Err r) = number_of r
 
 -- 5 to 8 of one detail of a bank, day being the date of the first; `no_stop` where none holds
 unfoldable pub lowest : List ℕ → ℕ → M.Detail → ℕ

@@ -50,7 +50,7 @@ pub fn is_foreign(s: &[u8], p: Span) -> bool
     if e < a + 22 {
         return true;
     }
-    if iban_passes(s, a) {
+    if iban_passes(&s[a..a + 22]) {
         if equal_parts(s, a + 4, s, 4, 4) {
             return false;
         }

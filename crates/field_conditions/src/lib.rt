@@ -5,4 +5,4 @@ mod fields;
 mod stops;
 
 pub use fields::slashed_behind;
-pub use stops::{NO_STOP, detail_stop, transfer_stop};
+pub use stops::{detail_stop, transfer_stop};

@@ -1,13 +1,13 @@
 -- A detail as the code reads it: its rows, then 32B's amount and the dates of 70.
-use Rattle.std.specs.Prelude.{◌≡◌, refl, true, false, cond, List, ℕ, ◌+◌, ◌^◌, ◌≤◌, ◌<◌, length, get_or, take}
-use Rattle.std.proofs.Math.Option.{Option, none, some}
+use Rattle.std.specs.Prelude.{◌≡◌, refl, true, List, ℕ, ◌+◌, ◌^◌, ◌≤◌, ◌<◌, length, get_or, take}
+use Rattle.std.proofs.Math.Option.{none, some}
 use Rattle.std.proofs.Common.{arith, length-take, get_or-take}
 use Rattle.rules.specs.Lines.{Line}
 use Rattle.rules.specs.Forms.{Row, fits_row, take_rows, detail_rows, detail32b, detail_centrb, detail_baeref}
 use Rattle.rules.specs.Messages as M
 use Rattle.rules.specs.Messages.{TakenDetail, line_of, detail_of, take_detail}
 use Rattle.laws.specs.Parts.{from}
-use Rattle.laws.specs.Tests.{never, and_left, answer_is}
+use Rattle.laws.specs.Tests.{and_left}
 use Rattle.laws.specs.Reading.{fits_length}
 use Rattle.rule_laws.specs.Messages.{detail_read, row_first, none_row}
 use Rattle.forms.specs.Table.{table, part}
@@ -22,43 +22,33 @@ use Rattle.forms.specs.declared.detail.Detail.{Detail}
 abbrev pub detail_in : List ℕ → Detail → M.Detail
 detail_in s r = record { rows = lines_at s r.spans 17; date = r.date; amount = r.amount }
 
--- and what stands behind it
-abbrev pub detailed_of : List ℕ → Detail → Option TakenDetail
-detailed_of s r = cond r.ok (some record { detail = detail_in s r; others = from s r.next }) none
-
--- it is the detail that begins at `at`
-pub record DetailAt (s : List ℕ) (at : ℕ) (r : Detail) : Type 0 where
-  pub same : detailed_of s r ≡ take_detail (from s at)
-  pub next : r.next ≤ length s
-  pub within : SpansWithin s r.spans
-  pub small : r.amount < 10 ^ 16
-  pub stand : RowsStand s at 17 r.ok r.spans r.next
+-- d is the detail that begins at `at`, and the text goes on behind it
+pub record DetailAt (s : List ℕ) (at : ℕ) (d : Detail) : Type 0 where
+  pub same : take_detail (from s at) ≡ some record { detail = detail_in s d; others = from s d.next }
+  pub next : d.next ≤ length s
+  pub within : SpansWithin s d.spans
+  pub small : d.amount < 10 ^ 16
+  pub stand : RowsStand s at 17 d.spans d.next
 
 detail_rows_lem : part 23 17 ≡ detail_rows
 unfolding part table
 detail_rows_lem = refl
 
+-- no rows, no detail
+pub no_detail_rows : (s : List ℕ) (at : ℕ) → take_rows (part 23 17) (from s at) ≡ none → take_detail (from s at) ≡ none
+unfolding take_detail
+no_detail_rows s at h = let e : take_rows detail_rows (from s at) ≡ none = rw detail_rows_lem at h in rw e
+
 module _ (s : List ℕ) (at : ℕ) (r : Rows) (w : RowsAt s at 23 17 r) where
-  pub detail_none : r.ok ≡ false → none ≡ take_detail (from s at)
-  unfolding take_detail
-  detail_none h = let e : none ≡ take_rows detail_rows (from s at) = rw (h, detail_rows_lem) at w.same in rw (← e)
-
-  -- its rows as they stand
-  pub detail_stand : r.ok ≡ true → RowsStand s at 17 true r.spans r.next
-  detail_stand h = record { size = w.stand.size; stands = λ _. w.stand.stands h }
-
-  pub no_detail_stand : {n : ℕ} → RowsStand s at 17 false r.spans n
-  no_detail_stand = record { size = w.stand.size; stands = λ h. never h }
-
-  pub detail_three : r.ok ≡ true → take_detail (from s at) ≡ three
+  pub detail_three : take_detail (from s at) ≡ three
       (λ a d b. record { detail = record { rows = lines_at s r.spans 17; date = d; amount = a }; others = from s r.next })
       (sum_in s r.spans detail32b 8)
       (date_in s r.spans detail_centrb 10)
       (date_in s r.spans detail_baeref 6)
   unfolding take_detail detail_of three
-  detail_three h =
-      let e : some record { rows = lines_at s r.spans 17; others = from s r.next } ≡ take_rows detail_rows (from s at) = rw (h, detail_rows_lem) at w.same in
-      rw (← e, span_line s r.spans 17 detail32b (omega arith), span_line s r.spans 17 detail_centrb (omega arith), span_line s r.spans 17 detail_baeref (omega arith))
+  detail_three =
+      let e : take_rows detail_rows (from s at) ≡ some record { rows = lines_at s r.spans 17; others = from s r.next } = rw detail_rows_lem at w.same in
+      rw (e, span_line s r.spans 17 detail32b (omega arith), span_line s r.spans 17 detail_centrb (omega arith), span_line s r.spans 17 detail_baeref (omega arith))
       (three_on (λ d. record { detail = d; others = from s r.next }) (λ a d b. record { rows = lines_at s r.spans 17; date = d; amount = a }) (sum_in s r.spans detail32b 8) (date_in s r.spans detail_centrb 10) (date_in s r.spans detail_baeref 6))
 
 -- ---- a detail takes more than the tag of its field 21
@@ -67,12 +57,11 @@ fits_head : (r : Row) (l : Line) → fits_row r l ≡ true → length r.head ≤
 unfolding fits_row
 fits_head r l h = omega (arith, fits_length r.head (take (length r.head) l) (and_left _ _ h), length-take (length r.head) l)
 
-pub detail_long : (s : List ℕ) (at : ℕ) (d : Detail) → DetailAt s at d → d.ok ≡ true → at + 4 ≤ d.next
-detail_long s at d w h =
-    let e : take_detail (from s at) ≡ some record { detail = detail_in s d; others = from s d.next } = answer_is _ _ _ w.same h in
-    let f : fits_row (get_or detail_rows 0 none_row) (line_of (lines_at s d.spans 17) 0) ≡ true = row_first refl (detail_read (from s at) _ e).rows in
+pub detail_long : (s : List ℕ) (at : ℕ) (d : Detail) → DetailAt s at d → at + 4 ≤ d.next
+detail_long s at d w =
+    let f : fits_row (get_or detail_rows 0 none_row) (line_of (lines_at s d.spans 17) 0) ≡ true = row_first refl (detail_read (from s at) _ w.same).rows in
     let l : 4 ≤ length (line_of (lines_at s d.spans 17) 0) = fits_head (get_or detail_rows 0 none_row) _ f in
     let m : 4 ≤ length (span_of s (get_or (take 17 d.spans) 0 no_span)) = rw (get_or-take 17 d.spans 0 no_span (omega arith)) (rw (span_line s d.spans 17 0 (omega arith)) at l) in
-    omega (arith, stands_long (w.stand.stands h) (omega arith))
+    omega (arith, stands_long w.stand.stands (omega arith))
 
-pub ruleset detailing = (no_first, no_second, no_third, all_three, within_at, detail_none, detail_stand, no_detail_stand, detail_three, sum_small)
+pub ruleset detailing = (no_first, no_second, no_third, all_three, within_at, no_detail_rows, sum_small)

@@ -8,6 +8,7 @@ use Rattle.rules.specs.Text.{is_digit}
 use Rattle.rules.specs.Dates.{date}
 use Rattle.rules.specs.Amounts.{amount}
 use Rattle.laws.specs.Parts.{cut, cut_size, cut_length, cut_take, cut_drop}
+use Rattle.laws.specs.Slices.{part_cut}
 use Rattle.forms.specs.Spans.{span_of, SpanIn}
 use Rattle.forms.specs.declared.rows.Span.{Span}
 
@@ -42,14 +43,14 @@ module _ (s : List ℕ) (p : Span) (k : ℕ) (w : SpanIn s p) where
       let l : length (take 6 (drop k (span_of s p))) ≡ min 6 (p.end - (p.start + k)) = rw (length-take, cut_drop, cut_length s (p.start + k) p.end w.room) in
       rw (ne_eqb (length (take 6 (drop k (span_of s p)))) 6 (λ e. omega arith))
 
-  pub date_there : p.start + k + 6 ≤ p.end → (o : Option ℕ) → o ≡ date (cut s (p.start + k) (p.start + k + 6)) → o ≡ date (take 6 (drop k (span_of s p)))
-  date_there h o e = rw (cut_drop, cut_take s (p.start + k) p.end 6 h) e
+  pub date_there : p.start + k + 6 ≤ p.end → (o : Option ℕ) → o ≡ date (take (p.start + k + 6 - (p.start + k)) (drop (p.start + k) s)) → o ≡ date (take 6 (drop k (span_of s p)))
+  date_there h o e = rw (cut_drop, cut_take s (p.start + k) p.end 6 h) (rw (part_cut s (p.start + k) (p.start + k + 6) (omega arith)) at e)
 
   pub amount_short : p.end < p.start + k → none ≡ amount (drop k (span_of s p))
   unfolding amount is_digit
   amount_short h = rw (cut_drop, past s (p.start + k) p.end (omega arith))
 
-  pub amount_there : (o : Option ℕ) → o ≡ amount (cut s (p.start + k) p.end) → o ≡ amount (drop k (span_of s p))
-  amount_there o e = rw cut_drop e
+  pub amount_there : p.start + k ≤ p.end → (o : Option ℕ) → o ≡ amount (take (p.end - (p.start + k)) (drop (p.start + k) s)) → o ≡ amount (drop k (span_of s p))
+  amount_there h o e = rw cut_drop (rw (part_cut s (p.start + k) p.end h) at e)
 
 pub ruleset fields = (behind_in, behind_bytes, date_short, date_there, amount_short, amount_there)

@@ -1,6 +1,6 @@
 -- A line matched against a row, one law for each way that the code goes.
-use Rattle.std.specs.Prelude.{◌≡◌, Bool, true, ◌&&◌, List, eqb, get_or, take}
-use Rattle.std.proofs.Common.{sym, ap, ◌∙◌, add-zero}
+use Rattle.std.specs.Prelude.{◌≡◌, Bool, true, ◌&&◌, List, get_or, take, drop}
+use Rattle.std.proofs.Common.{sym, ◌∙◌}
 use Rattle.std.proofs.Math.Bool.{false, and-true, and-false}
 use Prim.Native.Nat.{ℕ, ◌+◌, ◌-◌, ◌≤◌, ◌<◌, min}
 use native.Mathlib.Omega.{arith}
@@ -8,7 +8,8 @@ use Rattle.std.proofs.Math.ListN.{length, length-take}
 use borrow.Author.Tests.{eq-eqb, ne_eqb}
 use Rattle.rules.specs.Text.{is_text, run, fits}
 use Rattle.rules.specs.Forms.{text_line, fits_rest, fits_row}
-use Rattle.laws.specs.Parts.{cut, cut_done, cut_length, cut_get, cut_take, cut_drop}
+use Rattle.laws.specs.Parts.{cut, cut_length, cut_take, cut_drop}
+use Rattle.laws.specs.Slices.{part_cut}
 use Rattle.laws.specs.Reading.{fits_length}
 use Rattle.laws.specs.Tests.{not_holds}
 use Rattle.forms.specs.Table.{heads, heads_length, rest_of, row_of}
@@ -17,36 +18,29 @@ use Rattle.forms.specs.declared.table.Row.{Row}
 
 -- ---- T
 
-module _ (s : List ℕ) (a e : ℕ) (k : e ≤ length s) where
-  pub text_none : a ≤ e → e ≤ a → false ≡ text_line (cut s a e)
+module _ (s : List ℕ) where
+  pub text_none : length s ≡ 0 → false ≡ text_line s
   unfolding text_line run
-  text_none h l = rw (cut_done s a e h l)
+  text_none h = rw h
 
-  module _ (h : a < e) where
-    first : get_or (cut s a e) 0 0 ≡ get_or s a 0
-    first = cut_get s a e 0 (omega arith) ∙ ap (λ (i : ℕ). get_or s i 0) (add-zero a)
+  pub text_colon : get_or s 0 0 ≡ 58 → false ≡ text_line s
+  unfolding text_line
+  text_colon c = rw (eq-eqb _ _ c, and-false)
 
-    pub text_colon : get_or s a 0 ≡ 58 → false ≡ text_line (cut s a e)
+  module _ (c : get_or s 0 0 ≡ 58 → ⊥) where
+    pub text_dash : get_or s 0 0 ≡ 45 → false ≡ text_line s
     unfolding text_line
-    text_colon c = rw (first, eq-eqb _ _ c, and-false)
+    text_dash d = rw (ne_eqb _ _ c, eq-eqb _ _ d, and-false)
 
-    module _ (c : get_or s a 0 ≡ 58 → ⊥) where
-      pub text_dash : get_or s a 0 ≡ 45 → false ≡ text_line (cut s a e)
-      unfolding text_line
-      text_dash d = rw (first, ne_eqb _ _ c, eq-eqb _ _ d, and-false)
-
-      pub text_run : (get_or s a 0 ≡ 45 → ⊥) → (r : Bool) → r ≡ run is_text 1 35 (cut s a e) → r ≡ text_line (cut s a e)
-      unfolding text_line
-      text_run d r u = rw (first, ne_eqb _ _ c, ne_eqb _ _ d, and-true, and-true) u
+    pub text_run : (get_or s 0 0 ≡ 45 → ⊥) → (r : Bool) → r ≡ run is_text 1 35 s → r ≡ text_line s
+    unfolding text_line
+    text_run d r u = rw (ne_eqb _ _ c, ne_eqb _ _ d, and-true, and-true) u
 
 -- ---- what stands behind a head
 
 -- the case that a match found
 pub rest_told : (k l : Rest) (cs : List ℕ) (r : Bool) → k ≡ l → r ≡ fits_rest (rest_of l) cs → r ≡ fits_rest (rest_of k) cs
 rest_told k l cs r e h = rw e h
-
-pub nothing_left : (s : List ℕ) (a e : ℕ) → e ≤ length s → eqb (e - a) 0 ≡ eqb (length (cut s a e)) 0
-nothing_left s a e k = rw (cut_length s a e k)
 
 -- ---- the row
 
@@ -73,7 +67,7 @@ module _ (row : Row) (s : List ℕ) (a e : ℕ) (w : row.start + row.size ≤ 18
     pub row_head : t ≡ false → false ≡ fits_row (row_of row) (cut s a e)
     row_head d = sym (split ∙ (rw d))
 
-    pub row_rest : t ≡ true → (r : Bool) → r ≡ fits_rest (rest_of row.rest) (cut s (a + row.size) e) → r ≡ fits_row (row_of row) (cut s a e)
-    row_rest d r q = q ∙ sym (split ∙ (rw d))
+    pub row_rest : t ≡ true → (r : Bool) → r ≡ fits_rest (rest_of row.rest) (take (e - (a + row.size)) (drop (a + row.size) s)) → r ≡ fits_row (row_of row) (cut s a e)
+    row_rest d r q = rw (part_cut s (a + row.size) e (omega arith)) at q ∙ sym (split ∙ (rw d))
 
-pub ruleset fitting = (text_none, text_colon, text_dash, text_run, rest_told, nothing_left, row_short, row_head, row_rest)
+pub ruleset fitting = (text_none, text_colon, text_dash, text_run, rest_told, row_short, row_head, row_rest)

@@ -1,8 +1,10 @@
 -- Lines matched against rows one by one: a law for each way that a row takes a line, and for the loop over the rows. The lines matched so far stand before what the rows that are left make of the rest.
-use Rattle.std.specs.Prelude.{◌≡◌, refl, Bool, true, false, cond, List, [], ◌∷◌, ◌++◌, ℕ, ◌+◌, ◌-◌, ◌≤◌, ◌<◌, length, take, set, replicate}
-use Rattle.std.proofs.Common.{sym, ◌∙◌, append_assoc, append-nil, add-zero, arith, add-one, length-set, take-suc-set}
+use Rattle.std.specs.Prelude.{◌≡◌, refl, Bool, true, false, List, [], ◌∷◌, ◌++◌, ℕ, ◌+◌, ◌-◌, ◌≤◌, ◌<◌, length, take, set, replicate}
+use Rattle.std.proofs.Common.{sym, ◌∙◌, append_assoc, append-nil, add-zero, arith, add-one, length-set, take-suc-set, subst}
 use Rattle.std.proofs.Math.Path.{ap}
-use Rattle.std.proofs.Math.Option.{Option, none, some}
+use Rattle.std.specs.Prelude.{Option, Some, None, MatchOption}
+use Rattle.std.proofs.Math.Option as Paper
+use Rattle.std.proofs.Math.Option.{none, some}
 use Rattle.std.proofs.Math.Nat.{sub-zero}
 use Rattle.std.proofs.lemmas.List.{length-replicate}
 use Rattle.rules.specs.Lines.{Line, TakenLine, take_line}
@@ -10,26 +12,21 @@ use Rattle.rules.specs.Forms as F
 use Rattle.rules.specs.Forms.{fits_row, TakenRows, lead_rows, take_rows}
 use Rattle.laws.specs.Parts.{cut, from, cut_done}
 use Rattle.laws.specs.Tests.{never}
-use Rattle.lines.specs.Answers.{LineAt, LineEnd, NoLine, line_told, no_line_told}
-use Rattle.lines.specs.declared.line.Next.{Next}
+use Rattle.lines.specs.Answers.{LineEnd, NoLine}
+use Rattle.lines.specs.declared.reader.Reader.{Reader}
 use Rattle.forms.specs.Table.{row_of, code_at, RowAt, row_told, row_some, part, part_none, part_step}
 use Rattle.forms.specs.Spans.{span_of, no_span, SpanIs, SpanIn, SpansWithin, within_none, within_set, lines_at, span_none, span_more}
 use Rattle.forms.specs.Stretches.{RowStretch, line_stretch, out_stretch, Standing, Standing.end, stands_more, RowsStand}
-use Rattle.forms.specs.declared.rows.Matched.{Matched}
 use Rattle.forms.specs.declared.rows.Span.{Span}
 use Rattle.forms.specs.declared.rows.Rows.{Rows}
 use Rattle.forms.specs.declared.table.Row.{Row}
 
--- the lines by rows that an answer holds
-abbrev pub rows_of : List ℕ → ℕ → Rows → Option TakenRows
-rows_of s count r = cond r.ok (some record { rows = lines_at s r.spans count; others = from s r.next }) none
-
--- they are what the rows make of the text from `at` on
+-- r is what the rows make of the text from `at` on: their lines, and the text behind them
 pub record RowsAt (s : List ℕ) (at first count : ℕ) (r : Rows) : Type 0 where
-  pub same : rows_of s count r ≡ take_rows (part first count) (from s at)
+  pub same : take_rows (part first count) (from s at) ≡ some record { rows = lines_at s r.spans count; others = from s r.next }
   pub next : r.next ≤ length s
   pub within : SpansWithin s r.spans
-  pub stand : RowsStand s at count r.ok r.spans r.next
+  pub stand : RowsStand s at count r.spans r.next
 
 -- ---- lines before others
 
@@ -37,19 +34,19 @@ lead_none : (ls : List Line) → lead_rows ls none ≡ none
 unfolding lead_rows
 lead_none ls = refl
 
-lead_nil : (o : Option TakenRows) → lead_rows [] o ≡ o
+lead_nil : (o : Paper.Option TakenRows) → lead_rows [] o ≡ o
 unfolding lead_rows
 lead_nil none = refl
 lead_nil (some r) = refl
 
-lead_more : (ls : List Line) (l : Line) (o : Option TakenRows) → lead_rows (ls ++ (l ∷ [])) o ≡ lead_rows ls (lead_rows (l ∷ []) o)
+lead_more : (ls : List Line) (l : Line) (o : Paper.Option TakenRows) → lead_rows (ls ++ (l ∷ [])) o ≡ lead_rows ls (lead_rows (l ∷ []) o)
 unfolding lead_rows
 lead_more ls l none = refl
-lead_more ls l (some r) = ap {B = Option TakenRows} (λ (x : List Line). some record { rows = x; others = r.others }) (append_assoc ls (l ∷ []) r.rows)
+lead_more ls l (some r) = ap {B = Paper.Option TakenRows} (λ (x : List Line). some record { rows = x; others = r.others }) (append_assoc ls (l ∷ []) r.rows)
 
 lead_done : (ls : List Line) (cs : List ℕ) → lead_rows ls (take_rows [] cs) ≡ some record { rows = ls; others = cs }
 unfolding lead_rows take_rows
-lead_done ls cs = ap {B = Option TakenRows} (λ (x : List Line). some record { rows = x; others = cs }) (append-nil ls)
+lead_done ls cs = ap {B = Paper.Option TakenRows} (λ (x : List Line). some record { rows = x; others = cs }) (append-nil ls)
 
 -- ---- a text against its first row
 
@@ -73,55 +70,60 @@ module _ (r : F.Row) (rs : List F.Row) (cs : List ℕ) where
 
 -- ---- the line at a place matched against row k
 
--- what is asked of line and row
-pub record ToMatch (s : List ℕ) (at k : ℕ) (n : Next) : Type 0 where
-  pub place : at ≤ length s
-  pub short : length s ≤ 4096
-  pub row : k < 40
-  pub told : LineAt s at n
+-- row k makes nothing of the text from `at` on, whatever rows follow
+abbrev pub NoRow : List ℕ → ℕ → ℕ → Type 0
+NoRow s at k = (rs : List F.Row) → take_rows (row_of (code_at k) ∷ rs) (from s at) ≡ none
 
--- the line's part stands before what the next rows make of the text behind it; or the row makes nothing of the text
-pub record MatchedAt (s : List ℕ) (at k : ℕ) (r : Matched) : Type 0 where
-  pub place : r.at ≤ length s
-  pub within : SpanIn s r.span
-  pub goes : r.ok ≡ true → (rs : List F.Row) → take_rows (row_of (code_at k) ∷ rs) (from s at) ≡ lead_rows (span_of s r.span ∷ []) (take_rows rs (from s r.at))
-  pub stops : r.ok ≡ false → (rs : List F.Row) → take_rows (row_of (code_at k) ∷ rs) (from s at) ≡ none
-  pub stands : r.ok ≡ true → RowStretch s at r.span r.at
+-- its line is the part p, before what the rows that follow make of the text from `next` on
+pub record RowHolds (s : List ℕ) (at k : ℕ) (p : Span) (next : ℕ) : Type 0 where
+  pub place : next ≤ length s
+  pub within : SpanIn s p
+  pub goes : (rs : List F.Row) → take_rows (row_of (code_at k) ∷ rs) (from s at) ≡ lead_rows (span_of s p ∷ []) (take_rows rs (from s next))
+  pub stands : RowStretch s at p next
 
-none_in : (s : List ℕ) → SpanIn s no_span
-none_in s = record { order = omega arith; room = omega arith }
+-- what row k takes off a reader
+pub record RowTaken (old new : Reader) (k : ℕ) (r : Option Span) : Type 0 where
+  pub text : new.text ≡ old.text
+  pub taken : MatchOption r (NoRow old.text.now old.at k) (λ p. RowHolds old.text.now old.at k p new.at)
 
-module _ (s : List ℕ) (at k : ℕ) (n : Next) (w : ToMatch s at k n) (r : Row) (y : RowAt k r) where
-  pub match_none : NoLine s at → MatchedAt s at k record { ok = false; at = at; span = no_span }
-  match_none e = record { place = w.place; within = none_in s; goes = λ h rs. never h; stops = λ h rs. row_none _ _ _ e.same; stands = λ h. never h }
+module _ (s : List ℕ) (old new : Reader) (k : ℕ) (o : old.text.now ≡ s) where
+  pub row_none_taken : RowTaken old new k None → NoRow s old.at k
+  row_none_taken w = subst (λ (x : List ℕ). NoRow x old.at k) o w.taken
 
-  module _ (e : ℕ) (l : LineEnd s at e) (t : Bool) (u : t ≡ fits_row (row_of r) (cut s at e)) where
+  pub row_taken : (p : Span) → RowTaken old new k (Some p) → RowHolds s old.at k p new.at
+  row_taken p w = subst (λ (x : List ℕ). RowHolds x old.at k p new.at) o w.taken
+
+module _ (s : List ℕ) (at k : ℕ) (w : at ≤ length s) (b : k < 40) where
+  pub no_line : NoLine s at → NoRow s at k
+  no_line e rs = row_none _ _ _ e.same
+
+  module _ (r : Row) (y : RowAt k r) (e : ℕ) (l : LineEnd s at e) (t : Bool) (u : t ≡ fits_row (row_of r) (cut s at e)) where
     row_is : t ≡ fits_row (row_of (code_at k)) (cut s at e)
     row_is = rw (← y.same) u
 
-    pub match_with : t ≡ true → (p : Span) → SpanIs at e p → MatchedAt s at k record { ok = true; at = e + 2; span = p }
-    match_with d p h = record {
+    left_out : {b : Bool} → r.optional ≡ b → (row_of (code_at k)).optional ≡ b
+    unfolding row_of
+    left_out g = ap (λ (x : Row). x.optional) (sym y.same) ∙ g
+
+    pub line_fits : t ≡ true → (p : Span) → SpanIs at e p → RowHolds s at k p (e + 2)
+    line_fits d p h = record {
       place = l.room;
       within = record { order = omega (arith, h.start, h.end, l.start); room = omega (arith, h.end, l.room) };
-      goes = λ _ rs. rw (h.start, h.end) (row_with _ _ _ _ l.same (sym row_is ∙ d));
-      stops = λ g rs. never (sym g);
-      stands = λ _. line_stretch s at e p l h.start h.end (λ z. never (rw (z, row_some w.row) at (sym row_is ∙ d)));
+      goes = λ rs. rw (h.start, h.end) (row_with _ _ _ _ l.same (sym row_is ∙ d));
+      stands = line_stretch s at e p l h.start h.end (λ z. never (rw (z, row_some b) at (sym row_is ∙ d)));
     }
 
-    pub match_without : t ≡ false → (p : Span) → SpanIs at at p → MatchedAt s at k record { ok = r.optional; at = at; span = p }
-    unfolding row_of
-    match_without d p h = record {
-      place = w.place;
-      within = record { order = omega (arith, h.start, h.end); room = omega (arith, h.end, w.place) };
-      goes = λ g rs. rw (h.start, h.end, cut_done s at at (omega arith) (omega arith)) (row_without _ _ _ _ l.same (sym row_is ∙ d) (left_out g));
-      stops = λ g rs. row_bad _ _ _ _ l.same (sym row_is ∙ d) (left_out g);
-      stands = λ _. out_stretch s at p h.start h.end;
-    }
-      where
-        left_out : {b : Bool} → r.optional ≡ b → (row_of (code_at k)).optional ≡ b
-        left_out g = ap (λ (x : Row). x.optional) (sym y.same) ∙ g
+    module _ (d : t ≡ false) where
+      pub line_left : r.optional ≡ true → (p : Span) → SpanIs at at p → RowHolds s at k p at
+      line_left g p h = record {
+        place = w;
+        within = record { order = omega (arith, h.start, h.end); room = omega (arith, h.end, w) };
+        goes = λ rs. rw (h.start, h.end, cut_done s at at (omega arith) (omega arith)) (row_without _ _ _ _ l.same (sym row_is ∙ d) (left_out g));
+        stands = out_stretch s at p h.start h.end;
+      }
 
-pub ruleset holding = (line_told, no_line_told, match_none, match_with, match_without)
+      pub line_other : r.optional ≡ false → NoRow s at k
+      line_other g rs = row_bad _ _ _ _ l.same (sym row_is ∙ d) (left_out g)
 
 -- ---- the loop over the rows
 
@@ -139,31 +141,31 @@ module _ (s : List ℕ) (at f n : ℕ) where
   rows_start h = record { few = omega arith; place = h; size = length-replicate 23 no_span; same = rw (span_none, add-zero f, sub-zero n) (lead_nil _); within = within_none s 23; stands = end }
 
   module _ (l : List Span) (pos i : ℕ) (inv : Rowing s at f n l pos i) where
-    pub rows_done : n ≤ i → RowsAt s at f n record { ok = true; next = pos; spans = l }
-    rows_done k = record { same = go _ inv.same; next = inv.place; within = inv.within; stand = record { size = inv.size; stands = λ _. let d : i ≡ n = omega (arith, k, inv.few) in rw (← d) inv.stands } }
+    pub rows_done : n ≤ i → RowsAt s at f n record { next = pos; spans = l }
+    rows_done k = record { same = sym (go _ inv.same); next = inv.place; within = inv.within; stand = record { size = inv.size; stands = let d : i ≡ n = omega (arith, k, inv.few) in rw (← d) inv.stands } }
       where
-        go : (x : Option TakenRows) → lead_rows (lines_at s l i) (take_rows (part (f + i) (n - i)) (from s pos)) ≡ x → some record { rows = lines_at s l n; others = from s pos } ≡ x
+        go : (x : Paper.Option TakenRows) → lead_rows (lines_at s l i) (take_rows (part (f + i) (n - i)) (from s pos)) ≡ x → some record { rows = lines_at s l n; others = from s pos } ≡ x
         go x g =
             let e : n - i ≡ 0 = omega (arith, k) in
             let d : i ≡ n = omega (arith, k, inv.few) in
             rw (← d) (sym (lead_done (lines_at s l i) (from s pos)) ∙ (rw (e, part_none) at g))
 
-    module _ (b : f + n ≤ 40) (h : i < n) (r : Matched) (w : MatchedAt s pos (f + i) r) where
+    module _ (b : f + n ≤ 40) (h : i < n) where
       step : lead_rows (lines_at s l i) (take_rows (row_of (code_at (f + i)) ∷ part (f + (i + 1)) (n - (i + 1))) (from s pos)) ≡ take_rows (part f n) (from s at)
       step =
           let u : f + (i + 1) ≡ f + i + 1 = omega arith in
           let v : n - (i + 1) ≡ n - i - 1 = omega arith in
           rw (u, v, ← part_step (f + i) (n - i) _ (row_told (omega arith) refl) (omega arith) (omega arith)) inv.same
 
-      pub rows_stop : r.ok ≡ false → at ≤ length s → RowsAt s at f n record { ok = false; next = at; spans = l }
-      rows_stop e k = record { same = sym (lead_none (lines_at s l i)) ∙ (rw (w.stops e _) at step); next = k; within = inv.within; stand = record { size = inv.size; stands = λ g. never g } }
+      pub rows_stop : NoRow s pos (f + i) → take_rows (part f n) (from s at) ≡ none
+      rows_stop w = sym (sym (lead_none (lines_at s l i)) ∙ (rw (w _) at step))
 
-      pub rows_on : r.ok ≡ true → n ≤ 23 → Rowing s at f n (set l i r.span) r.at (i + 1)
-      rows_on e q = record {
+      pub rows_on : (p : Span) (next : ℕ) → RowHolds s pos (f + i) p next → n ≤ 23 → Rowing s at f n (set l i p) next (i + 1)
+      rows_on p next w q = record {
         few = omega arith;
         place = w.place;
-        size = length-set l i r.span ∙ inv.size;
-        same = rw (span_more s l i r.span (omega (arith, inv.size))) (lead_more _ _ _ ∙ (rw (w.goes e _) at step));
-        within = within_set s l i r.span inv.within w.within;
-        stands = rw (add-one i, take-suc-set l i r.span (omega (arith, inv.size))) (stands_more inv.stands (w.stands e));
+        size = length-set l i p ∙ inv.size;
+        same = rw (span_more s l i p (omega (arith, inv.size))) (lead_more _ _ _ ∙ (rw (w.goes _) at step));
+        within = within_set s l i p inv.within w.within;
+        stands = rw (add-one i, take-suc-set l i p (omega (arith, inv.size))) (stands_more inv.stands w.stands);
       }

@@ -1,5 +1,5 @@
 -- Rows that stand one behind the other: each part begins where the text of the row before it ends, so that some rows as they stand are one stretch of the message's bytes.
-use Rattle.std.specs.Prelude.{◌≡◌, refl, Bool, true, List, [], ◌∷◌, ◌++◌, map, ℕ, zero, suc, ◌+◌, ◌-◌, ◌≤◌, ◌<◌, length, get_or, take, drop}
+use Rattle.std.specs.Prelude.{◌≡◌, refl, List, [], ◌∷◌, ◌++◌, map, ℕ, zero, suc, ◌+◌, ◌-◌, ◌≤◌, ◌<◌, length, get_or, take, drop}
 use Rattle.std.proofs.Common.{sym, ap, ◌∙◌, zero-add, suc-add, arith, length-append}
 use Rattle.rules.specs.Lines.{Line}
 use Rattle.rules.specs.Messages.{row_text, rows_text}
@@ -94,7 +94,7 @@ stretch_of_lem {s} (row {ps = ps} r t) (suc i) n h = let u : StretchOf s ps i n 
 
 -- ---- the rows of an answer
 
--- they are kept in the first of 23 parts, and where they are in form they stand from `at` up to `next`
-pub record RowsStand (s : List ℕ) (at count : ℕ) (ok : Bool) (l : List Span) (next : ℕ) : Type 0 where
+-- they are kept in the first of 23 parts, and stand from `at` up to `next`
+pub record RowsStand (s : List ℕ) (at count : ℕ) (l : List Span) (next : ℕ) : Type 0 where
   pub size : length l ≡ 23
-  pub stands : ok ≡ true → Standing s at (take count l) next
+  pub stands : Standing s at (take count l) next

@@ -6,9 +6,8 @@ use Rattle.rules.specs.Text.{ascii, is_text, every, run, number_from, big_endian
 use Rattle.rules.specs.Forms as F
 use Rattle.rules.specs.Forms.{nothing, text, reference, account, name, sum, text_line, fits_rest, fits_row, transfer_rows, detail_rows}
 use Rattle.laws.specs.Parts.{cut}
-use Rattle.laws.specs.Reading.{fits_pairs, pairs_more}
+use Rattle.laws.specs.Reading.{fits_pairs, pairs_more, pairs_bad, pairs_end}
 use Rattle.laws.specs.Tables.{below, below_at}
-use Rattle.laws.specs.Places.{pairs_before, pairs_out}
 use Rattle.forms.specs.declared.table.Rest.{Rest}
 use Rattle.forms.specs.declared.table.Rest.TheVariants.{Nothing, Text, Reference, Account, Name, Sum}
 use Rattle.forms.specs.declared.table.Row.{Row}
@@ -166,11 +165,11 @@ module _ (b : ℕ) (s : List ℕ) (a n k : ℕ) (x : Bool) (inv : fits (cut head
     pub head_more : q ≡ true → fits (cut heads (b + (k + 1)) (b + n)) (cut s (a + (k + 1)) (a + n)) ≡ x
     head_more d = pairs_more fits fits_sign fits_pairs heads s b a n k x inv h (omega (arith, heads_length)) m q sign_holds d
 
-    pub head_bad : q ≡ false → eqb k n ≡ x
-    head_bad d = pairs_before fits fits_sign fits_pairs heads s b a n k x inv h (omega (arith, heads_length)) m q sign_holds d
+    pub head_bad : q ≡ false → false ≡ x
+    head_bad d = pairs_bad fits fits_sign fits_pairs heads s b a n k x inv h (omega (arith, heads_length)) m q sign_holds d
 
-  pub head_end : k ≤ n → n ≤ k → eqb k n ≡ x
-  head_end = pairs_out fits fits_sign fits_pairs heads s b a n k x inv
+  pub head_end : k ≤ n → n ≤ k → true ≡ x
+  head_end = pairs_end fits fits_sign fits_pairs heads s b a n k x inv
 
 pub ruleset signs = (add-zero, sign_told, head_more, head_bad, head_end)
 

@@ -7,9 +7,9 @@ use Rattle.rules.specs.Text.{then}
 use Rattle.rules.specs.Dates.{date}
 use Rattle.rules.specs.Amounts.{amount}
 use Rattle.money.specs.Sums.{amount_small}
-use Rattle.text.specs.Answers.{num_of}
-use Rattle.text.specs.declared.numbers.Num.{Num}
-use Rattle.text.specs.declared.numbers.Num.TheVariants.{Value, Bad}
+use Rattle.laws.specs.Told.{told}
+use Rattle.std.specs.Prelude as P
+use Rattle.std.specs.Prelude.{Some, None}
 use Rattle.forms.specs.Spans.{span_of, no_span}
 use Rattle.forms.specs.declared.rows.Span.{Span}
 
@@ -21,8 +21,8 @@ abbrev pub date_in : List ℕ → List Span → ℕ → ℕ → Option ℕ
 date_in s l k n = date (take 6 (drop n (span_of s (get_or l k no_span))))
 
 -- an amount that was read is small
-pub sum_small : (q : Num) (cs : List ℕ) (n : ℕ) → num_of q ≡ amount cs → q ≡ Value n → n < 10 ^ 16
-sum_small q cs n e h = amount_small cs n (sym e ∙ ap num_of h)
+pub sum_small : (q : P.Option ℕ) (cs : List ℕ) (n : ℕ) → told q ≡ amount cs → q ≡ Some n → n < 10 ^ 16
+sum_small q cs n e h = amount_small cs n (sym e ∙ ap told h)
 
 -- what f makes of three numbers, where each is there
 unfoldable pub three : {A : Type 0} → (ℕ → ℕ → ℕ → A) → Option ℕ → Option ℕ → Option ℕ → Option A
@@ -36,23 +36,23 @@ three_on g f (some a) none z = refl
 three_on g f (some a) (some b) none = refl
 three_on g f (some a) (some b) (some c) = refl
 
-module _ {A : Type 0} (o : Option A) (f : ℕ → ℕ → ℕ → A) (x y z : Option ℕ) (same : o ≡ three f x y z) (p : Num) (u : num_of p ≡ x) where
-  pub no_first : p ≡ Bad → none ≡ o
+module _ {A : Type 0} (o : Option A) (f : ℕ → ℕ → ℕ → A) (x y z : Option ℕ) (same : o ≡ three f x y z) (p : P.Option ℕ) (u : told p ≡ x) where
+  pub no_first : p ≡ None → o ≡ none
   unfolding three
-  no_first h = sym (same ∙ (rw (← u, h)))
+  no_first h = same ∙ (rw (← u, h))
 
-  module _ (a : ℕ) (h : p ≡ Value a) (q : Num) (v : num_of q ≡ y) where
-    pub no_second : q ≡ Bad → none ≡ o
+  module _ (a : ℕ) (h : p ≡ Some a) (q : P.Option ℕ) (v : told q ≡ y) where
+    pub no_second : q ≡ None → o ≡ none
     unfolding three
-    no_second k = sym (same ∙ (rw (← u, h, ← v, k)))
+    no_second k = same ∙ (rw (← u, h, ← v, k))
 
-    module _ (b : ℕ) (k : q ≡ Value b) (r : Num) (w : num_of r ≡ z) where
-      pub no_third : r ≡ Bad → none ≡ o
+    module _ (b : ℕ) (k : q ≡ Some b) (r : P.Option ℕ) (w : told r ≡ z) where
+      pub no_third : r ≡ None → o ≡ none
       unfolding three
-      no_third l = sym (same ∙ (rw (← u, h, ← v, k, ← w, l)))
+      no_third l = same ∙ (rw (← u, h, ← v, k, ← w, l))
 
-      pub all_three : (c : ℕ) → r ≡ Value c → (t : A) → t ≡ f a b c → some t ≡ o
+      pub all_three : (c : ℕ) → r ≡ Some c → (t : A) → t ≡ f a b c → o ≡ some t
       unfolding three
-      all_three c l t e = rw e (sym (same ∙ (rw (← u, h, ← v, k, ← w, l))))
+      all_three c l t e = rw e (same ∙ (rw (← u, h, ← v, k, ← w, l)))
 
 pub ruleset threes = (no_first, no_second, no_third, all_three)

@@ -1,5 +1,5 @@
 -- An MT103 as the code reads it: its rows, the closing line, then 32A's date and amount and BAEREF's date.
-use Rattle.std.specs.Prelude.{◌≡◌, refl, Bool, true, false, cond, List, ℕ, ◌^◌, ◌<◌}
+use Rattle.std.specs.Prelude.{◌≡◌, refl, Bool, true, false, List, ℕ, ◌^◌, ◌<◌}
 use Rattle.std.proofs.Math.Option.{Option, none, some}
 use Rattle.std.proofs.Common.{arith}
 use Rattle.rules.specs.Text.{then, given}
@@ -20,44 +20,41 @@ use Rattle.forms.specs.declared.transfer.Transfer.{Transfer}
 abbrev pub transfer_in : List ℕ → Transfer → M.Transfer
 transfer_in s r = record { sender = sender s; rows = lines_at s r.spans 23; date = r.date; amount = r.amount }
 
-abbrev pub transfer_message : List ℕ → Transfer → Option Message
-transfer_message s r = cond r.ok (some (mt103 (transfer_in s r))) none
-
--- it is the message's
-pub record TransferIn (s : List ℕ) (r : Transfer) : Type 0 where
-  pub same : transfer_message s r ≡ read_transfer s
-  pub within : SpansWithin s r.spans
-  pub small : r.amount < 10 ^ 16
+-- t is the message's
+pub record TransferIn (s : List ℕ) (t : Transfer) : Type 0 where
+  pub same : read_transfer s ≡ some (mt103 (transfer_in s t))
+  pub within : SpansWithin s t.spans
+  pub small : t.amount < 10 ^ 16
 
 transfer_rows_lem : part 0 23 ≡ transfer_rows
 unfolding part table
 transfer_rows_lem = refl
 
-never : {A B : Type 0} (f : A → B) (o : Option A) → none ≡ then o (λ a. given false (f a))
-never f none = refl
-never f (some a) = refl
+given_none : {A B : Type 0} (f : A → B) (o : Option A) → then o (λ a. given false (f a)) ≡ none
+given_none f none = refl
+given_none f (some a) = refl
 
-module _ (s : List ℕ) (r : Rows) (w : RowsAt s 23 0 23 r) where
-  pub transfer_none : r.ok ≡ false → none ≡ read_transfer s
+-- no rows, no transfer
+pub no_transfer_rows : (s : List ℕ) → take_rows (part 0 23) (from s 23) ≡ none → read_transfer s ≡ none
+unfolding read_transfer
+no_transfer_rows s h = let e : take_rows transfer_rows (body s) ≡ none = rw (transfer_rows_lem, body_from) at h in rw e
+
+module _ (s : List ℕ) (r : Rows) (w : RowsAt s 23 0 23 r) (t : Bool) (u : t ≡ is_closing_line (from s r.next)) where
+  rows_known : take_rows transfer_rows (body s) ≡ some record { rows = lines_at s r.spans 23; others = from s r.next }
+  rows_known = rw (transfer_rows_lem, body_from) at w.same
+
+  pub transfer_open : t ≡ false → read_transfer s ≡ none
   unfolding read_transfer
-  transfer_none h = let e : none ≡ take_rows transfer_rows (body s) = rw (h, transfer_rows_lem, body_from) at w.same in rw (← e)
+  transfer_open d = rw (rows_known, ← u, d) (given_none mt103 (transfer_of (sender s) (lines_at s r.spans 23)))
 
-  module _ (h : r.ok ≡ true) (t : Bool) (u : t ≡ is_closing_line (from s r.next)) where
-    rows_known : some record { rows = lines_at s r.spans 23; others = from s r.next } ≡ take_rows transfer_rows (body s)
-    rows_known = rw (h, transfer_rows_lem, body_from) at w.same
+  pub transfer_three : t ≡ true → read_transfer s ≡ three
+      (λ d a b. mt103 record { sender = sender s; rows = lines_at s r.spans 23; date = d; amount = a })
+      (date_in s r.spans transfer32a 5)
+      (sum_in s r.spans transfer32a 14)
+      (date_in s r.spans transfer_baeref 8)
+  unfolding read_transfer transfer_of three
+  transfer_three d =
+      rw (rows_known, ← u, d, span_line s r.spans 23 transfer32a (omega arith), span_line s r.spans 23 transfer_baeref (omega arith))
+      (three_on mt103 (λ d a b. record { sender = sender s; rows = lines_at s r.spans 23; date = d; amount = a }) (date_in s r.spans transfer32a 5) (sum_in s r.spans transfer32a 14) (date_in s r.spans transfer_baeref 8))
 
-    pub transfer_open : t ≡ false → none ≡ read_transfer s
-    unfolding read_transfer
-    transfer_open d = rw (← rows_known, ← u, d) (never mt103 (transfer_of (sender s) (lines_at s r.spans 23)))
-
-    pub transfer_three : t ≡ true → read_transfer s ≡ three
-        (λ d a b. mt103 record { sender = sender s; rows = lines_at s r.spans 23; date = d; amount = a })
-        (date_in s r.spans transfer32a 5)
-        (sum_in s r.spans transfer32a 14)
-        (date_in s r.spans transfer_baeref 8)
-    unfolding read_transfer transfer_of three
-    transfer_three d =
-        rw (← rows_known, ← u, d, span_line s r.spans 23 transfer32a (omega arith), span_line s r.spans 23 transfer_baeref (omega arith))
-        (three_on mt103 (λ d a b. record { sender = sender s; rows = lines_at s r.spans 23; date = d; amount = a }) (date_in s r.spans transfer32a 5) (sum_in s r.spans transfer32a 14) (date_in s r.spans transfer_baeref 8))
-
-pub ruleset transferring = (no_first, no_second, no_third, all_three, within_at, transfer_none, transfer_open, sum_small)
+pub ruleset transferring = (no_first, no_second, no_third, all_three, within_at, no_transfer_rows, transfer_open, sum_small)

@@ -5,39 +5,28 @@ ghost use Rattle.laws.specs.Parts.{cut};
 ghost use Rattle.forms.specs.Table.{rest_of, row_of};
 
 use crate::table::{Rest, Row, head_fits};
-use text::{Class, run_in};
+use text::{Alnum, Text, is_run};
 
-// Is a text line T there, from a up to e: 1 to 35 such bytes, the first neither `:` nor `-`?
-fn text_line(s: &[u8], a: usize, e: usize) -> bool
-    requires a_le_e { a ≤ e }
-    requires e_in_bounds { e ≤ length s.now }
-    ensures { result ≡ text_line (cut s.now a e) }
+// Is it a text line T: 1 to 35 such bytes, the first neither `:` nor `-`?
+fn text_line(s: &[u8]) -> bool
+    ensures { result ≡ text_line s.now }
 {
-    if a < e {
-        let c = s[a];
-        if c == 58 {
-            return false;
-        }
-        if c == 45 {
-            return false;
-        }
-        return run_in(Class::Text, 1, 35, s, a, e);
+    if s.is_empty() || s[0] == b':' || s[0] == b'-' {
+        return false;
     }
-    false
+    is_run::<Text>(1, 35, s)
 }
 
-// Does what stands from a up to e fit behind a row's head?
-fn rest_fits(rest: Rest, s: &[u8], a: usize, e: usize) -> bool
-    requires a_le_e { a ≤ e }
-    requires e_in_bounds { e ≤ length s.now }
-    ensures { result ≡ fits_rest (rest_of rest) (cut s.now a e) }
+// Does it fit behind a row's head?
+fn rest_fits(rest: Rest, s: &[u8]) -> bool
+    ensures { result ≡ fits_rest (rest_of rest) s.now }
 {
     match rest {
-        Rest::Nothing => e - a == 0,
-        Rest::Text => text_line(s, a, e),
-        Rest::Reference => run_in(Class::Text, 1, 16, s, a, e),
-        Rest::Account => run_in(Class::Text, 1, 34, s, a, e),
-        Rest::Name => run_in(Class::Alnum, 1, 12, s, a, e),
+        Rest::Nothing => s.is_empty(),
+        Rest::Text => text_line(s),
+        Rest::Reference => is_run::<Text>(1, 16, s),
+        Rest::Account => is_run::<Text>(1, 34, s),
+        Rest::Name => is_run::<Alnum>(1, 12, s),
         Rest::Sum => true,
     }
 }
@@ -56,7 +45,7 @@ pub fn row_fits(s: &[u8], a: usize, e: usize, row: Row) -> bool
         return false;
     }
     if head_fits(start, s, a, size as u32) {
-        return rest_fits(rest, s, a + size, e);
+        return rest_fits(rest, &s[a + size..e]);
     }
     false
 }

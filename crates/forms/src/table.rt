@@ -1,5 +1,5 @@
 // The forms of MT103 and MT101 as one table of rows, one row for each line: first MT103's 23, then the 17 of a detail.
-ghost use Rattle.std.specs.Prelude.{◌≡◌, ◌+◌, ◌<◌, ◌≤◌, eqb, length, get_or};
+ghost use Rattle.std.specs.Prelude.{◌≡◌, ◌+◌, ◌<◌, ◌≤◌, length, get_or};
 ghost use Rattle.rules.specs.Text.{fits};
 ghost use Rattle.laws.specs.Parts.{cut};
 ghost use Rattle.forms.specs.Table.{heads, head_row, text_row, more_row, word_at, RowAt};
@@ -67,7 +67,8 @@ fn more_row() -> Row
     }
 }
 
-// A row of the table.
+// A row of the table. A match: a constant array is written to the stack each time that it is used.
+#[tactic(auto, using(crate::specs::Table::row_told), unfolding(crate::specs::Table::codes))]
 pub fn row_at(k: usize) -> Row
     requires { k < 40 }
     ensures { RowAt k result }
@@ -116,7 +117,7 @@ pub fn row_at(k: usize) -> Row
     }
 }
 
-// The signs of all heads, one behind the other, four to a number.
+// The signs of all heads, one behind the other, four to a number. A match for the same reason.
 fn four_signs(i: u32) -> u32
     requires { i < 47 }
     ensures { result ≡ word_at i }
@@ -182,28 +183,16 @@ fn sign_at(i: u32) -> u8
     ((word >> below) % 256) as u8
 }
 
-// How many of the n bytes from a fit their signs, of the heads from b on: n where all do.
-fn signs_fitting(b: u32, s: &[u8], a: usize, n: u32) -> u32
-    requires n_bound { b + n ≤ 186 }
-    requires n_in_bounds { a + n ≤ length s.now }
-    ensures { eqb result n ≡ fits (cut heads b (b + n)) (cut s.now a (a + n)) }
-{
-    let mut k: u32 = 0;
-    while k < n {
-        if fits_sign(sign_at(b + k), s[a + k as usize]) {
-            k += 1;
-        } else {
-            return k;
-        }
-    }
-    k
-}
-
 // Do the n bytes from a fit the n signs of the heads from b?
 pub fn head_fits(b: u32, s: &[u8], a: usize, n: u32) -> bool
-    requires n_bound { b + n ≤ 186 }
-    requires n_in_bounds { a + n ≤ length s.now }
+    requires in_heads { b + n ≤ 186 }
+    requires in_text { a + n ≤ length s.now }
     ensures { result ≡ fits (cut heads b (b + n)) (cut s.now a (a + n)) }
 {
-    signs_fitting(b, s, a, n) == n
+    for k in 0..n {
+        if !fits_sign(sign_at(b + k), s[a + k as usize]) {
+            return false;
+        }
+    }
+    true
 }

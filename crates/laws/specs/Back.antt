@@ -33,10 +33,15 @@ module _ (s t : List ℕ) (a b n k : ℕ) (h : 0 < k) (h' : k ≤ n) (l : a + n 
       sym (rw e at (cut_get s a (a + n) (k - 1) (omega arith))) ∙ ap (λ (x : List ℕ). get_or x (k - 1) 0) (equal_true _ _ w) ∙ (rw f at (cut_get t b (b + n) (k - 1) (omega arith))) in
       never (sym d ∙ u ∙ eq-eqb _ _ g))
 
+-- two bytes at one place are others
+pub back_other : (s t : List ℕ) (a b n k : ℕ) → 0 < k → k ≤ n → a + n ≤ length s → b + n ≤ length t → (get_or s (a + (k - 1)) 0 ≡ get_or t (b + (k - 1)) 0 → ⊥) → false ≡ equal (cut s a (a + n)) (cut t b (b + n))
+back_other s t a b n k h h' l m f =
+    not_holds _ (λ w. f (sym (cut_get s a (a + n) (k - 1) (omega arith)) ∙ ap (λ (x : List ℕ). get_or x (k - 1) 0) (equal_true _ _ w) ∙ cut_get t b (b + n) (k - 1) (omega arith)))
+
 -- no byte is left
 pub back_end : (s t : List ℕ) (a b n k : ℕ) → equal (cut s (a + k) (a + n)) (cut t (b + k) (b + n)) ≡ true → k ≤ 0 → eqb k 0 ≡ equal (cut s a (a + n)) (cut t b (b + n))
 back_end s t a b n k inv h =
     let z : k ≡ 0 = omega arith in
     eq-eqb k 0 z ∙ sym (rw (z, add-zero a, add-zero b) at inv)
 
-pub ruleset backing = (back_start, back_more, back_stop, back_end)
+pub ruleset backing = (back_start, back_more, back_stop, back_other, back_end)

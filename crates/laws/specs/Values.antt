@@ -134,6 +134,9 @@ digits_none (c ∷ cs) v h = go (is_digit c) h (digits_none cs (v * 10 + (c - 48
     go true g i = i g
     go false g i = refl
 
+pub every_none : (cs : List ℕ) → every is_digit cs ≡ false → none ≡ digits cs
+every_none cs h = sym (digits_none cs 0 h)
+
 pub passed_none : (s : List ℕ) (a n r : ℕ) → Passed is_digit s a n r → r < n → none ≡ digits (cut s a (a + n))
 passed_none s a n r w l = sym (digits_none (cut s a (a + n)) 0 (sym w.whole ∙ ne_eqb r n (λ (q : r ≡ n). omega arith)))
 

@@ -1,13 +1,11 @@
 -- What the answers of the code say in the paper's words.
-use Rattle.std.specs.Prelude.{◌≡◌, List, ℕ, ◌+◌, ◌≤◌, ◌<◌, length, get_or}
+use Rattle.std.specs.Prelude.{◌≡◌, List, ℕ, ◌+◌, ◌≤◌, length, Option, Some, None}
 use Rattle.std.proofs.Common.{subst}
 use Rattle.std.proofs.Math.Option.{none, some}
 use Rattle.std.specs.Borrow.{Bor}
-use Rattle.rules.specs.Lines.{TakenLine, lead, take_line}
+use Rattle.rules.specs.Lines.{TakenLine, take_line}
 use Rattle.laws.specs.Parts.{cut, from}
-use Rattle.lines.specs.declared.line.Next.{Next}
 use Rattle.lines.specs.declared.reader.Reader.{Reader}
-use Rattle.lines.specs.declared.line.Next.TheVariants.{Line, Bad}
 
 -- the line from `at` to `e`, and what stands behind its CR LF
 abbrev pub taken : List ℕ → ℕ → ℕ → TakenLine
@@ -23,28 +21,32 @@ pub record LineEnd (s : List ℕ) (at e : ℕ) : Type 0 where
 pub record NoLine (s : List ℕ) (at : ℕ) : Type 0 where
   pub same : take_line (from s at) ≡ none
 
-abbrev Told : List ℕ → ℕ → Next → Type 0
-Told s at (Line e) = LineEnd s at e
-Told s at Bad = NoLine s at
+abbrev Told : List ℕ → ℕ → Option ℕ → Type 0
+Told s at (Some e) = LineEnd s at e
+Told s at None = NoLine s at
 
 -- what is told of the line at `at`
-pub record LineAt (s : List ℕ) (at : ℕ) (r : Next) : Type 0 where
+pub record LineAt (s : List ℕ) (at : ℕ) (r : Option ℕ) : Type 0 where
   pub told : Told s at r
 
 -- by the case that a match found
-module _ (s : List ℕ) (at : ℕ) (r : Next) (h : LineAt s at r) where
-  pub line_told : (e : ℕ) → r ≡ Line e → LineEnd s at e
+module _ (s : List ℕ) (at : ℕ) (r : Option ℕ) (h : LineAt s at r) where
+  pub line_told : (e : ℕ) → r ≡ Some e → LineEnd s at e
   line_told e k = subst (Told s at) k h.told
 
-  pub no_line_told : r ≡ Bad → NoLine s at
+  pub no_line_told : r ≡ None → NoLine s at
   no_line_told k = subst (Told s at) k h.told
-
--- of n bytes from `at` on, r stand before the first CR or LF: they begin the line, whatever goes on behind them
-pub record Plain (s : List ℕ) (at n r : ℕ) : Type 0 where
-  pub few : r ≤ n
-  pub same : lead (cut s at (at + r)) (take_line (from s (at + r))) ≡ take_line (from s at)
-  pub stop : r < n → (get_or s (at + r) 0 ≡ 13 → ⊥) → get_or s (at + r) 0 ≡ 10
 
 -- the line reader over a text, at a place
 abbrev pub over : Bor (List ℕ) → ℕ → Reader
 over text at = record { text = text; at = at }
+
+-- where a reader stands behind the line that it handed out
+abbrev behind : ℕ → Option ℕ → ℕ
+behind at (Some e) = e + 2
+behind at None = at
+
+-- a reader hands out the line at its place, and is behind it then, over the same text
+pub record HandsOut (old new : Reader) (r : Option ℕ) : Type 0 where
+  pub line : LineAt old.text.now old.at r
+  pub moved : new ≡ over old.text (behind old.at r)

@@ -1,7 +1,8 @@
 -- Lines taken off a text one by one: a law for each way out of the loop to a line's end, and the closing line by the first line and the rest.
-use Rattle.std.specs.Prelude.{◌≡◌, refl, Bool, true, false, ◌&&◌, cond, List, [], ◌∷◌, ◌++◌, ◌⊎◌, ℕ, ◌+◌, ◌-◌, ◌≤◌, ◌<◌, length, get_or, drop, leb}
+use Rattle.std.specs.Prelude.{◌≡◌, refl, Bool, true, false, ◌&&◌, cond, List, [], ◌∷◌, ◌++◌, ◌⊎◌, ℕ, ◌+◌, ◌-◌, ◌≤◌, ◌<◌, length, get_or, take, drop, leb, Some, None}
 use Rattle.std.proofs.Math.Path.{sym}
-use Rattle.std.proofs.Common.{ap, ◌∙◌, append_assoc, append-nil, inl, inr, add-zero, eq-or-lt_of_le, arith, length-append, drop_at, drop-drop}
+use Rattle.std.proofs.Common.{ap, ◌∙◌, append_assoc, append-nil, inl, inr, add-zero, eq-or-lt_of_le, arith, length-append, length-take, length-drop, drop_at, drop-drop}
+use Rattle.std.proofs.lemmas.List.{get_or-take, get_or-drop}
 use Rattle.std.proofs.Math.Option.{Option, none, some, map}
 use borrow.Author.Tests.{le-leb, lt-leb, eq-eqb, ne_eqb}
 use Rattle.rules.specs.Text.{ascii, equal, fits}
@@ -10,7 +11,7 @@ use Rattle.laws.specs.Parts.{cut, from, cut_done, cut_snoc, from_step, from_done
 use Rattle.laws.specs.Equal.{equal_true, rest_differs, rest_alike}
 use Rattle.laws.specs.Tests.{not_holds, never, and_left, and_right, none_some}
 use Rattle.rule_laws.specs.Lines.{FirstLine, first_line_lem, line_taken, Lined, Lined.end, Lined.next, lines_cases, lines_before}
-use Rattle.lines.specs.Answers.{taken, LineEnd, NoLine, Plain}
+use Rattle.lines.specs.Answers.{taken, LineAt, LineEnd, NoLine}
 
 -- ---- bytes before a line
 
@@ -87,35 +88,52 @@ module _ (s : List ℕ) (at i : ℕ) (x : Option TakenLine) (inv : lead (cut s a
       pub line_on_lem : (get_or s i 0 ≡ 10 → ⊥) → at ≤ i → lead (cut s at (i + 1)) (take_line (from s (i + 1))) ≡ x
       line_on_lem d k = rw (cut_snoc s at i k (omega arith), lead_more, from_step s (i + 1) h, ← byte_on _ _ (from s (i + 1 + 1)) c d) two
 
--- ---- the bytes before the first CR or LF, counted from `at` on
+-- ---- the same over what is left from `at` on, as a slice: k bytes of it are passed
 
-pub plain_starts : (s : List ℕ) (at : ℕ) → lead (cut s at (at + 0)) (take_line (from s (at + 0))) ≡ take_line (from s at)
-plain_starts s at = rw add-zero (line_starts s at)
+abbrev rest : List ℕ → ℕ → List ℕ
+rest s at = take (length s - at) (drop at s)
 
-module _ (s : List ℕ) (at n k : ℕ) (inv : lead (cut s at (at + k)) (take_line (from s (at + k))) ≡ take_line (from s at)) where
-  module _ (h : k < n) (l : at + n ≤ length s) where
-    pub plain_on : (get_or s (at + k) 0 ≡ 13 → ⊥) → (get_or s (at + k) 0 ≡ 10 → ⊥) → lead (cut s at (at + (k + 1))) (take_line (from s (at + (k + 1)))) ≡ take_line (from s at)
-    plain_on c d = let e : at + (k + 1) ≡ at + k + 1 = omega arith in rw e (go (eq-or-lt_of_le (omega arith)))
+pub line_starts_at : (s : List ℕ) (at : ℕ) → lead (cut s at (at + 0)) (take_line (from s (at + 0))) ≡ take_line (from s at)
+line_starts_at s at = rw add-zero (line_starts s at)
+
+module _ (s : List ℕ) (at k : ℕ) (inv : lead (cut s at (at + k)) (take_line (from s (at + k))) ≡ take_line (from s at)) where
+  -- behind the last of them there is no line
+  pub none_behind : length (rest s at) ≤ k → at ≤ length s → LineAt s at None
+  none_behind h a = record { told = record { same = line_out s at (at + k) _ inv (omega (arith, h, length-drop at s, length-take (length s - at) (drop at s))) } }
+
+  module _ (h : k < length (rest s at)) where
+    inside : at + k < length s
+    inside = omega (arith, h, length-drop at s, length-take (length s - at) (drop at s))
+
+    byte : get_or (rest s at) k 0 ≡ get_or s (at + k) 0
+    byte = get_or-take (length s - at) (drop at s) k 0 (omega (arith, inside)) ∙ get_or-drop at s k 0
+
+    pub found : get_or (rest s at) k 0 ≡ 13 → at + k + 1 < length s → get_or s (at + k + 1) 0 ≡ 10 → LineAt s at (Some (at + k))
+    found c l d = record { told = record { start = omega arith; room = omega arith; same = sym (line_ends_lem) } }
+      where
+        line_ends_lem : some (taken s at (at + k)) ≡ take_line (from s at)
+        line_ends_lem = sym (line_ends s at (at + k) _ inv l (sym byte ∙ c) d)
+
+    pub cr_alone : get_or (rest s at) k 0 ≡ 13 → (at + k + 1 < length s → get_or s (at + k + 1) 0 ≡ 10 → ⊥) → LineAt s at None
+    cr_alone c d = record { told = record { same = go (eq-or-lt_of_le (omega (arith, inside))) } }
+      where
+        go : (at + k + 1 ≡ length s) ⊎ (at + k + 1 < length s) → take_line (from s at) ≡ none
+        go (inl q) = line_out s at (at + k) _ inv (omega arith)
+        go (inr q) = line_cr s at (at + k) _ inv q (sym byte ∙ c) (d q)
+
+    pub lf_alone : (get_or (rest s at) k 0 ≡ 13 → ⊥) → get_or (rest s at) k 0 ≡ 10 → LineAt s at None
+    lf_alone c d = record { told = record { same = go (eq-or-lt_of_le (omega (arith, inside))) } }
+      where
+        go : (at + k + 1 ≡ length s) ⊎ (at + k + 1 < length s) → take_line (from s at) ≡ none
+        go (inl q) = line_out s at (at + k) _ inv (omega arith)
+        go (inr q) = line_lf s at (at + k) _ inv q (λ x. c (byte ∙ x)) (sym byte ∙ d)
+
+    pub passed : (get_or (rest s at) k 0 ≡ 13 → ⊥) → (get_or (rest s at) k 0 ≡ 10 → ⊥) → lead (cut s at (at + (k + 1))) (take_line (from s (at + (k + 1)))) ≡ take_line (from s at)
+    passed c d = let e : at + (k + 1) ≡ at + k + 1 = omega arith in rw e (go (eq-or-lt_of_le (omega (arith, inside))))
       where
         go : (at + k + 1 ≡ length s) ⊎ (at + k + 1 < length s) → lead (cut s at (at + k + 1)) (take_line (from s (at + k + 1))) ≡ take_line (from s at)
         go (inl q) = rw (few s (at + k + 1) (omega arith), lead_none) (sym (line_out s at (at + k) _ inv (omega arith)))
-        go (inr q) = line_on_lem s at (at + k) _ inv q c d (omega arith)
-
-    pub plain_far : 14 ≤ get_or s (at + k) 0 → lead (cut s at (at + (k + 1))) (take_line (from s (at + (k + 1)))) ≡ take_line (from s at)
-    plain_far c = plain_on (λ d. omega arith) (λ d. omega arith)
-
-    pub plain_cr : get_or s (at + k) 0 ≡ 13 → Plain s at n k
-    plain_cr c = record { few = omega arith; same = inv; stop = λ h d. absurd (d c) }
-
-    pub plain_lf : get_or s (at + k) 0 ≡ 10 → Plain s at n k
-    plain_lf c = record { few = omega arith; same = inv; stop = λ h d. c }
-
-  pub plain_end : k ≤ n → n ≤ k → Plain s at n k
-  plain_end h l = record { few = h; same = inv; stop = λ j d. absurd (omega arith) }
-
--- no CR at the first of them: LF
-pub plain_bad : (s : List ℕ) (at n k : ℕ) → Plain s at n k → at + k + 1 < length s → at + n ≡ length s → (get_or s (at + k) 0 ≡ 13 → ⊥) → take_line (from s at) ≡ none
-plain_bad s at n k p h e c = line_lf s at (at + k) _ p.same h c (p.stop (omega arith) c)
+        go (inr q) = line_on_lem s at (at + k) _ inv q (λ x. c (byte ∙ x)) (λ x. d (byte ∙ x)) (omega arith)
 
 -- ---- the closing line
 
@@ -230,4 +248,4 @@ module _ (s : List ℕ) where
     unfolding framed has_first_line cut
     framed_opens k r e = rw (le-leb _ _ h, ← u, k) e
 
-pub ruleset framing = (line_starts, line_out, line_ends, line_cr, line_lf, line_on_lem, plain_starts, plain_on, plain_far, plain_cr, plain_lf, plain_end, closing_long, closing_part, framed_long, framed_open, framed_not, framed_opens)
+pub ruleset framing = (closing_long, closing_part, framed_long, framed_open, framed_not, framed_opens)

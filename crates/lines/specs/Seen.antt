@@ -1,55 +1,63 @@
--- A text seen line by line: what holds before the first line, between two lines and behind the last, and a law for each way that a line is seen.
-use Rattle.std.specs.Prelude.{◌≡◌, refl, Bool, true, false, cond, List, ℕ, ◌+◌, ◌-◌, ◌≤◌, ◌<◌, length, ltb}
-use Rattle.std.proofs.Common.{sym, arith, ltb-true, ltb-false}
+-- A text seen line by line: what holds before the first line, between two lines and behind the last.
+use Rattle.std.specs.Prelude.{◌≡◌, refl, Bool, true, false, List, ℕ, ◌+◌, ◌≤◌, ◌<◌, length, Option, Some, None}
+use Rattle.std.proofs.Common.{sym, ◌∙◌, arith, subst}
 use Rattle.rules.specs.Lines.{lines, in_lines, is_closing_line}
+use Rattle.std.specs.Option.{is_some}
 use Rattle.laws.specs.Parts.{from, from_all}
-use Rattle.laws.specs.Tests.{never}
-use Rattle.lines.specs.Answers.{LineEnd, NoLine, line_told, no_line_told}
-use Rattle.lines.specs.Laws.{closes_never, closes_now, closes_bad, closes_on, closing_later}
-use Rattle.lines.specs.declared.frame.Seen.{Seen}
+use Rattle.lines.specs.Answers.{LineAt, LineEnd, NoLine, HandsOut, line_told, no_line_told, over}
+use Rattle.lines.specs.declared.reader.Reader.{Reader}
+use Rattle.lines.specs.Laws.{closes_never, closes_now, closes_bad, closes_on, closing_later, closing_long}
 
--- a line is to come at `at`, and what is left closes as the whole does
-pub record ToSee (s : List ℕ) (at : ℕ) : Type 0 where
-  pub place : at < length s
-  pub same : in_lines (lines (from s at)) ≡ in_lines (lines s)
-
--- a line is to come, or it is told whether the text is in lines
-pub record Seeing (s : List ℕ) (r : Seen) : Type 0 where
-  pub going : r.more ≡ true → ToSee s r.at
-  pub done : r.more ≡ false → r.closed ≡ in_lines (lines s)
-
--- how much there is to see
-abbrev pub ahead : List ℕ → Seen → ℕ
-ahead s r = cond r.more (length s + 1 - r.at) 0
-
--- behind a line at `at` there is less to see
-pub record SeenBehind (s : List ℕ) (at : ℕ) (r : Seen) : Type 0 where
-  pub seeing : Seeing s r
-  pub less : ahead s r < length s + 1 - at
-
--- ---- laws
+-- all before `at` is in lines, the last of them from `last` on: what is left closes as the whole does, or nothing is left, and the last one closes it or not
+pub record Seeing (s : List ℕ) (last at : ℕ) : Type 0 where
+  pub begun : last ≤ at
+  pub place : at ≤ length s
+  pub going : at < length s → in_lines (lines (from s at)) ≡ in_lines (lines s)
+  pub done : length s ≤ at → is_closing_line (from s last) ≡ in_lines (lines s)
 
 -- before the first line
-pub none_seen : (s : List ℕ) → Seeing s record { more = ltb 0 (length s); closed = false; at = 0 }
-none_seen s = record { going = λ h. record { place = ltb-true _ _ h; same = rw from_all }; done = λ h. closes_never s 0 _ (rw from_all) (ltb-false _ _ h) }
+pub none_seen : (s : List ℕ) → Seeing s 0 0
+none_seen s = record {
+  begun = omega arith;
+  place = omega arith;
+  going = λ h. rw from_all;
+  done = λ h. sym (closing_long s 0 (λ e. omega (arith, e))) ∙ closes_never s 0 _ (rw from_all) h;
+}
 
-module _ (s : List ℕ) (at : ℕ) (t : ToSee s at) where
-  -- behind the last line, and where there is none
-  all_seen : (b : Bool) (e : ℕ) → b ≡ in_lines (lines s) → SeenBehind s at record { more = false; closed = b; at = e }
-  all_seen b e u = record { seeing = record { going = λ h. never h; done = λ h. u }; less = let k = t.place in omega arith }
+module _ (s : List ℕ) (last at : ℕ) (t : Seeing s last at) (h : at < length s) where
+  -- where there is no line
+  pub not_lined : NoLine s at → false ≡ in_lines (lines s)
+  not_lined n = closes_bad s at _ (t.going h) _ refl n
 
-  pub none_left : NoLine s at → SeenBehind s at record { more = false; closed = false; at = at }
-  none_left n = all_seen false at (closes_bad s at _ t.same _ refl n)
+  -- behind a line
+  pub line_seen : (e : ℕ) → LineEnd s at e → Seeing s at (e + 2)
+  line_seen e l = record {
+    begun = let m = l.start in omega arith;
+    place = l.room;
+    going = λ k. closes_on s at _ (t.going h) _ refl (closing_later s at e l k) e l;
+    done = λ k. last_seen _ refl k;
+  }
+    where
+      last_seen : (b : Bool) → b ≡ is_closing_line (from s at) → length s ≤ e + 2 → is_closing_line (from s at) ≡ in_lines (lines s)
+      last_seen true u k = sym u ∙ closes_now s at _ (t.going h) true u refl
+      last_seen false u k = sym u ∙ closes_never s (e + 2) _ (closes_on s at _ (t.going h) false u refl e l) k
 
-  module _ (e : ℕ) (l : LineEnd s at e) where
-    pub line_seen : e + 2 < length s → SeenBehind s at record { more = true; closed = false; at = e + 2 }
-    line_seen h = record {
-      seeing = record { going = λ _. record { place = h; same = closes_on s at _ t.same _ refl (closing_later s at e l h) e l }; done = λ g. never (sym g) };
-      less = let m = l.start in omega arith;
-    }
+-- and the reader stands there, over the whole text
+pub record Sees (s : List ℕ) (last : ℕ) (r : Reader) : Type 0 where
+  pub seeing : Seeing s last r.at
+  pub text : r.text.now ≡ s
 
-    pub last_seen : length s ≤ e + 2 → (b : Bool) → b ≡ is_closing_line (from s at) → SeenBehind s at record { more = false; closed = b; at = e + 2 }
-    last_seen h true u = all_seen true (e + 2) (closes_now s at _ t.same true u refl)
-    last_seen h false u = all_seen false (e + 2) (closes_never s (e + 2) _ (closes_on s at _ t.same false u refl e l) h)
+-- as a reader over the text hands it out
+module _ (s : List ℕ) (last : ℕ) (old new : Reader) (t : Seeing s last old.at) (o : old.text.now ≡ s) (h : old.at < length s) where
+  line_at : (r : Option ℕ) → HandsOut old new r → LineAt s old.at r
+  line_at r w = subst (λ (x : List ℕ). LineAt x old.at r) o w.line
 
-pub ruleset seeing = (line_told, no_line_told, none_seen, none_left, line_seen, last_seen)
+  pub none_handed : (r : Option ℕ) → HandsOut old new r → is_some r ≡ false → false ≡ in_lines (lines s)
+  none_handed None w k = not_lined s last old.at t h (no_line_told s old.at None (line_at None w) refl)
+  none_handed (Some e) w k = cc
+
+  pub line_handed : (r : Option ℕ) → HandsOut old new r → is_some r ≡ true → Sees s old.at new
+  line_handed None w k = cc
+  line_handed (Some e) w k =
+      let q : new ≡ over old.text (e + 2) = w.moved in
+      subst (λ (x : Reader). Sees s old.at x) (sym q) record { seeing = line_seen s last old.at t h e (line_told s old.at (Some e) (line_at (Some e) w) e refl); text = o }

@@ -2,7 +2,7 @@
 ghost use Rattle.std.specs.Prelude.{◌≡◌, ◌≤◌, length};
 ghost use Rattle.lines.specs.Answers.{LineAt, over};
 
-use crate::line::{Next, line_end};
+use crate::line::line_end;
 
 // A reader over a message.
 #[derive(Clone, Copy)]
@@ -13,25 +13,39 @@ pub struct Reader<'a> {
     pub at: usize,
 }
 
-// The reader made over a text, at a place.
-pub fn reader_over<'a>(text: &'a [u8], at: usize) -> Reader<'a>
-    ensures { result ≡ over text.entry at }
-{
-    Reader { text, at }
-}
+impl<'a> Reader<'a> {
+    ghost use Rattle.lines.specs.Answers.{HandsOut};
 
-// The line that a reader hands out.
-pub fn take_line<'a>(r: Reader<'a>) -> Next
-    requires { r.at ≤ length r.text.now }
-    ensures { LineAt r.entry.text.now r.entry.at result }
-{
-    line_end(r.text, r.at)
+    // The reader made over a text, at a place.
+    pub fn over(text: &'a [u8], at: usize) -> Reader<'a>
+        ensures { result ≡ over text.entry at }
+    {
+        Reader { text, at }
+    }
+
+    // Where the line to come ends; none where there is none.
+    pub fn peek(&self) -> Option<usize>
+        requires { self.now.at ≤ length self.now.text.now }
+        ensures { LineAt self.now.text.now self.now.at result }
+    {
+        line_end(self.text, self.at)
+    }
+
+    // Hands out the line to come, and is moved behind it; stays where there is none.
+    pub fn next_line(&mut self) -> Option<usize>
+        requires { self.old.at ≤ length self.old.text.now }
+        ensures { HandsOut self.old self.new result }
+    {
+        let end = self.peek()?;
+        self.at = end + 2;
+        Some(end)
+    }
 }
 
 // The line that begins at `at`, where one line is read by itself.
-pub fn next_line(s: &[u8], at: usize) -> Next
+pub fn next_line(s: &[u8], at: usize) -> Option<usize>
     requires { at ≤ length s.now }
     ensures { LineAt s.now at result }
 {
-    take_line(reader_over(s, at))
+    Reader::over(s, at).peek()
 }

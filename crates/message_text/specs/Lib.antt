@@ -1,5 +1,4 @@
 pub mod Parts
 pub mod Postings
 pub mod Returns
-pub mod Numbered
 pub mod Message

@@ -1,24 +1,30 @@
 -- The parts of an MT199, each with the next 14 of the listed details.
-use Rattle.std.specs.Prelude.{◌≡◌, Bool, true, false, List, ◌++◌, ℕ, ◌+◌, ◌-◌, ◌/◌, ◌≤◌, ◌<◌, take, leb}
+use Rattle.std.specs.Prelude.{◌≡◌, List, ◌++◌, ℕ, suc, ◌+◌, ◌-◌, ◌/◌, ◌≤◌, ◌<◌, length, take, drop}
+use Rattle.std.specs.List.{count_by}
 use Rattle.std.proofs.Math.Path.{refl}
-use Rattle.std.proofs.Common.{arith, eq-eqb, ne_eqb, leb-true, leb-false}
+use Rattle.std.proofs.Common.{ap, ◌∙◌, arith, eq-eqb, ne_eqb}
+use Rattle.std.proofs.Math.Nat.{sub-zero}
 use Rattle.rules.specs.Text.{ascii}
 use Rattle.rules.specs.Engine.{Position}
 use Rattle.rules.specs.Verdict.{is_listed199}
-use Rattle.rules.specs.Written.{first_line, field, reference, linked, position79, closed79, mt199, parts_of}
-use Rattle.laws.specs.Writing.{Wrote, left_length}
-use Rattle.laws.specs.Pieces.{wrote_4}
-use Rattle.details.specs.Kept.{LinesIn}
-use Rattle.detail_lines.specs.Chosen.{chosen_at}
-use Rattle.detail_lines.specs.Listed.{DetailsSkipped, RowsPut}
+use Rattle.rules.specs.Written.{first_line, field, reference, linked, position79, closed79, mt199, mt199s, parts_of}
+use Rattle.laws.specs.Writing.{Wrote, Left, left_turn, left_none, left_length, furthest}
+use Rattle.laws.specs.Pieces.{wrote_4, left_all}
+use Rattle.verdict.specs.declared.detail.Judged.{Judged}
+use Rattle.detail_lines.specs.Chosen.{tells, chosen_from}
+use Rattle.detail_lines.specs.Listed.{RowsPut}
 use Rattle.detail_lines.specs.declared.listed.Place.{Place}
+use Rattle.outgoing_number.specs.declared.Outgoing.{Outgoing}
 use Rattle.outgoing_number.specs.declared.Reference.{Reference}
-use Rattle.message_text.specs.declared.numbered.Due.{Due}
-use Rattle.message_text.specs.declared.numbered.Progress.{Progress}
+use Rattle.outgoing_number.specs.Issue.{Steps}
 
 -- ---- how many
 
--- r parts for so many listed details
+-- so many details are listed
+abbrev pub listed_of : List Judged → ℕ
+listed_of kept = count_by (tells is_listed199) kept
+
+-- r parts for so many
 pub record PartsOf (listed r : ℕ) : Type 0 where
   pub value : r ≡ parts_of listed
   pub few : r ≤ 2
@@ -33,62 +39,67 @@ parts_more listed n h = record { value = rw (ne_eqb listed 0 n); few = omega ari
 
 -- ---- one part, with the next 14 of the listed details
 
--- its place among the messages, so many being left
-abbrev pub place_among : Due → Progress → ℕ
-place_among u t = u.messages - t.left + 1
+-- it was written by the reference r, and t' is how far it came
+pub record PartPut (r : Reference) (part parts : ℕ) (p : Position) (s : List ℕ) (kept : List Judged) (t : Place) (out : List ℕ) (t' : Place) (out' : List ℕ) : Type 0 where
+  pub wrote : Wrote (mt199 r.day (r.number - part) p part parts (take 14 (chosen_from is_listed199 s kept t.at))) t.out out t'.out out'
+  pub within : t'.at ≤ length kept
+  pub skipped : chosen_from is_listed199 s kept t'.at ≡ drop 14 (chosen_from is_listed199 s kept t.at)
 
--- a message is next by the reference r, whose number is no less than its place
-pub record Placed (r : Reference) (u : Due) (t : Progress) : Type 0 where
-  pub some : 0 < t.left
-  pub left_few : t.left ≤ u.messages
-  pub few : u.messages ≤ 18
-  pub numbered : place_among u t ≤ r.number
-
--- a part is due by the reference r: its number is that of part 1 with the parts since, and from part 2 on that of part 1 is kept
-pub record PartDue (r : Reference) (u : Due) (s places : List ℕ) (t : Progress) : Type 0 where
-  pub placed : Placed r u t
-  pub lines : LinesIn s places u.details
-  pub within : t.listed ≤ u.details
-  pub kept : 2 ≤ place_among u t → t.first + place_among u t ≡ r.number + 1
-
--- the number of part 1, by which part this is
-pub record FirstOf (part number kept first : ℕ) : Type 0 where
-  pub own : part < 2 → first ≡ number
-  pub other : 2 ≤ part → first ≡ kept
-
-pub first_own : (part number kept : ℕ) → part < 2 → FirstOf part number kept number
-first_own part number kept h = record { own = λ _. refl; other = λ l. absurd (omega arith) }
-
-pub first_other : (part number kept : ℕ) → 2 ≤ part → FirstOf part number kept kept
-first_other part number kept h = record { own = λ l. absurd (omega arith); other = λ _. refl }
-
-module _ {r : Reference} {u : Due} {s places : List ℕ} {t : Progress} (d : PartDue r u s places t) {first : ℕ} (f : FirstOf (place_among u t) r.number t.first first) where
-  pub first_is : first + place_among u t ≡ r.number + 1
-  first_is = go (leb 2 (place_among u t)) refl
-    where
-      go : (b : Bool) → leb 2 (place_among u t) ≡ b → first + place_among u t ≡ r.number + 1
-      go true e = let l : 2 ≤ place_among u t = leb-true 2 (place_among u t) e in omega (arith, f.other l, d.kept l)
-      go false e = let l : place_among u t < 2 = leb-false 2 (place_among u t) e in omega (arith, f.own l)
-
-  pub first_some : 0 < first
-  first_some = omega (arith, first_is, d.placed.numbered)
-
--- it was written, and t' is where the messages then stand
-pub record PartPut (r : Reference) (p : Position) (u : Due) (s verdicts : List ℕ) (t : Progress) (out : List ℕ) (t' : Progress) (out' : List ℕ) : Type 0 where
-  pub wrote : Wrote (mt199 r.day (r.number - place_among u t) p (place_among u t) u.parts (take 14 (chosen_at is_listed199 s verdicts t.listed (u.details - t.listed)))) t.out out t'.out out'
-  pub skipped : DetailsSkipped s verdicts t.listed u.details 14 t'.listed
-  pub fewer : t'.left ≡ t.left - 1
-  pub first : t'.first + place_among u t ≡ r.number + 1
-  pub returned : t'.returned ≡ t.returned
-
-module _ (r : Reference) (p : Position) (u : Due) (s verdicts : List ℕ) (t : Progress) {first a b e : ℕ} {c : Place} {places out out₁ out₂ out₃ out₄ : List ℕ} (d : PartDue r u s places t) (f : FirstOf (place_among u t) r.number t.first first) where
-  pub part_wrote : Wrote (first_line (ascii "199") p.key.bank ++ field (ascii ":20:") (reference r.day r.number) ++ linked r.day (first - 1) (place_among u t)) t.out out a out₁ → Wrote (position79 p.key.date p.transferred p.detailed) a out₁ b out₂
-      → RowsPut s verdicts t.listed u.details 14 b out₂ c out₃ → Wrote (closed79 (place_among u t) u.parts) c.out out₃ e out₄
-      → PartPut r p u s verdicts t out (record { out = e; left = t.left - 1; first = first; listed = c.at; returned = t.returned }) out₄
+module _ (r : Reference) (part parts : ℕ) (p : Position) (s : List ℕ) (kept : List Judged) (t : Place) {a b e : ℕ} {c : Place} {out out₁ out₂ out₃ out₄ : List ℕ} (h : 1 ≤ part) (k : part ≤ r.number) where
+  pub part_wrote : Wrote (first_line (ascii "199") p.key.bank ++ field (ascii ":20:") (reference r.day r.number) ++ linked r.day (r.number - (part - 1) - 1) part) t.out out a out₁ → Wrote (position79 p.key.date p.transferred p.detailed) a out₁ b out₂
+      → RowsPut s kept t.at 14 b out₂ c out₃ → Wrote (closed79 part parts) c.out out₃ e out₄ → PartPut r part parts p s kept t out (record { out = e; at = c.at }) out₄
   unfolding mt199
   part_wrote v w x y =
-      let i : first - 1 ≡ r.number - place_among u t = omega (arith, first_is d f, d.placed.numbered) in
-      let j : r.number - place_among u t + place_among u t ≡ r.number = omega (arith, d.placed.numbered) in
-      record { wrote = rw j (wrote_4 (rw i at v) w x.wrote y); skipped = x.skipped; fewer = refl; first = first_is d f; returned = refl }
+      let i : r.number - (part - 1) - 1 ≡ r.number - part = omega arith in
+      let j : r.number - part + part ≡ r.number = omega arith in
+      record { wrote = rw j (wrote_4 (rw i at v) w x.wrote y); within = x.within; skipped = x.skipped }
 
-pub ruleset parting = (left_length, parts_one, parts_more, first_own, first_other, first_some, part_wrote)
+-- ---- all of them
+
+-- they were written, the outgoing number going from o to o'
+pub record PartsPut (o o' : Outgoing) (parts : ℕ) (p : Position) (s : List ℕ) (kept : List Judged) (at : ℕ) (out : List ℕ) (r : ℕ) (out' : List ℕ) : Type 0 where
+  pub wrote : Wrote (mt199s parts o.day o.count p 1 parts (chosen_from is_listed199 s kept 0)) at out r out'
+  pub day : o'.day ≡ o.day
+  pub count : o'.count ≡ o.count + parts
+
+-- k are written, the outgoing number being o now, and they came to t
+pub record PartsLeft (was : Outgoing) (parts : ℕ) (p : Position) (s : List ℕ) (kept : List Judged) (at : ℕ) (start : List ℕ) (k : ℕ) (o : Outgoing) (t : Place) (out : List ℕ) : Type 0 where
+  pub day : o.day ≡ was.day
+  pub count : o.count ≡ was.count + k
+  pub within : t.at ≤ length kept
+  pub unwritten : Left (mt199s (parts - k) was.day was.count p (k + 1) parts (chosen_from is_listed199 s kept t.at)) t.out out (mt199s parts was.day was.count p 1 parts (chosen_from is_listed199 s kept 0)) at start
+
+pub parts_start : (o : Outgoing) (parts : ℕ) (p : Position) (s : List ℕ) (kept : List Judged) (at : ℕ) (start : List ℕ) → length start ≤ furthest → PartsLeft o parts p s kept at start 0 o (record { out = at; at = 0 }) start
+parts_start o parts p s kept at start h = record { day = refl; count = omega arith; within = omega arith; unwritten = rw (sub-zero parts) (left_all _ h) }
+
+module _ {was : Outgoing} {parts : ℕ} {p : Position} {s : List ℕ} {kept : List Judged} {at : ℕ} {start : List ℕ} {k : ℕ} {o : Outgoing} {t : Place} {out : List ℕ} (l : PartsLeft was parts p s kept at start k o t out) where
+  pub parts_long : length out ≡ length start
+  parts_long = left_length l.unwritten
+
+  module _ {r : Reference} {o' : Outgoing} (i : Steps o r o') where
+    pub number_is : r.number ≡ was.count + (k + 1)
+    number_is = ap (λ (x : Reference). x.number) i.reference ∙ omega (arith, l.count)
+
+    pub part_numbered : k + 1 ≤ r.number
+    part_numbered = omega (arith, number_is)
+
+    day_is : r.day ≡ was.day
+    day_is = ap (λ (x : Reference). x.day) i.reference ∙ l.day
+
+    pub parts_turn : k < parts → {t' : Place} {out' : List ℕ} → PartPut r (k + 1) parts p s kept t out t' out' → PartsLeft was parts p s kept at start (k + 1) o' t' out'
+    unfolding mt199s
+    parts_turn h w =
+        let n : parts - k ≡ suc (parts - (k + 1)) = omega arith in
+        let m : r.number - (k + 1) ≡ was.count = omega (arith, number_is) in
+        record {
+          day = ap (λ (x : Outgoing). x.day) i.kept ∙ l.day;
+          count = ap (λ (x : Outgoing). x.count) i.kept ∙ omega (arith, l.count);
+          within = w.within;
+          unwritten = rw w.skipped (left_turn (rw n at l.unwritten) (rw (m, day_is) at w.wrote));
+        }
+
+  pub parts_end : parts ≤ k → k ≤ parts → PartsPut was o parts p s kept at start t.out out
+  unfolding mt199s
+  parts_end h m = let n : parts - k ≡ 0 = omega arith in record { wrote = left_none (rw n at l.unwritten); day = l.day; count = omega (arith, l.count) }
+
+pub ruleset parting = (left_length, parts_one, parts_more, part_wrote)

@@ -1,73 +1,85 @@
--- The MT103 of the next returned detail.
-use Rattle.std.specs.Prelude.{◌≡◌, refl, true, List, ◌∷◌, ℕ, ◌+◌, ◌-◌, ◌≤◌, ◌<◌, length, take}
-use Rattle.std.proofs.Common.{arith}
+-- The MT103 of the returned details, as the code's loop writes them. What is left of the walk gives the answer.
+use Rattle.std.specs.Prelude.{◌≡◌, refl, Bool, true, false, List, [], ◌∷◌, ◌++◌, ℕ, ◌+◌, ◌≤◌, ◌<◌, length, get_or, take}
+use Rattle.std.proofs.Common.{ap, arith}
 use Rattle.rules.specs.Text.{is_some}
 use Rattle.rules.specs.Messages.{Detail, past}
 use Rattle.rules.specs.Register.{register}
-use Rattle.rules.specs.Engine.{Position}
 use Rattle.rules.specs.Verdict.{is_returned}
-use Rattle.rules.specs.Written.{return103, return_of}
+use Rattle.rules.specs.Written.{Book, return103, return_of, returns}
 use Rattle.laws.specs.Parts.{cut}
-use Rattle.laws.specs.Writing.{Wrote, left_length}
+use Rattle.laws.specs.Writing.{Wrote, Left, left_turn, left_none, left_length, furthest}
+use Rattle.laws.specs.Pieces.{left_all}
 use Rattle.register.specs.Passed.{temporary_at_lem}
 use Rattle.forms.specs.Spans.{span_of}
 use Rattle.details.specs.Message.{details_in, detail_at}
-use Rattle.details.specs.Kept.{LinesIn, AmountsIn}
-use Rattle.verdict.specs.Answers.{judged_in}
-use Rattle.verdict.specs.Details.{judged_payer, judged_branch}
+use Rattle.details.specs.Kept.{KeptOf}
+use Rattle.verdict.specs.Details.{KeptIn, kept_at}
 use Rattle.verdict.specs.declared.detail.Judged.{Judged}
 use Rattle.written.specs.Values.{book_of}
-use Rattle.detail_lines.specs.Chosen.{chosen_at, count_at, NextReturned}
-use Rattle.detail_lines.specs.Listed.{payer_in, branch_in}
+use Rattle.written.specs.declared.Book as W
+use Rattle.detail_lines.specs.Chosen.{tells, chosen_from, chosen_end, chosen_one, chosen_none}
+use Rattle.detail_lines.specs.Postings.{book_by}
 use Rattle.detail_lines.specs.Returns.{return_kept}
+use Rattle.outgoing_number.specs.declared.Outgoing.{Outgoing}
 use Rattle.outgoing_number.specs.declared.Reference.{Reference}
-use Rattle.message_text.specs.Postings.{book_for}
-use Rattle.message_text.specs.declared.numbered.Due.{Due}
-use Rattle.message_text.specs.declared.numbered.Progress.{Progress}
+use Rattle.outgoing_number.specs.Issue.{Steps}
 
--- what messages are written from: a register that passes, and the details of a message, kept
-pub record WrittenFrom (u : Due) (text s amounts places : List ℕ) : Type 0 where
-  pub passes : is_some (register text) ≡ true
-  pub enough : 22 ≤ length text
-  pub lines : LinesIn s places u.details
-  pub amounts_kept : AmountsIn s amounts u.details
+-- they were written, the outgoing number going from o to o'
+pub record ReturnsPut (o o' : Outgoing) (b : W.Book) (text s : List ℕ) (kept : List Judged) (at : ℕ) (out : List ℕ) (r : ℕ) (out' : List ℕ) : Type 0 where
+  pub wrote : Wrote (returns (book_by text b) o.count (chosen_from is_returned s kept 0)) at out r out'
+  pub count : o'.count ≡ o.count + length (chosen_from is_returned s kept 0)
 
--- a return is due: there is a returned detail whose return is not written
-pub record ReturnDue (u : Due) (text s amounts places verdicts : List ℕ) (t : Progress) : Type 0 where
-  pub from : WrittenFrom u text s amounts places
-  pub some : 0 < t.left
-  pub waiting : 0 < count_at is_returned verdicts t.returned (u.details - t.returned)
+-- those from detail i on are left, the outgoing number being o now
+pub record ReturnsLeft (was : Outgoing) (b : W.Book) (text s : List ℕ) (kept : List Judged) (at : ℕ) (start : List ℕ) (i : ℕ) (o : Outgoing) (a : ℕ) (out : List ℕ) : Type 0 where
+  pub count : o.count + length (chosen_from is_returned s kept i) ≡ was.count + length (chosen_from is_returned s kept 0)
+  pub few : o.count ≤ was.count + i
+  pub unwritten : Left (returns (book_by text b) o.count (chosen_from is_returned s kept i)) a out (returns (book_by text b) was.count (chosen_from is_returned s kept 0)) at start
 
--- it was written for the next returned detail, and t' is where the messages then stand
-pub record ReturnPut (r : Reference) (p : Position) (u : Due) (text s verdicts : List ℕ) (t : Progress) (out : List ℕ) (t' : Progress) (out' : List ℕ) : Type 0 where
-  pub detail : Detail
-  pub next : chosen_at is_returned s verdicts t.returned (u.details - t.returned) ≡ detail ∷ chosen_at is_returned s verdicts t'.returned (u.details - t'.returned)
-  pub wrote : Wrote (return_of (book_for r.day text p) r.number detail) t.out out t'.out out'
-  pub fewer : t'.left ≡ t.left - 1
-  pub listed : t'.listed ≡ t.listed
+pub returns_start : (o : Outgoing) (b : W.Book) (text s : List ℕ) (kept : List Judged) (at : ℕ) (start : List ℕ) → length start ≤ furthest → ReturnsLeft o b text s kept at start 0 o at start
+returns_start o b text s kept at start h = record { count = refl; few = omega arith; unwritten = left_all _ h }
 
-module _ (u : Due) (text s amounts places verdicts : List ℕ) (t : Progress) (d : ReturnDue u text s amounts places verdicts t) (i : ℕ) (n : NextReturned verdicts t.returned u.details i) where
-  pub next_few : i < 16
-  next_few = omega (arith, n.some, d.from.lines.few)
+-- a return before the others, and none
+returns_step : (b : Book) (m : ℕ) (d : Detail) (ds : List Detail) → returns b m (d ∷ ds) ≡ return_of b (m + 1) d ++ returns b (m + 1) ds
+unfolding returns
+returns_step b m d ds = refl
 
-  module _ (j : Judged) (e : j ≡ judged_in amounts places verdicts i) where
-    amount_is : j.amount ≡ (detail_at (details_in s) i).amount
-    unfolding judged_in
-    amount_is = rw e (d.from.amounts_kept.each i n.some)
+module _ {was : Outgoing} {b : W.Book} {text s : List ℕ} {kept : List Judged} {at : ℕ} {start : List ℕ} {i : ℕ} {o : Outgoing} {a : ℕ} {out : List ℕ} (k : KeptIn s kept) (l : ReturnsLeft was b text s kept at start i o a out) where
+  pub returns_long : length out ≡ length start
+  returns_long = left_length l.unwritten
 
-    pub return_put : (r : Reference) (p : Position) {a : ℕ} {out out' : List ℕ}
-        → Wrote (return103 (book_of (take 22 text) (record { day = r.day; bank = p.key.bank; date = p.key.date })) r.number j.amount (past ":52D:" (span_of s j.branch)) (past ":50H:" (span_of s j.payer))) t.out out a out'
-        → ReturnPut r p u text s verdicts t out (record { out = a; left = t.left - 1; first = t.first; listed = t.listed; returned = i + 1 }) out'
-    unfolding cut
-    return_put r p w = record {
-      detail = detail_at (details_in s) i;
-      next = n.same s;
-      wrote = rw (
-        ← return_kept s (book_for r.day text p) r.number j.amount (detail_at (details_in s) i) j.branch j.payer amount_is (judged_branch amounts places verdicts i j e s u.details d.from.lines n.some) (judged_payer amounts places verdicts i j e s u.details d.from.lines n.some),
-        temporary_at_lem text d.from.passes,
-      ) w;
-      fewer = refl;
-      listed = refl;
-    }
+  pub returns_end : length kept ≤ i → ReturnsPut was o b text s kept at start a out
+  unfolding returns
+  returns_end h = let n : chosen_from is_returned s kept i ≡ [] = chosen_end is_returned s kept k i h in record { wrote = left_none (rw n at l.unwritten); count = omega (arith, rw n at l.count) }
 
-pub ruleset repaid = (left_length, next_few, branch_in, payer_in, return_put)
+  module _ (h : i < length kept) (j : Judged) (t : Bool) (u : t ≡ tells is_returned (get_or kept i j)) where
+    pub returns_pass : t ≡ false → ReturnsLeft was b text s kept at start (i + 1) o a out
+    returns_pass d =
+        let n : chosen_from is_returned s kept i ≡ chosen_from is_returned s kept (i + 1) = chosen_none is_returned s kept k i h j t u d in
+        record { count = rw n at l.count; few = omega (arith, l.few); unwritten = rw n at l.unwritten }
+
+    module _ (d : t ≡ true) (g : is_some (register text) ≡ true) {r : Reference} {o' : Outgoing} (e : Steps o r o') where
+      its : KeptOf s (detail_at (details_in s) i) (get_or kept i j).detail
+      its = kept_at s kept k i h j
+
+      one : chosen_from is_returned s kept i ≡ detail_at (details_in s) i ∷ chosen_from is_returned s kept (i + 1)
+      one = chosen_one is_returned s kept k i h j t u d
+
+      number_is : r.number ≡ o.count + 1
+      number_is = ap (λ (x : Reference). x.number) e.reference
+
+      count_is : o'.count ≡ o.count + 1
+      count_is = ap (λ (x : Outgoing). x.count) e.kept
+
+      pub returns_turn : {a' : ℕ} {out' : List ℕ} → Wrote (return103 (book_of (take 22 text) b) r.number (get_or kept i j).detail.amount (past ":52D:" (span_of s (get_or kept i j).detail.branch)) (past ":50H:" (span_of s (get_or kept i j).detail.payer))) a out a' out'
+          → ReturnsLeft was b text s kept at start (i + 1) o' a' out'
+      unfolding cut
+      returns_turn {a'} {out'} w =
+          let v : Wrote (return_of (book_by text b) r.number (detail_at (details_in s) i)) a out a' out' = rw (
+            ← return_kept s (book_by text b) r.number (get_or kept i j).detail.amount (detail_at (details_in s) i) (get_or kept i j).detail.branch (get_or kept i j).detail.payer its.amount its.branch its.payer,
+            temporary_at_lem text g,
+          ) w in
+          record {
+            count = omega (arith, l.count, count_is, ap length one);
+            few = omega (arith, l.few, count_is);
+            unwritten = rw count_is (left_turn (rw (one, returns_step (book_by text b) o.count (detail_at (details_in s) i) (chosen_from is_returned s kept (i + 1))) at l.unwritten) (rw number_is at v));
+          }

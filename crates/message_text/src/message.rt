@@ -1,5 +1,5 @@
-// The text of a message that is booked, and what is due for it.
-ghost use Rattle.std.specs.Prelude.{◌≡◌, true, ◌*◌, ◌^◌, ◌≤◌, ◌<◌};
+// The text of a message that is booked.
+ghost use Rattle.std.specs.Prelude.{◌≡◌, true, ◌*◌, ◌^◌, ◌≤◌, ◌<◌, length};
 ghost use Rattle.rules.specs.Text.{is_some};
 ghost use Rattle.rules.specs.Calls.{position_after};
 ghost use Rattle.rules.specs.Area.{decode, holds};
@@ -7,26 +7,29 @@ ghost use Rattle.details.specs.Message.{message_in};
 ghost use Rattle.conditions.specs.Books.{Books};
 ghost use Rattle.verdict.specs.Details.{JudgedIn};
 ghost use Rattle.position.specs.Values.{position_value};
-ghost use Rattle.message_text.specs.Message.{AfterOf, PartsFor, DueFor, DueIn, TextPut, verdict_follows};
+ghost use Rattle.engine.specs.Totals.{begun};
+ghost use Rattle.message_text.specs.Message.{AfterOf, PartsFor, TextPut, verdict_follows};
 
-use crate::numbered::{Due, put_messages};
 use crate::postings::put_postings;
-use crate::verdicts::parts_of;
+use crate::returns::put_returns;
+use crate::verdicts::{count_listed, parts_of, put_parts};
 use conditions::Booking;
-use detail_lines::Counts;
-use engine::{Totals, header_of, register_text};
-use outgoing_number::Numbered;
+use engine::{header_of, register_text};
+use outgoing_number::{Numbered, Outgoing};
 use position::Position;
 use state_conditions::{detailed_by, transferred_by};
+use verdict::Judged;
+use written::Book;
 
-// The position as the message leaves it, from its totals before.
-pub fn position_after(b: Booking, x: Totals) -> Position
-    requires transferred_bound { x.transferred < 2 ^ 48 }
-    requires detailed_bound { x.detailed < 2 ^ 48 }
+// The position as the message leaves it, where it was open or missing before.
+pub fn position_after(b: Booking, before: Option<Position>) -> Position
+    requires transferred_bound { (begun b.key before).transferred < 2 ^ 48 }
+    requires detailed_bound { (begun b.key before).detailed < 2 ^ 48 }
     requires amount_bound { b.amount ≤ 16 * 10 ^ 16 }
-    ensures { AfterOf b x result }
+    ensures { AfterOf b (begun b.key before) result }
 {
     let key = b.key;
+    let x = before.unwrap_or(Position::empty(key));
     Position {
         key,
         transferred: x.transferred + transferred_by(b),
@@ -44,29 +47,15 @@ fn has_verdict(b: Booking, p: Position) -> bool
     true
 }
 
-// How many parts of an MT199 follow, so many details being listed.
-fn parts_for(b: Booking, p: Position, listed: u32) -> u32
-    requires { listed ≤ 16 }
-    ensures { PartsFor b p listed result }
+// How many parts of an MT199 follow.
+fn parts_for(b: Booking, p: Position, kept: &[Judged]) -> u32
+    requires { length kept.now ≤ 16 }
+    ensures { PartsFor b p kept.now result }
 {
     if has_verdict(b, p) {
-        return parts_of(listed);
+        return parts_of(count_listed(kept));
     }
     0
-}
-
-// What is due for the message, so many of its details being listed and returned: the parts for the listed, and a return for each of the returned.
-pub fn due_for(b: Booking, p: Position, counts: Counts) -> Due
-    requires listed_bound { counts.listed ≤ 16 }
-    requires returned_bound { counts.returned ≤ 16 }
-    ensures { DueFor b p counts result }
-{
-    let parts = parts_for(b, p, counts.listed);
-    Due {
-        messages: parts + counts.returned,
-        parts,
-        details: b.count as u32,
-    }
 }
 
 // The whole text of a message; p is its position as it leaves it.
@@ -74,25 +63,33 @@ pub fn put_message_text(
     out: &mut [u8],
     at: usize,
     s: &[u8],
-    amounts: &[u64; 16],
-    places: &[u16; 128],
-    verdicts: &[u8; 16],
+    kept: &[Judged],
     area: &[u8],
     b: Booking,
     p: Position,
-    due: Due,
 ) -> Numbered
     requires area_value { is_some (holds area.now) ≡ true }
     requires books { Books s.now (message_in s.now) b }
-    requires judged_in { JudgedIn (decode area.now).register s.now amounts.now places.now verdicts.now b.count }
+    requires judged_in { JudgedIn (decode area.now).register s.now kept.now }
     requires p_value { position_value p ≡ position_after (decode area.now) (message_in s.now) }
-    requires due_in { DueIn (decode area.now) (message_in s.now) due }
     ensures { TextPut (decode area.now) (message_in s.now) at out.old result out.new }
 {
     let h = header_of(area);
     let text = register_text(area);
-    let a = put_postings(out, at, h.day, p, text, s, amounts, places, verdicts, b);
-    put_messages(
-        out, a, h.day, h.count, p, due, text, s, amounts, places, verdicts,
-    )
+    let book = Book {
+        day: h.day,
+        key: p.key,
+    };
+    let mut o = Outgoing {
+        day: h.day,
+        count: h.count,
+    };
+    let parts = parts_for(b, p, kept);
+    let a = put_postings(out, at, book, text, s, kept, b);
+    let c = put_parts(out, a, &mut o, parts, p, s, kept);
+    let d = put_returns(out, c, &mut o, book, text, s, kept);
+    Numbered {
+        at: d,
+        count: o.count,
+    }
 }

@@ -1,43 +1,37 @@
-// The MT103 of the next returned detail.
-ghost use Rattle.position.specs.Values.{position_value};
-ghost use Rattle.message_text.specs.Returns.{ReturnDue, ReturnPut};
+// The MT103 of the returned details.
+ghost use Rattle.std.specs.Prelude.{◌≡◌, true, ◌+◌, ◌<◌, ◌≤◌, length};
+ghost use Rattle.rules.specs.Text.{is_some};
+ghost use Rattle.rules.specs.Register.{register};
+ghost use Rattle.verdict.specs.Details.{KeptIn};
+ghost use Rattle.message_text.specs.Returns.{ReturnsPut};
 
-use crate::numbered::{Due, Progress};
-use detail_lines::{next_returned, put_detail_return};
-use outgoing_number::Reference;
-use position::Position;
-use verdict::judged_at;
+use detail_lines::put_detail_return;
+use outgoing_number::Outgoing;
+use verdict::Judged;
 use written::Book;
 
-// By the reference that was issued for it; p is the position of the message s.
-pub fn put_next_return(
+// One for each, by the next reference.
+pub fn put_returns(
     out: &mut [u8],
-    t: Progress,
-    r: Reference,
-    p: Position,
-    due: Due,
+    at: usize,
+    o: &mut Outgoing,
+    book: Book,
     text: &[u8],
     s: &[u8],
-    amounts: &[u64; 16],
-    places: &[u16; 128],
-    verdicts: &[u8; 16],
-) -> Progress
-    requires { ReturnDue due text.now s.now amounts.now places.now verdicts.now t }
-    ensures { ReturnPut r (position_value p) due text.now s.now verdicts.now t out.old result out.new }
+    kept: &[Judged],
+) -> usize
+    requires text_passes { is_some (register text.now) ≡ true }
+    requires in_bounds { 22 ≤ length text.now }
+    requires kept_in { KeptIn s.now kept.now }
+    requires room { o.old.count + length kept.now < 4294967296 }
+    ensures { ReturnsPut o.old o.new book text.now s.now kept.now at out.old result out.new }
 {
-    let book = Book {
-        day: r.day,
-        bank: p.key.bank,
-        date: p.key.date,
-    };
-    let i = next_returned(verdicts, t.returned, due.details);
-    let j = judged_at(amounts, places, verdicts, i);
-    let a = put_detail_return(out, t.out, book, &text[0..22], r.number, s, j);
-    Progress {
-        out: a,
-        left: t.left - 1,
-        first: t.first,
-        listed: t.listed,
-        returned: i + 1,
+    let mut a = at;
+    for j in kept {
+        if j.verdict.is_returned() {
+            let r = o.issue();
+            a = put_detail_return(out, a, book, &text[0..22], r.number, s, &j.detail);
+        }
     }
+    a
 }

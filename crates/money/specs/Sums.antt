@@ -1,59 +1,64 @@
 -- Reading an amount, one law for each way that the code goes; and how large an amount can be.
-use Rattle.std.specs.Prelude.{◌≡◌, refl, Bool, true, false, ◌&&◌, cond, List, [], ◌∷◌, ℕ, suc, ◌+◌, ◌-◌, ◌*◌, ◌^◌, ◌≤◌, ◌<◌, leb, eqb, length, get_or}
-use Rattle.std.proofs.Common.{sym, ap, ◌∙◌, add-zero, one-mul, mul_comm, mul_assoc, mul-le-mul_left, mul-le-mul_right, pow-suc, lt_of_lt_of_le, arith}
+use Rattle.std.specs.Prelude.{◌≡◌, refl, Bool, true, false, ◌&&◌, cond, List, [], ◌∷◌, ℕ, suc, ◌+◌, ◌-◌, ◌*◌, ◌^◌, ◌≤◌, ◌<◌, leb, eqb, length, get_or, take, drop}
+use Rattle.std.specs.List.{prefix_len}
+use Rattle.std.proofs.Common.{◌∙◌, add-zero, zero-add, length-drop, one-mul, mul_comm, mul_assoc, mul-le-mul_left, mul-le-mul_right, pow-suc, lt_of_lt_of_le, arith}
 use Rattle.std.proofs.Math.Option.{Option, none, some}
+use Rattle.std.proofs.Math.Seq.{get_or-drop}
 use Rattle.std.proofs.Math.Nat.{pow-le-pow_right}
 use borrow.Author.Tests.{leb-true, le-leb, lt-leb, eq-eqb, ne_eqb}
-use Rattle.rules.specs.Text.{is_digit}
+use Rattle.rules.specs.Text.{is_digit, every}
 use Rattle.rules.specs.Amounts.{decimals, levs, amount}
-use Rattle.laws.specs.Parts.{cut, cut_step, cut_done, cut_get, cut_length}
+use Rattle.laws.specs.Parts.{cut, cut_all, from, from_cut}
+use Rattle.laws.specs.Front.{front_passed_all}
+use Rattle.laws.specs.Slices.{rest_whole}
 use Rattle.laws.specs.Tests.{holds_told, none_some}
-use Rattle.laws.specs.Reading.{digit_small}
+use Rattle.laws.specs.Reading.{digit_small, digit_low}
 use Rattle.laws.specs.Places.{Passed}
 use Rattle.laws.specs.Values.{Valued, TakesDigits, behind_digits}
 
--- ---- behind the comma
+-- ---- behind the comma: none, one, two or more bytes, each a clause of the definition
 
--- v levs and the decimals c and d, in stotinki
-pub record Worth (v c d r : ℕ) : Type 0 where
-  pub value : r ≡ v * 100 + (c - 48) * 10 + (d - 48)
-
-no_first : (v c : ℕ) (cs : List ℕ) → is_digit c ≡ false → decimals v (c ∷ cs) ≡ none
+pub decimals_none : (s : List ℕ) (v : ℕ) → length s < 1 → some (v * 100) ≡ decimals v s
 unfolding decimals
-no_first v c [] h = rw h
-no_first v c (d ∷ []) h = rw h
-no_first v c (d ∷ e ∷ es) h = refl
+decimals_none [] v h = refl
+decimals_none (c ∷ s) v h = absurd (omega arith)
 
-no_second : (v c d : ℕ) (ds : List ℕ) → is_digit c ≡ true → is_digit d ≡ false → decimals v (c ∷ d ∷ ds) ≡ none
+module _ (t : Bool) where
+  pub decimals_one : (s : List ℕ) (v : ℕ) → 1 ≤ length s → length s < 2 → t ≡ is_digit (get_or s 0 0) → t ≡ true → some (v * 100 + (get_or s 0 0 - 48) * 10) ≡ decimals v s
+  unfolding decimals
+  decimals_one [] v h k u e = absurd (omega arith)
+  decimals_one (c ∷ []) v h k u e = rw (← u, e)
+  decimals_one (c ∷ d ∷ s) v h k u e = absurd (omega arith)
+
+  pub decimals_first : (s : List ℕ) (v : ℕ) → 1 ≤ length s → length s < 3 → t ≡ is_digit (get_or s 0 0) → t ≡ false → none ≡ decimals v s
+  unfolding decimals
+  decimals_first [] v h k u e = absurd (omega arith)
+  decimals_first (c ∷ []) v h k u e = rw (← u, e)
+  decimals_first (c ∷ d ∷ []) v h k u e = rw (← u, e)
+  decimals_first (c ∷ d ∷ f ∷ s) v h k u e = absurd (omega arith)
+
+  module _ (q : Bool) where
+    pub decimals_two : (s : List ℕ) (v : ℕ) → 2 ≤ length s → length s < 3 → t ≡ is_digit (get_or s 0 0) → t ≡ true → q ≡ is_digit (get_or s 1 0) → q ≡ true
+        → some (v * 100 + (get_or s 0 0 - 48) * 10 + (get_or s 1 0 - 48)) ≡ decimals v s
+    unfolding decimals
+    decimals_two [] v h k u e w g = absurd (omega arith)
+    decimals_two (c ∷ []) v h k u e w g = absurd (omega arith)
+    decimals_two (c ∷ d ∷ []) v h k u e w g = rw (← u, e, ← w, g)
+    decimals_two (c ∷ d ∷ f ∷ s) v h k u e w g = absurd (omega arith)
+
+    pub decimals_second : (s : List ℕ) (v : ℕ) → 2 ≤ length s → length s < 3 → t ≡ is_digit (get_or s 0 0) → t ≡ true → q ≡ is_digit (get_or s 1 0) → q ≡ false → none ≡ decimals v s
+    unfolding decimals
+    decimals_second [] v h k u e w g = absurd (omega arith)
+    decimals_second (c ∷ []) v h k u e w g = absurd (omega arith)
+    decimals_second (c ∷ d ∷ []) v h k u e w g = rw (← u, e, ← w, g)
+    decimals_second (c ∷ d ∷ f ∷ s) v h k u e w g = absurd (omega arith)
+
+pub decimals_long : (s : List ℕ) (v : ℕ) → 3 ≤ length s → none ≡ decimals v s
 unfolding decimals
-no_second v c d [] g h = rw (g, h)
-no_second v c d (e ∷ es) g h = refl
-
-module _ (s : List ℕ) (a b v : ℕ) (k : b ≤ length s) where
-  pub decimals_none : a ≤ b → b - a ≡ 0 → (r : ℕ) → Worth v 48 48 r → some r ≡ decimals v (cut s a b)
-  unfolding decimals
-  decimals_none h e r w = rw (cut_done s a b h (omega arith)) (ap some (omega (arith, w.value)))
-
-  pub decimals_long : 2 < b - a → none ≡ decimals v (cut s a b)
-  unfolding decimals
-  decimals_long h = rw (cut_step s a b (omega arith) k, cut_step s (a + 1) b (omega arith) k, cut_step s (a + 1 + 1) b (omega arith) k)
-
-  module _ (f : b - a ≡ 0 → ⊥) (t : Bool) (u : t ≡ is_digit (get_or s a 0)) where
-    pub decimals_first : t ≡ false → none ≡ decimals v (cut s a b)
-    decimals_first d = rw (cut_step s a b (omega arith) k) (sym (no_first v _ _ (sym u ∙ d)))
-
-    module _ (d : t ≡ true) where
-      pub decimals_one : b - a ≡ 1 → (r : ℕ) → Worth v (get_or s a 0) 48 r → some r ≡ decimals v (cut s a b)
-      unfolding decimals
-      decimals_one e r w = rw (cut_step s a b (omega arith) k, cut_done s (a + 1) b (omega arith) (omega arith), ← u, d) (ap some (omega (arith, w.value)))
-
-      module _ (g : b - a ≡ 1 → ⊥) (q : Bool) (p : q ≡ is_digit (get_or s (a + 1) 0)) where
-        pub decimals_second : q ≡ false → none ≡ decimals v (cut s a b)
-        decimals_second z = rw (cut_step s a b (omega arith) k, cut_step s (a + 1) b (omega arith) k) (sym (no_second v _ _ _ (sym u ∙ d) (sym p ∙ z)))
-
-        pub decimals_two : b - a ≤ 2 → q ≡ true → (r : ℕ) → Worth v (get_or s a 0) (get_or s (a + 1) 0) r → some r ≡ decimals v (cut s a b)
-        unfolding decimals
-        decimals_two m z r w = rw (cut_step s a b (omega arith) k, cut_step s (a + 1) b (omega arith) k, cut_done s (a + 1 + 1) b (omega arith) (omega arith), ← u, d, ← p, z) (ap some w.value)
+decimals_long [] v h = absurd (omega arith)
+decimals_long (c ∷ []) v h = absurd (omega arith)
+decimals_long (c ∷ d ∷ []) v h = absurd (omega arith)
+decimals_long (c ∷ d ∷ e ∷ s) v h = refl
 
 -- ---- before it: the first k bytes are digits, and v is their number
 
@@ -61,55 +66,72 @@ levs_take : TakesDigits levs
 unfolding levs
 levs_take = record { takes = λ v c cs h. rw h }
 
-module _ (s : List ℕ) (a b k v : ℕ) (h : a ≤ b) (l : b ≤ length s) (p : Passed is_digit s a (b - a) k) (w : Valued s a k v) where
-  behind : levs 0 (cut s a b) ≡ levs v (cut s (a + k) b)
-  behind = behind_digits levs levs_take s a k b v w (omega (arith, p.within))
+levs_empty : (s : List ℕ) (v : ℕ) → length s < 1 → none ≡ levs v s
+unfolding levs
+levs_empty [] v h = refl
+levs_empty (c ∷ s) v h = absurd (omega arith)
 
-  pub levs_end : k ≡ b - a → none ≡ levs 0 (cut s a b)
-  unfolding levs
-  levs_end e = rw (behind, cut_done s (a + k) b (omega arith) (omega arith))
+levs_other : (s : List ℕ) (v : ℕ) → 1 ≤ length s → is_digit (get_or s 0 0) ≡ false → levs v s ≡ cond (eqb (get_or s 0 0) 44) (decimals v (drop 1 s)) none
+unfolding levs
+levs_other [] v h d = absurd (omega arith)
+levs_other (c ∷ s) v h d = rw d refl
 
-  module _ (n : k ≡ b - a → ⊥) where
-    short : k < b - a
-    short = omega (arith, p.within, n)
+module _ (s : List ℕ) (k : ℕ) (e : k ≡ prefix_len is_digit s) where
+  p : Passed is_digit s 0 (length s) k
+  p = front_passed_all is_digit s k e
 
-    byte : levs 0 (cut s a b) ≡ cond (eqb (get_or s (a + k) 0) 44) (decimals v (cut s (a + k + 1) b)) none
-    unfolding levs
-    byte = behind ∙ rw (cut_step s (a + k) b (omega (arith, short)) l, p.next short)
+  pub levs_digits : every is_digit (cut s 0 (0 + k)) ≡ true
+  levs_digits = p.front
 
-    pub levs_comma : get_or s (a + k) 0 ≡ 44 → (o : Option ℕ) → o ≡ decimals v (cut s (a + k + 1) b) → o ≡ levs 0 (cut s a b)
-    levs_comma c o e = rw (byte, eq-eqb _ _ c) e
+  module _ (v : ℕ) (w : Valued s 0 k v) where
+    behind : levs 0 s ≡ levs v (drop k s)
+    unfolding from
+    behind =
+        let d : levs 0 (cut s 0 (length s)) ≡ levs v (cut s (0 + k) (length s)) = behind_digits levs levs_take s 0 k (length s) v w (omega (arith, p.within)) in
+        rw (cut_all, from_cut s (0 + k) (length s) (omega arith), zero-add) at d
 
-    pub levs_bad : (get_or s (a + k) 0 ≡ 44 → ⊥) → none ≡ levs 0 (cut s a b)
-    levs_bad c = rw (byte, ne_eqb _ _ c)
+    byte : 1 ≤ length (drop k s) → levs 0 s ≡ cond (eqb (get_or (drop k s) 0 0) 44) (decimals v (drop 1 (drop k s))) none
+    byte h =
+        let n : k < length s = omega (arith, length-drop k s) in
+        let q : is_digit (get_or (drop k s) 0 0) ≡ false = rw (get_or-drop k s 0 0, add-zero) (rw zero-add at (p.next n)) in
+        behind ∙ levs_other (drop k s) v h q
 
-    -- the levs before the comma leave room for the stotinki
-    pub levs_room : b - a ≤ 15 → v < 10 ^ 14
-    levs_room m = lt_of_lt_of_le w.small (pow-le-pow_right (omega arith) {i = k} {j = 14} (omega (arith, short)))
+    -- q is what stands behind them
+    module _ (q : List ℕ) (z : q ≡ drop k s) where
+      pub levs_end : length q < 1 → none ≡ levs 0 s
+      levs_end h = rw behind (levs_empty (drop k s) v (rw z at h))
+
+      module _ (h : 1 ≤ length q) where
+        pub levs_comma : get_or q 0 0 ≡ 44 → (o : Option ℕ) → o ≡ decimals v (take (length q - 1) (drop 1 q)) → o ≡ levs 0 s
+        levs_comma c o d = rw (byte (rw z at h), ← z, eq-eqb _ _ c) (rw (rest_whole q 1) at d)
+
+        pub levs_bad : (get_or q 0 0 ≡ 44 → ⊥) → none ≡ levs 0 s
+        levs_bad c = rw (byte (rw z at h), ← z, ne_eqb _ _ c)
+
+        -- the levs before the comma leave room for the stotinki
+        pub levs_room : length s ≤ 15 → v < 10 ^ 14
+        levs_room m = let l : 1 ≤ length (drop k s) = rw z at h in lt_of_lt_of_le w.small (pow-le-pow_right (omega arith) {i = k} {j = 14} (omega (arith, length-drop k s)))
 
 -- ---- the whole
 
-module _ (s : List ℕ) (a b : ℕ) (k : b ≤ length s) where
-  pub amount_long : 15 < b - a → none ≡ amount (cut s a b)
+module _ (s : List ℕ) where
+  pub amount_long : 15 < length s → none ≡ amount s
   unfolding amount
-  amount_long l = rw (cut_length s a b k, lt-leb _ _ l)
+  amount_long l = rw (lt-leb _ _ l)
 
-  module _ (l : b - a ≤ 15) where
-    pub amount_empty : a ≤ b → b ≤ a → none ≡ amount (cut s a b)
-    unfolding amount is_digit
-    amount_empty h m = rw (cut_done s a b h m)
+  module _ (t : Bool) (u : t ≡ is_digit (get_or s 0 0)) where
+    pub amount_head : t ≡ false → length s ≤ 15 → none ≡ amount s
+    unfolding amount
+    amount_head d l = rw (le-leb _ _ l, ← u, d)
 
-    module _ (h : a < b) (t : Bool) (u : t ≡ is_digit (get_or s a 0)) where
-      first : is_digit (get_or (cut s a b) 0 0) ≡ t
-      first = ap is_digit (cut_get s a b 0 (omega arith) ∙ ap (λ (n : ℕ). get_or s n 0) (add-zero a)) ∙ sym u
+    pub amount_levs : length s ≤ 15 → t ≡ true → (o : Option ℕ) → o ≡ levs 0 s → o ≡ amount s
+    unfolding amount
+    amount_levs l d o w = rw (le-leb _ _ l, ← u, d) w
 
-      pub amount_head : t ≡ false → none ≡ amount (cut s a b)
-      unfolding amount
-      amount_head d = rw (cut_length s a b k, le-leb _ _ l, first, d)
-
-      pub amount_levs : t ≡ true → (o : Option ℕ) → o ≡ levs 0 (cut s a b) → o ≡ amount (cut s a b)
-      unfolding amount
-      amount_levs d o w = rw (cut_length s a b k, le-leb _ _ l, first, d) w
+pub amount_empty : (s : List ℕ) → length s < 1 → none ≡ amount s
+unfolding amount is_digit
+amount_empty [] h = refl
+amount_empty (c ∷ s) h = absurd (omega arith)
 
 -- ---- how large an amount can be
 
@@ -164,11 +186,12 @@ amount_small cs n h = go (leb (length cs) 15) (is_digit (get_or cs 0 0)) refl h
 
 pub ruleset sums = (
   decimals_none,
-  decimals_long,
-  decimals_first,
   decimals_one,
-  decimals_second,
+  decimals_first,
   decimals_two,
+  decimals_second,
+  decimals_long,
+  levs_digits,
   levs_comma,
   levs_bad,
   levs_end,
@@ -177,5 +200,7 @@ pub ruleset sums = (
   amount_empty,
   amount_head,
   amount_levs,
+  rest_whole,
   holds_told,
+  digit_low,
 )

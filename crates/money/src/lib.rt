@@ -1,85 +1,46 @@
 // Amounts, read in stotinki.
 #![tactic(auto)]
 
-ghost use Rattle.std.specs.Prelude.{◌≡◌, ◌-◌, ◌^◌, ◌<◌, ◌≤◌, length};
+ghost use Rattle.std.specs.Prelude.{◌≡◌, ◌^◌, ◌<◌, ◌≤◌, length};
 ghost use Rattle.rules.specs.Amounts.{decimals, levs, amount};
-ghost use Rattle.laws.specs.Parts.{cut};
-ghost use Rattle.text.specs.Answers.{num_of};
-ghost use Rattle.money.specs.Sums.{Worth};
+ghost use Rattle.laws.specs.Told.{told};
 
-use text::Num;
+use text::{Class, Digit};
 
-// The levs v with two decimals, in stotinki.
-fn stotinki(v: u64, c: u8, d: u8) -> u64
+// Zero to two digits behind the comma, with v levs before it: a digit that is left out is a zero.
+fn read_decimals(v: u64, s: &[u8]) -> Option<u64>
     requires { v < 10 ^ 14 }
-    ensures { Worth v c d result }
+    ensures { told result ≡ decimals v s.now }
 {
-    let over = text::less(c, 48) * 10 + text::less(d, 48);
-    v * 100 + over as u64
-}
-
-// Zero to two digits behind the comma, from a up to b, with v levs before it: a digit that is left out is a zero.
-fn read_decimals(v: u64, s: &[u8], a: usize, b: usize) -> Num
-    requires v_bound { v < 10 ^ 14 }
-    requires a_le_b { a ≤ b }
-    requires b_in_bounds { b ≤ length s.now }
-    ensures { num_of result ≡ decimals v (cut s.now a b) }
-{
-    let n = b - a;
-    if n == 0 {
-        return Num::Value(stotinki(v, 48, 48));
-    }
-    if n <= 2 {
-        let c = s[a];
-        if text::is_digit(c) {
-            if n == 1 {
-                return Num::Value(stotinki(v, c, 48));
-            }
-            let d = s[a + 1];
-            if text::is_digit(d) {
-                return Num::Value(stotinki(v, c, d));
-            }
-            return Num::Bad;
+    match s {
+        [] => Some(v * 100),
+        [c] if Digit::has(*c) => Some(v * 100 + (*c - 48) as u64 * 10),
+        [c, d] if Digit::has(*c) && Digit::has(*d) => {
+            Some(v * 100 + (*c - 48) as u64 * 10 + (*d - 48) as u64)
         }
-        return Num::Bad;
+        _ => None,
     }
-    Num::Bad
 }
 
-// Digits from a on, one comma, and what stands behind it up to b.
-fn read_levs(s: &[u8], a: usize, b: usize) -> Num
-    requires a_le_b { a ≤ b }
-    requires b_in_bounds { b ≤ length s.now }
-    requires a_bound { b - a ≤ 15 }
-    ensures { num_of result ≡ levs 0 (cut s.now a b) }
+// Digits, one comma, and what stands behind it.
+fn read_levs(s: &[u8]) -> Option<u64>
+    requires { length s.now ≤ 15 }
+    ensures { told result ≡ levs 0 s.now }
 {
-    let n = (b - a) as u32;
-    let k = text::digits_at(s, a, n);
-    let v = text::digits_value(s, a, k);
-    if k == n {
-        return Num::Bad;
+    let k = text::leading::<Digit>(s);
+    let v = text::digits_value(s, 0, k as u32);
+    match &s[k..] {
+        [b',', behind @ ..] => read_decimals(v, behind),
+        _ => None,
     }
-    let comma = a + k as usize;
-    if s[comma] == 44 {
-        return read_decimals(v, s, comma + 1, b);
-    }
-    Num::Bad
 }
 
-// The amount from a up to b: 1 to 15 characters that begin with a digit.
-pub fn read_amount(s: &[u8], a: usize, b: usize) -> Num
-    requires a_le_b { a ≤ b }
-    requires b_in_bounds { b ≤ length s.now }
-    ensures { num_of result ≡ amount (cut s.now a b) }
+// The amount: 1 to 15 characters that begin with a digit.
+pub fn read_amount(s: &[u8]) -> Option<u64>
+    ensures { told result ≡ amount s.now }
 {
-    if b - a <= 15 {
-        if a < b {
-            if text::is_digit(s[a]) {
-                return read_levs(s, a, b);
-            }
-            return Num::Bad;
-        }
-        return Num::Bad;
+    match s {
+        [first, ..] if s.len() <= 15 && Digit::has(*first) => read_levs(s),
+        _ => None,
     }
-    Num::Bad
 }

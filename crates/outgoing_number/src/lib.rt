@@ -2,7 +2,6 @@
 #![tactic(auto)]
 
 ghost use Rattle.std.specs.Prelude.{◌+◌, ◌<◌, ◌^◌};
-ghost use Rattle.outgoing_number.specs.Issue.{Steps};
 
 // The outgoing number.
 #[derive(Clone, Copy)]
@@ -31,14 +30,18 @@ pub struct Numbered {
     pub count: u32,
 }
 
-// The next reference: the count is stepped forward where it is kept.
-pub fn issue(o: &mut Outgoing) -> Reference
-    requires { o.old.count + 1 < 2 ^ 32 }
-    ensures { Steps o.old result o.new }
-{
-    o.count = o.count + 1;
-    Reference {
-        day: o.day,
-        number: o.count,
+impl Outgoing {
+    ghost use Rattle.outgoing_number.specs.Issue.{Steps};
+
+    // The next reference: the count is stepped forward where it is kept.
+    pub fn issue(&mut self) -> Reference
+        requires { self.old.count + 1 < 2 ^ 32 }
+        ensures { Steps self.old result self.new }
+    {
+        self.count += 1;
+        Reference {
+            day: self.day,
+            number: self.count,
+        }
     }
 }

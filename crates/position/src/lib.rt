@@ -2,11 +2,9 @@
 #![tactic(auto)]
 
 ghost use Rattle.std.specs.Prelude.{◌≡◌};
-ghost use Rattle.rules.specs.Engine.{key_before, same_key};
-ghost use Rattle.position.specs.Values.{key_value};
 
-// What tells one position from another.
-#[derive(Clone, Copy)]
+// What tells one position from another; keys are ordered "by BIC in byte order and then date".
+#[derive(Clone, Copy, PartialEq, Eq, PartialOrd, Ord)]
 pub struct Key {
     // The sender, the number of its BIC.
     pub bank: u64,
@@ -15,7 +13,7 @@ pub struct Key {
 }
 
 // A position.
-#[derive(Clone, Copy)]
+#[derive(Clone, Copy, PartialEq, Eq)]
 pub struct Position {
     // Its bank and date.
     pub key: Key,
@@ -28,28 +26,17 @@ pub struct Position {
 // "Each total is at most 99,999,999,999,999."
 pub const LIMIT: u64 = 99999999999999;
 
-// "By BIC in byte order and then date": does k stand before l?
-pub fn is_before(k: Key, l: Key) -> bool
-    ensures { result ≡ key_before (key_value k) (key_value l) }
-{
-    if k.bank < l.bank {
-        return true;
-    }
-    if l.bank < k.bank {
-        return false;
-    }
-    if k.date < l.date {
-        return true;
-    }
-    false
-}
+impl Position {
+    ghost use Rattle.position.specs.Values.{empty};
 
-// Are both of one sender and centralisation date?
-pub fn is_same(k: Key, l: Key) -> bool
-    ensures { result ≡ same_key (key_value k) (key_value l) }
-{
-    if k.bank == l.bank {
-        return k.date == l.date;
+    // "A missing one begins with 0 and 0."
+    pub fn empty(key: Key) -> Self
+        ensures { result ≡ empty key }
+    {
+        Position {
+            key,
+            transferred: 0,
+            detailed: 0,
+        }
     }
-    false
 }

@@ -1,30 +1,32 @@
 -- Numbers written by groups of eight places: what a writer of such a group lays, and how groups make up a number and an amount.
 use Rattle.std.specs.Prelude.{◌≡◌, ◌⊎◌, List, [], ◌∷◌, ◌++◌, ℕ, ◌+◌, ◌-◌, ◌/◌, ◌%◌, ◌^◌, ◌≤◌, ◌<◌}
+use Rattle.std.specs.Int.{to_be_bytes, w64}
 use Rattle.std.proofs.Math.Path.{sym}
+use Rattle.std.proofs.Math.Nat.{div-one, zero-add}
 use Rattle.std.proofs.Common.{ap, ◌∙◌, inl, inr, eq-zero-or-pos, lit<, lit≤}
 use native.Mathlib.Omega.{arith}
 use Rattle.std.proofs.Math.ListN.{length, length-append}
-use Rattle.rules.specs.Text.{places, fixed, width, decimal}
+use Rattle.std.proofs.Math.Seq.{take-length}
+use Rattle.rules.specs.Text.{places, fixed, bytes, width, decimal}
 use Rattle.rules.specs.Amounts.{written}
 use Rattle.laws.specs.Parts.{cut}
-use Rattle.laws.specs.Laid.{laid_behind}
 use Rattle.laws.specs.Writing.{Wrote, ahead, furthest, filled, wrote_then}
-use Rattle.laws.specs.Pieces.{wrote_nothing, wrote_3}
+use Rattle.laws.specs.Pieces.{wrote_3}
+use Rattle.put.specs.Laying.{wrote_behind}
 use Rattle.laws.specs.Digits.{places_length, places_split, places_part, places_end, places_rest, places_front}
 
 -- the last k of eight places, and nulls in front where k is more
 unfoldable pub last_of : ℕ → ℕ → List ℕ → List ℕ
 last_of null k d = filled (k - 8) null ++ cut d (8 - k) 8
 
-pub last_joined : (null k a : ℕ) (d : List ℕ) {out out₁ out' : List ℕ} {at m r : ℕ} → Wrote (filled (k - 8) null) at out m out₁ → Wrote (cut d a 8) m out₁ r out' → a ≡ 8 - k
-    → Wrote (last_of null k d) at out r out'
-unfolding last_of
-last_joined null k a d v w e = wrote_then v (rw e at w)
+module _ (null k : ℕ) (d : List ℕ) {out out' : List ℕ} {at r : ℕ} where
+  pub last_few : k ≤ 8 → Wrote (cut d (8 - k) 8) at out r out' → Wrote (last_of null k d) at out r out'
+  unfolding last_of filled
+  last_few h w = let e : k - 8 ≡ 0 = omega arith in rw e w
 
--- none in front of eight places or fewer
-pub no_nulls : (null k : ℕ) {out : List ℕ} {at : ℕ} → k ≤ 8 → length out ≤ furthest → Wrote (filled (k - 8) null) at out at out
-unfolding filled
-no_nulls null k h s = let e : k - 8 ≡ 0 = omega arith in rw e (wrote_nothing s)
+  pub last_more : {m : ℕ} {out₁ : List ℕ} → 8 < k → length d ≡ 8 → Wrote (filled (k - 8) null) at out m out₁ → Wrote d m out₁ r out' → Wrote (last_of null k d) at out r out'
+  unfolding last_of cut
+  last_more h l v w = let e : 8 - k ≡ 0 = omega arith in rw (e, ← l, take-length d) (rw l (wrote_then v w))
 
 -- of a number that eight places hold, they are its k places
 last_places : (base null k v : ℕ) → v < base ^ 8 → last_of null k (places base null 8 v) ≡ places base null k v
@@ -41,6 +43,11 @@ last_places base null k v h = pick (eq-zero-or-pos (k - 8))
 pub last_wrote : (base null k v : ℕ) (d : List ℕ) {out out' : List ℕ} {at r : ℕ} → d ≡ places base null 8 v → v < base ^ 8 → Wrote (last_of null k d) at out r out'
     → Wrote (places base null k v) at out r out'
 last_wrote base null k v d e h w = rw (e, last_places base null k v h) at w
+
+-- the eight bytes of a number
+pub be_bytes : (v : ℕ) → v < 2 ^ 64 → to_be_bytes w64 v ≡ bytes 8 v
+unfolding places
+be_bytes v h = simp (zero-add, div-one)
 
 -- ---- groups of a number
 
@@ -106,6 +113,4 @@ module _ (w v mark : ℕ) {out out' : List ℕ} {at r : ℕ} (e : w ≡ width 19
   unfolding written
   amount_measured h s f c =
       let l : length (written (mark ∷ []) v) ≡ w + 3 = rw (length-append, length-append, places_length 10 48 (width 19 (v / 100)) (v / 100), places_length 10 48 2 (v % 100), ← e) (omega arith) in
-      record { cursor = rw l c; output = f ∙ sym (laid_behind _ at out h); short = s }
-
-pub ruleset grouping = (last_joined, no_nulls, last_wrote, low_wrote, group_wrote, decimal_wrote, levs_few, levs_more, amount_wrote, amount_measured)
+      wrote_behind _ h s f (rw l c)

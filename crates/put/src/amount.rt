@@ -7,17 +7,13 @@ ghost use Rattle.put.specs.Groups.{levs_of};
 
 use crate::digits::put_fixed;
 use crate::groups::{eight, width_of};
-use crate::parts::{put_byte, put_part, step};
+use crate::parts::{put_byte, put_bytes, step};
 
 // How many digits the levs of some stotinki have: the last two are no levs.
 fn width_levs(v: u64) -> usize
     ensures { (result ≡ width 19 (v / 100)) × (result ≤ 20) }
 {
-    let w = width_of(v);
-    if w <= 3 {
-        return 1;
-    }
-    w - 2
+    width_of(v).max(3) - 2
 }
 
 // The levs in w digits: those of q, and all but two of the eight behind them.
@@ -25,10 +21,10 @@ fn put_levs(out: &mut [u8], at: usize, w: usize, q: u64, d: &[u8; 8]) -> usize
     ensures { Wrote (levs_of w q d.now) at out.old result out.new }
 {
     if w <= 6 {
-        return put_part(out, at, d, 6 - w, 6);
+        return put_bytes(out, at, &d[6 - w..6]);
     }
     let a = put_fixed(out, at, w - 6, q);
-    put_part(out, a, d, 0, 6)
+    put_bytes(out, a, &d[0..6])
 }
 
 // An amount in levs: the mark, a comma or a point, before the two decimals.
@@ -42,5 +38,5 @@ pub fn put_amount(out: &mut [u8], at: usize, mark: u8, v: u64) -> usize
     let d = eight((v % 100000000) as u32);
     let a = put_levs(out, at, w, v / 100000000, &d);
     let b = put_byte(out, a, mark);
-    put_part(out, b, &d, 6, 8)
+    put_bytes(out, b, &d[6..8])
 }

@@ -1,38 +1,21 @@
 // Numbers, written by groups of eight places.
-ghost use Rattle.std.specs.Prelude.{◌≡◌, ◌-◌, ◌^◌, ◌<◌};
+ghost use Rattle.std.specs.Prelude.{◌^◌, ◌<◌};
 ghost use Rattle.rules.specs.Text.{fixed, bytes, decimal};
-ghost use Rattle.laws.specs.Writing.{Wrote, filled};
+ghost use Rattle.laws.specs.Writing.{Wrote};
 ghost use Rattle.put.specs.Groups.{last_of};
 
-use crate::groups::{eight, eight_bytes, width_of};
-use crate::parts::{put_part, put_same, step};
-
-// The nulls in front of eight places where k are more.
-fn put_nulls(out: &mut [u8], at: usize, k: usize, null: u8) -> usize
-    ensures { Wrote (filled (k - 8) null) at out.old result out.new }
-{
-    if k <= 8 {
-        return at;
-    }
-    put_same(out, at, k - 8, null)
-}
-
-// Which of eight places is the first of the last k.
-fn first_of(k: usize) -> usize
-    ensures { result ≡ 8 - k }
-{
-    if k >= 8 {
-        return 0;
-    }
-    8 - k
-}
+use crate::groups::{eight, width_of};
+use crate::parts::{put_bytes, put_same, step};
 
 // The last k of eight places, and nulls in front where k are more.
 fn put_last(out: &mut [u8], at: usize, k: usize, null: u8, d: &[u8; 8]) -> usize
     ensures { Wrote (last_of null k d.now) at out.old result out.new }
 {
-    let a = put_nulls(out, at, k, null);
-    put_part(out, a, d, first_of(k), 8)
+    if k <= 8 {
+        return put_bytes(out, at, &d[8 - k..8]);
+    }
+    let a = put_same(out, at, k - 8, null);
+    put_bytes(out, a, d)
 }
 
 // A number below a hundred million in k digits.
@@ -41,7 +24,7 @@ fn put_eight(out: &mut [u8], at: usize, k: usize, v: u32) -> usize
     ensures { Wrote (fixed k v) at out.old result out.new }
 {
     let d = eight(v);
-    put_last(out, at, k, 48, &d)
+    put_last(out, at, k, b'0', &d)
 }
 
 // A number of sixteen digits at most in k digits.
@@ -82,8 +65,7 @@ pub fn put_fixed(out: &mut [u8], at: usize, k: usize, v: u64) -> usize
 pub fn put_be(out: &mut [u8], at: usize, k: usize, v: u64) -> usize
     ensures { Wrote (bytes k v) at out.old result out.new }
 {
-    let d = eight_bytes(v);
-    put_last(out, at, k, 0, &d)
+    put_last(out, at, k, 0, &v.to_be_bytes())
 }
 
 // A number with no leading zero.

@@ -1,6 +1,6 @@
-// Eight places of a number, and how many digits it has.
+// Eight digits of a number, and how many digits it has.
 ghost use Rattle.std.specs.Prelude.{◌≡◌, ◌/◌, ◌<◌};
-ghost use Rattle.rules.specs.Text.{fixed, bytes, width};
+ghost use Rattle.rules.specs.Text.{fixed, width};
 
 // A number below a hundred million without its last four digits: by 16-bit division where that serves.
 fn upper_four(v: u32) -> u16
@@ -13,7 +13,7 @@ fn upper_four(v: u32) -> u16
     (v / 10000) as u16
 }
 
-// The eight digits of a number below a hundred million.
+// The eight digits of a number below a hundred million. A loop that takes one digit at a time misses a bound: a turn takes 887,344 instructions then, of 615,000.
 pub fn eight(v: u32) -> [u8; 8]
     requires { v < 100000000 }
     ensures { result ≡ fixed 8 v }
@@ -38,92 +38,12 @@ pub fn eight(v: u32) -> [u8; 8]
     ]
 }
 
-// The eight bytes of a number, big-endian.
-pub fn eight_bytes(v: u64) -> [u8; 8]
-    ensures { result ≡ bytes 8 v }
-{
-    let h = (v / 4294967296) as u32;
-    let l = (v % 4294967296) as u32;
-    [
-        (h / 16777216) as u8,
-        (h / 65536 % 256) as u8,
-        (h / 256 % 256) as u8,
-        (h % 256) as u8,
-        (l / 16777216) as u8,
-        (l / 65536 % 256) as u8,
-        (l / 256 % 256) as u8,
-        (l % 256) as u8,
-    ]
-}
-
-// How many digits a number below a hundred million has.
-fn width_small(v: u32) -> usize
-    requires { v < 100000000 }
-    ensures { result ≡ width 19 v }
-{
-    if v < 10000 {
-        if v < 100 {
-            if v < 10 {
-                return 1;
-            }
-            return 2;
-        }
-        if v < 1000 {
-            return 3;
-        }
-        return 4;
-    }
-    if v < 1000000 {
-        if v < 100000 {
-            return 5;
-        }
-        return 6;
-    }
-    if v < 10000000 {
-        return 7;
-    }
-    8
-}
-
 // How many digits a number has.
 pub fn width_of(v: u64) -> usize
     ensures { result ≡ width 19 v }
 {
-    if v < 100000000 {
-        return width_small(v as u32);
+    if v == 0 {
+        return 1;
     }
-    if v < 1000000000 {
-        return 9;
-    }
-    if v < 10000000000 {
-        return 10;
-    }
-    if v < 100000000000 {
-        return 11;
-    }
-    if v < 1000000000000 {
-        return 12;
-    }
-    if v < 10000000000000 {
-        return 13;
-    }
-    if v < 100000000000000 {
-        return 14;
-    }
-    if v < 1000000000000000 {
-        return 15;
-    }
-    if v < 10000000000000000 {
-        return 16;
-    }
-    if v < 100000000000000000 {
-        return 17;
-    }
-    if v < 1000000000000000000 {
-        return 18;
-    }
-    if v < 10000000000000000000 {
-        return 19;
-    }
-    20
+    v.ilog10() as usize + 1
 }

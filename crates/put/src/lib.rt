@@ -9,5 +9,5 @@ mod parts;
 
 pub use amount::put_amount;
 pub use digits::{put_be, put_decimal, put_fixed};
-pub use moves::{move_down, move_up};
-pub use parts::{put_byte, put_bytes, put_end, put_part, put_zeros};
+pub use moves::move_bytes;
+pub use parts::{put_byte, put_bytes, put_end, put_zeros};

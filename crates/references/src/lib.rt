@@ -10,7 +10,7 @@ ghost use Rattle.references.specs.Slashes.{Doubled};
 fn two_slashes(c: u8, d: u8) -> bool
     ensures { result ≡ (eqb c 47 && eqb d 47) }
 {
-    c == 47 && d == 47
+    c == b'/' && d == b'/'
 }
 
 // Where a slash stands behind a slash among the n bytes from a, n where none does.
@@ -19,12 +19,10 @@ fn double_slash(s: &[u8], a: usize, n: u32) -> u32
     requires n_in_bounds { a + n ≤ length s.now }
     ensures { Doubled s.now a n result }
 {
-    let mut k: u32 = 1;
-    while k < n {
+    for k in 1..n {
         if two_slashes(s[a + k as usize - 1], s[a + k as usize]) {
             return k;
         }
-        k += 1;
     }
     n
 }
@@ -40,11 +38,8 @@ pub fn is_slashed(s: &[u8], a: usize, b: usize) -> bool
     if n < 1 {
         return false;
     }
-    if s[a] == 47 {
+    if s[a] == b'/' {
         return true;
     }
-    if double_slash(s, a, n) < n {
-        return true;
-    }
-    s[b - 1] == 47
+    double_slash(s, a, n) < n || s[b - 1] == b'/'
 }

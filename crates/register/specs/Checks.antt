@@ -9,12 +9,11 @@ use Rattle.rules.specs.Moves.{end_line}
 use Rattle.laws.specs.Parts.{cut}
 use Rattle.laws.specs.Equal.{rest_differs, rest_alike}
 use Rattle.laws.specs.Tests.{passed_told}
-use Rattle.register_lines.specs.Places.{first_in, repeat_in}
+use Rattle.register_lines.specs.Places.{first_in, repeat_in, account_stands, code_stands}
 use Rattle.register.specs.Whole.{count, code_count, again_in, foreign_in, lines_test, closes_at, passes_in, old_in}
 use Rattle.register.specs.Passed.{some_given, old_given}
 use Rattle.register_lines.specs.Counts.{LinesFrom}
 use Rattle.register_lines.specs.Lines.{first_room}
-use Rattle.register_lines.specs.declared.sections.Form.TheVariants.{AccountLine, CodeLine}
 
 -- account lines and code lines: IBANs, accounts, codes
 module _ (s : List ℕ) (n m : ℕ) (t : Bool) (u : t ≡ again_in s n) where
@@ -55,8 +54,8 @@ module _ (s : List ℕ) where
     unfolding old_in
     old_first d = sym (old_given s ∙ rw (← u, not-true t d))
 
-    module _ (d : not t ≡ false) (n : ℕ) (a : LinesFrom s AccountLine 24 n) where
-      module _ (m : ℕ) (c : LinesFrom s CodeLine (24 + 38 * n) m) (e : Bool) (f : e ≡ closes_at s (24 + 38 * n + 35 * m)) where
+    module _ (d : not t ≡ false) (n : ℕ) (a : LinesFrom account_stands 38 s 24 n) where
+      module _ (m : ℕ) (c : LinesFrom code_stands 35 s (24 + 38 * n) m) (e : Bool) (f : e ≡ closes_at s (24 + 38 * n + 35 * m)) where
         pub fails_close : not e ≡ true → false ≡ is_some (register s)
         unfolding passes_in count code_count
         fails_close g = sym (some_given s ∙ rw (← u, not-false t d, ← a.value, ← c.value, ← f, not-true e g))

@@ -1,13 +1,15 @@
 -- The search in a text that passed: its account lines are counted from the end on, and a code leads to the account line of the IBAN beside it.
-use Rattle.std.specs.Prelude.{◌≡◌, refl, Bool, true, false, ◌&&◌, cond, List, ℕ, zero, suc, ◌+◌, ◌-◌, ◌*◌, ◌/◌, ◌≤◌, ◌<◌, leb, eqb, length, get_or}
+use Rattle.std.specs.Prelude.{◌≡◌, refl, Bool, true, false, ◌&&◌, cond, List, Option, ℕ, zero, suc, ◌+◌, ◌-◌, ◌*◌, ◌/◌, ◌≤◌, ◌<◌, leb, eqb, length, get_or, take, drop}
 use Rattle.std.proofs.Common.{sym, ap, ◌∙◌, arith, eqb-true, eq-eqb}
-use Rattle.std.proofs.Math.Option.{none, some}
+use Rattle.std.proofs.Math.Option.{none}
 use Rattle.rules.specs.Text.{is_digit, is_alnum, every, equal, is_some}
 use Rattle.rules.specs.Accounts.{passes}
 use Rattle.rules.specs.Register.{register, register_of}
 use Rattle.rules.specs.Verdict.{found, iban_beside, line_by_code}
 use Rattle.rules.specs.Moves.{has_codes}
 use Rattle.laws.specs.Parts.{cut, cut_length}
+use Rattle.laws.specs.Told.{told}
+use Rattle.account.specs.Part.{part_at}
 use Rattle.laws.specs.Every.{every_within, every_first}
 use Rattle.laws.specs.Equal.{equal_true}
 use Rattle.laws.specs.Tests.{and_left, and_right, cond_left, cond_right, never, not_holds}
@@ -19,23 +21,20 @@ use Rattle.register.specs.Sections.{leading_all}
 use Rattle.register.specs.Agree.{codes_length}
 use Rattle.register_lines.specs.Formed.{code_signs}
 use Rattle.register.specs.Turns.{beside_here, beside_more, beside_end}
-use Rattle.register_lines.specs.Forms.{stands_room}
+use Rattle.register_lines.specs.Forms.{account_room, code_room}
 use Rattle.register.specs.Passed.{code_count_of, text_size, text_codes, text_count_lem, codes_at_lem}
-use Rattle.register.specs.Answers.{found_of}
-use Rattle.register.specs.declared.search.Found.{Found}
-use Rattle.register_lines.specs.declared.sections.Form.TheVariants.{AccountLine, CodeLine}
 
 -- ---- what tells a code line from an account line
 
 code_comma : (s : List ℕ) (at : ℕ) → code_stands s at ≡ true → get_or s (at + 10) 0 ≡ 44
 code_comma s at h =
-    let k : (every is_digit (cut s at (at + 10)) && cond (eqb 44 (get_or s (at + 10) 0)) (every is_alnum (cut s (at + 11) (at + 11 + 22))) false && ends_at s (at + 33)) ≡ true = sym (code_signs s at (stands_room CodeLine s at h)) ∙ h in
+    let k : (every is_digit (cut s at (at + 10)) && cond (eqb 44 (get_or s (at + 10) 0)) (every is_alnum (cut s (at + 11) (at + 11 + 22))) false && ends_at s (at + 33)) ≡ true = sym (code_signs s at (code_room s at h)) ∙ h in
     sym (eqb-true 44 (get_or s (at + 10) 0) (cond_left _ _ (and_right (every is_digit (cut s at (at + 10))) _ (and_left _ _ k))))
 
 account_sign : (s : List ℕ) (at : ℕ) → account_stands s at ≡ true → get_or s (at + 13) 0 ≡ 44 → ⊥
 unfolding account_stands passes
 account_sign s at h e =
-    let room : at + 38 ≤ length s = stands_room AccountLine s at h in
+    let room : at + 38 ≤ length s = account_room s at h in
     let p : passes (cut s at (at + 22)) ≡ true = and_right (form_at s at && ends_at s (at + 36)) _ (and_left _ _ h) in
     let a : every is_alnum (cut s (at + 13) (at + 22)) ≡ true = every_within is_alnum s at (at + 22) (at + 13) (at + 22) (iban_alnum (cut s at (at + 22)) (and_left _ _ p)) (omega arith) (omega arith) (omega arith) in
     let c : is_alnum (get_or s (at + 13) 0) ≡ true = every_first is_alnum s (at + 13) (at + 22) a (omega arith) (omega arith) in
@@ -127,16 +126,16 @@ other_size : (s : List ℕ) (c : List ℕ) (at k : ℕ) → (length c ≡ 10 →
 unfolding codes_in places_from every iban_beside code_in
 other_size s c at zero n g = refl
 other_size s c at (suc k) n g =
-    let room : at + 35 ≤ length s = stands_room CodeLine s at (cond_left _ _ g) in
+    let room : at + 35 ≤ length s = code_room s at (cond_left _ _ g) in
     let d : equal (cut s at (at + 10)) c ≡ false = sym (not_holds _ (λ w. n (sym (ap length (equal_true _ _ w)) ∙ cut_length s at (at + 10) (omega arith) ∙ omega arith))) in
     rw (d, other_size s c (at + 35) k n (cond_right (code_stands s at) _ g))
 
 module _ (s : List ℕ) (h : is_some (register s) ≡ true) where
-  pub code_unlisted : (t : List ℕ) (a b : ℕ) → b ≤ length t → (b - a ≡ 10 → ⊥) → none ≡ line_by_code (register_of s) (cut t a b)
+  pub code_unlisted : (c : List ℕ) → (length c ≡ 10 → ⊥) → none ≡ line_by_code (register_of s) c
   unfolding line_by_code code_count
-  code_unlisted t a b l n =
-      let e : iban_beside (cut t a b) (codes_in s (place (count s)) (code_count s (count s))) ≡ none =
-      other_size s (cut t a b) (place (count s)) (code_count s (count s)) (λ w. n (sym (cut_length t a b l) ∙ w)) (leading_all (code_stands s) 35 (place (count s)) 40) in
+  code_unlisted c n =
+      let e : iban_beside c (codes_in s (place (count s)) (code_count s (count s))) ≡ none =
+      other_size s c (place (count s)) (code_count s (count s)) n (leading_all (code_stands s) 35 (place (count s)) 40) in
       rw (codes_at_lem s h, e)
 
 -- the code lines begin at a place, and there are m of them
@@ -177,25 +176,17 @@ module _ (s c : List ℕ) (at m j : ℕ) (k : Seeking s c at m j) (h : j < m) wh
   pub seeking_low : at + 35 * j ≤ 2944
   seeking_low = omega (arith, k.codes.low, k.codes.few)
 
-  module _ (t : Bool) (u : t ≡ equal (cut s (at + 35 * j) (at + 35 * j + 10)) c) where
+  module _ (l : length c ≡ 10) (t : Bool) (u : t ≡ equal (cut s (at + 35 * j) (at + 35 * j + 10)) (cut c 0 (0 + 10))) where
     pub seeking_more : t ≡ false → Seeking s c at m (j + 1)
-    seeking_more d = record { codes = k.codes; same = beside_more s at j m c _ k.same h t u d }
+    seeking_more d = record { codes = k.codes; same = beside_more s at j m c _ k.same l h t u d }
 
-    seeking_beside : t ≡ true → some (cut s (at + 35 * j + 11) (at + 35 * j + 11 + 22)) ≡ iban_beside c (register_of s).codes
-    seeking_beside d = beside_here s at j m c _ k.same h t u d
+    -- the answer of the search for its account
+    pub code_found : t ≡ true → (q : Option ℕ) → told q ≡ found (take (at + 35 * j + 11 + 22 - (at + 35 * j + 11)) (drop (at + 35 * j + 11) s)) 0 (register_of s).accounts → told q ≡ line_by_code (register_of s) c
+    unfolding line_by_code
+    code_found d q f = rw (← beside_here s at j m c _ k.same l h t u d) (rw (part_at s (at + 35 * j + 11) 22) at f)
 
--- the answer of the search for its account
-module _ (s : List ℕ) (t : List ℕ) (a b : ℕ) (l : b - a ≡ 10) where
-  code_is : cut t a (a + 10) ≡ cut t a b
-  code_is = let e : a + 10 ≡ b = omega arith in ap (cut t a) e
-
-  pub code_found : (at m j : ℕ) → Seeking s (cut t a (a + 10)) at m j → j < m → (x : Bool) → x ≡ equal (cut s (at + 35 * j) (at + 35 * j + 10)) (cut t a (a + 10)) → x ≡ true
-      → (q : Found) → found_of q ≡ found (cut s (at + 35 * j + 11) (at + 35 * j + 11 + 22)) 0 (register_of s).accounts → found_of q ≡ line_by_code (register_of s) (cut t a b)
-  unfolding line_by_code
-  code_found at m j k h x u d q f = rw (← code_is, ← seeking_beside s (cut t a (a + 10)) at m j k h x u d) f
-
-  pub code_missing : (at m j : ℕ) → Seeking s (cut t a (a + 10)) at m j → m ≤ j → none ≡ line_by_code (register_of s) (cut t a b)
-  unfolding line_by_code
-  code_missing at m j k h = rw (← code_is, ← beside_end s at j m (cut t a (a + 10)) _ k.same h)
+pub code_missing : (s c : List ℕ) (at m j : ℕ) → Seeking s c at m j → m ≤ j → none ≡ line_by_code (register_of s) c
+unfolding line_by_code
+code_missing s c at m j k h = rw (← beside_end s at j m c _ k.same h)
 
 pub ruleset searching = (ending_start, ending_more, ending_room, ending_here, ending_none, code_unlisted, codes_told, codes_some, seeking_start, seeking_room, seeking_low, seeking_more, code_found, code_missing)

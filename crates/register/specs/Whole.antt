@@ -28,6 +28,10 @@ codes_in s at k = map (code_in s) (places_from 35 at k)
 unfoldable pub foreign_in : List ℕ → ℕ → ℕ → ℕ → Bool
 foreign_in s n at k = any (is_foreign (accounts_in s n)) (codes_in s at k)
 
+-- one of code lines k up to m, the first of all at a place
+unfoldable pub foreign_from : List ℕ → ℕ → ℕ → ℕ → ℕ → Bool
+foreign_from s n at k m = any (is_foreign (accounts_in s n)) (map (code_in s) (upto 35 at k m))
+
 -- of code lines j up to m, the first of all at a place, the IBAN beside a code
 unfoldable pub beside_in : List ℕ → List ℕ → ℕ → ℕ → ℕ → Option (List ℕ)
 beside_in code s at j m = iban_beside code (map (code_in s) (upto 35 at j m))

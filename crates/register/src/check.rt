@@ -3,12 +3,9 @@ ghost use Rattle.std.specs.Prelude.{◌≡◌, ◌+◌, ◌*◌, ◌≤◌, leng
 ghost use Rattle.rules.specs.Text.{is_some};
 ghost use Rattle.rules.specs.Register.{register, old_register};
 ghost use Rattle.register.specs.Whole.{foreign_in, again_in, lines_test, closes_at};
-ghost use Rattle.register_lines.specs.Marks.{MarksOf};
-ghost use Rattle.register_lines.specs.declared.sections.Form.TheVariants.{AccountLine};
 
-use register_lines::{
-    Form, appears_again, first_line_passes, key_mark, lines_from, put_marks, stands_in,
-};
+use crate::{ACCOUNT_LINE, CODE_LINE, FIRST_LINE, LAST_LINE};
+use register_lines::{AccountLine, CodeLine, Section, first_line_passes, lines_from, put_marks};
 
 // The longest text that passes: a first line, 40 account lines, 40 code lines and the last line.
 pub const LONGEST: usize = 2949;
@@ -18,40 +15,31 @@ fn closes_at(text: &[u8], at: usize) -> bool
     requires { at ≤ length text.now }
     ensures { result ≡ closes_at text.now at }
 {
-    if text.len() - at != 5 {
+    if text.len() - at != LAST_LINE {
         return false;
     }
     text::equal_parts(text, at, b"END\r\n", 0, 5)
 }
 
-// Does an IBAN appear twice in the first line and the n account lines?
-fn iban_again(text: &[u8], n: u32, marks: &[u32; 40]) -> bool
-    requires in_bounds { 24 ≤ length text.now }
-    requires marks_of { MarksOf text.now AccountLine 24 n marks.now }
-    ensures { result ≡ again_in text.now n }
+// Does an IBAN appear twice in the first line and the account lines?
+fn iban_again(accounts: &Section<AccountLine>) -> bool
+    requires first { 24 ≤ length accounts.now.text.now }
+    requires place { accounts.now.at ≡ 24 }
+    ensures { result ≡ again_in accounts.now.text.now accounts.now.count }
 {
-    let m = key_mark(text, 0, Form::AccountLine);
-    if stands_in(text, 0, m, Form::AccountLine, 24, 0, n, marks) {
-        return true;
-    }
-    appears_again(text, Form::AccountLine, 24, n, marks)
+    accounts.has(&accounts.text[0..22]) || accounts.repeats()
 }
 
-// Is the account of one of the m code lines from a place on none of the n account lines?
-fn has_foreign(text: &[u8], n: u32, marks: &[u32; 40], at: usize, m: u32) -> bool
-    requires marks_of { MarksOf text.now AccountLine 24 n marks.now }
-    requires m_in_bounds { at + 35 * m ≤ length text.now }
-    ensures { result ≡ foreign_in text.now n at m }
+// Is the account of one of the m code lines from a place on none of the account lines?
+fn has_foreign(accounts: &Section<AccountLine>, at: usize, m: u32) -> bool
+    requires place { accounts.now.at ≡ 24 }
+    requires few { m ≤ 40 }
+    requires room { at + 35 * m ≤ length accounts.now.text.now }
+    ensures { result ≡ foreign_in accounts.now.text.now accounts.now.count at m }
 {
-    let mut k = m;
-    let mut place = at;
-    while k > 0 {
-        let a = place + 11;
-        let x = key_mark(text, a, Form::AccountLine);
-        if stands_in(text, a, x, Form::AccountLine, 24, 0, n, marks) {
-            place += 35;
-            k -= 1;
-        } else {
+    for k in 0..m {
+        let a = at + (CODE_LINE * k) as usize + 11;
+        if !accounts.has(&accounts.text[a..a + 22]) {
             return true;
         }
     }
@@ -60,22 +48,24 @@ fn has_foreign(text: &[u8], n: u32, marks: &[u32; 40], at: usize, m: u32) -> boo
 
 // Of n account lines and m code lines behind them, does each IBAN and each code appear a single time, and is no account foreign?
 fn lines_pass(text: &[u8], n: u32, m: u32) -> bool
-    requires n_bound { n ≤ 40 }
-    requires m_bound { m ≤ 40 }
-    requires m_in_bounds { 24 + 38 * n + 35 * m ≤ length text.now }
+    requires accounts_few { n ≤ 40 }
+    requires codes_few { m ≤ 40 }
+    requires room { 24 + 38 * n + 35 * m ≤ length text.now }
     ensures { result ≡ lines_test text.now n m }
 {
-    let at = (24 + 38 * n) as usize;
-    let mut marks: [u32; 40] = [0; 40];
-    put_marks(text, Form::AccountLine, 24, n, &mut marks);
-    if iban_again(text, n, &marks) {
+    let first = FIRST_LINE as usize;
+    let mut marks = [0; 40];
+    put_marks::<AccountLine>(text, first, n, &mut marks);
+    let accounts = Section::<AccountLine>::new(text, first, n, &marks);
+    if iban_again(&accounts) {
         return false;
     }
-    if has_foreign(text, n, &marks, at, m) {
+    let at = (FIRST_LINE + ACCOUNT_LINE * n) as usize;
+    if has_foreign(&accounts, at, m) {
         return false;
     }
-    put_marks(text, Form::CodeLine, at, m, &mut marks);
-    !appears_again(text, Form::CodeLine, at, m, &marks)
+    put_marks::<CodeLine>(text, at, m, &mut marks);
+    !Section::<CodeLine>::new(text, at, m, &marks).repeats()
 }
 
 // Does the text pass?
@@ -85,9 +75,10 @@ pub fn register_passes(text: &[u8]) -> bool
     if !first_line_passes(text) {
         return false;
     }
-    let n = lines_from(text, 24, Form::AccountLine);
-    let m = lines_from(text, (24 + 38 * n) as usize, Form::CodeLine);
-    if !closes_at(text, (24 + 38 * n + 35 * m) as usize) {
+    let n = lines_from::<AccountLine>(text, FIRST_LINE as usize);
+    let at = FIRST_LINE + ACCOUNT_LINE * n;
+    let m = lines_from::<CodeLine>(text, at as usize);
+    if !closes_at(text, (at + CODE_LINE * m) as usize) {
         return false;
     }
     lines_pass(text, n, m)
@@ -100,8 +91,8 @@ pub fn old_register_passes(text: &[u8]) -> bool
     if !first_line_passes(text) {
         return false;
     }
-    let n = lines_from(text, 24, Form::AccountLine);
-    if text.len() != (24 + 38 * n) as usize {
+    let n = lines_from::<AccountLine>(text, FIRST_LINE as usize);
+    if text.len() != (FIRST_LINE + ACCOUNT_LINE * n) as usize {
         return false;
     }
     lines_pass(text, n, 0)

@@ -1,24 +1,16 @@
 // The search in a register that passed.
-ghost use Rattle.std.specs.Prelude.{◌≡◌, true, ◌+◌, ◌<◌, ◌≤◌, length};
+ghost use Rattle.std.specs.Prelude.{◌≡◌, true, ◌<◌, length};
 ghost use Rattle.rules.specs.Text.{is_some};
 ghost use Rattle.rules.specs.Register.{register, register_of};
 ghost use Rattle.rules.specs.Verdict.{found, account_at, line_by_code};
 ghost use Rattle.rules.specs.Moves.{has_codes};
-ghost use Rattle.laws.specs.Parts.{cut};
-ghost use Rattle.register.specs.Answers.{found_of};
+ghost use Rattle.laws.specs.Told.{told};
 ghost use Rattle.register.specs.Passed.{LinePlace};
 ghost use Rattle.register.specs.Searching.{AccountCount, CodesOf};
 
+use crate::{ACCOUNT_LINE, CODE_LINE, FIRST_LINE};
 use register_lines::bound_at;
-
-// The search for an account line.
-#[derive(Clone, Copy)]
-pub enum Found {
-    // The line, counted from 0.
-    At(usize),
-    // None has it.
-    Nothing,
-}
+use text::equal_from_end;
 
 // How many account lines there are, counted from the last line on. Behind the ten digits of a code line stands a comma, where an account line has a letter or digit.
 fn account_count(text: &[u8]) -> u32
@@ -27,8 +19,8 @@ fn account_count(text: &[u8]) -> u32
 {
     let mut end = text.len() as u32;
     while end > 29 {
-        if text[(end - 30) as usize] == 44 {
-            end -= 35;
+        if text[(end - 30) as usize] == b',' {
+            end -= CODE_LINE;
         } else {
             return ((end - 29) as u16 / 38) as u32;
         }
@@ -36,21 +28,19 @@ fn account_count(text: &[u8]) -> u32
     0
 }
 
-// The account line of the IBAN that stands in s at a place.
-pub fn find_account(text: &[u8], s: &[u8], at: usize) -> Found
-    requires text_value { is_some (register text.now) ≡ true }
-    requires at_in_bounds { at + 22 ≤ length s.now }
-    ensures { found_of result ≡ found (cut s.now at (at + 22)) 0 (register_of text.now).accounts }
+// The account line of an IBAN, counted from 0. It is compared from the last byte on, where IBANs of one bank differ: `==` of slices begins with the first.
+pub fn find_account(text: &[u8], iban: &[u8]) -> Option<usize>
+    requires passes { is_some (register text.now) ≡ true }
+    requires size { length iban.now ≡ 22 }
+    ensures { told result ≡ found iban.now 0 (register_of text.now).accounts }
 {
-    let n = account_count(text);
-    let mut i: u32 = 0;
-    while i < n {
-        if account::same_iban(text, (24 + 38 * i) as usize, s, at) {
-            return Found::At(i as usize);
+    for i in 0..account_count(text) {
+        let place = (FIRST_LINE + ACCOUNT_LINE * i) as usize;
+        if equal_from_end(text, place, iban, 0, 22) {
+            return Some(i as usize);
         }
-        i += 1;
     }
-    Found::Nothing
+    None
 }
 
 // The code lines of a register.
@@ -67,7 +57,7 @@ fn codes_of(text: &[u8]) -> Codes
     requires { is_some (register text.now) ≡ true }
     ensures { CodesOf text.now result.at result.lines }
 {
-    let at = 24 + 38 * account_count(text);
+    let at = FIRST_LINE + ACCOUNT_LINE * account_count(text);
     Codes {
         at,
         lines: ((text.len() as u32 - at) as u16 / 35) as u32,
@@ -79,45 +69,41 @@ pub fn has_codes(text: &[u8]) -> bool
     requires { is_some (register text.now) ≡ true }
     ensures { result ≡ has_codes (register_of text.now) }
 {
-    let codes = codes_of(text);
-    codes.lines >= 1
+    codes_of(text).lines >= 1
 }
 
-// The account line to which the code in s from a up to b leads.
-pub fn find_code(text: &[u8], s: &[u8], a: usize, b: usize) -> Found
-    requires text_value { is_some (register text.now) ≡ true }
-    requires a_le_b { a ≤ b }
-    requires b_in_bounds { b ≤ length s.now }
-    ensures { found_of result ≡ line_by_code (register_of text.now) (cut s.now a b) }
+// The account line to which a code leads, counted from 0.
+pub fn find_code(text: &[u8], code: &[u8]) -> Option<usize>
+    requires { is_some (register text.now) ≡ true }
+    ensures { told result ≡ line_by_code (register_of text.now) code.now }
 {
-    if b - a != 10 {
-        return Found::Nothing;
+    if code.len() != 10 {
+        return None;
     }
     let codes = codes_of(text);
-    let mut j: u32 = 0;
-    while j < codes.lines {
-        let at = (codes.at + 35 * j) as usize;
-        if text::equal_from_end(text, at, s, a, 10) {
-            return find_account(text, text, at + 11);
+    for j in 0..codes.lines {
+        let place = (codes.at + CODE_LINE * j) as usize;
+        if equal_from_end(text, place, code, 0, 10) {
+            let a = place + 11;
+            return find_account(text, &text[a..a + 22]);
         }
-        j += 1;
     }
-    Found::Nothing
+    None
 }
 
 // Where an account line begins.
 pub fn account_place(text: &[u8], i: usize) -> usize
-    requires text_value { is_some (register text.now) ≡ true }
-    requires i_in_bounds { i < length (register_of text.now).accounts }
+    requires passes { is_some (register text.now) ≡ true }
+    requires listed { i < length (register_of text.now).accounts }
     ensures { LinePlace text.now i result }
 {
-    (24 + 38 * i as u32) as usize
+    (FIRST_LINE + ACCOUNT_LINE * i as u32) as usize
 }
 
-// Its low bound.
+// Its low bound. (Low and high are two functions: one over the offset would tell by a number which bound it reads.)
 pub fn account_low(text: &[u8], i: usize) -> u64
-    requires text_value { is_some (register text.now) ≡ true }
-    requires i_in_bounds { i < length (register_of text.now).accounts }
+    requires passes { is_some (register text.now) ≡ true }
+    requires listed { i < length (register_of text.now).accounts }
     ensures { result ≡ (account_at (register_of text.now) i).low }
 {
     bound_at(text, account_place(text, i) + 23)
@@ -125,8 +111,8 @@ pub fn account_low(text: &[u8], i: usize) -> u64
 
 // Its high bound.
 pub fn account_high(text: &[u8], i: usize) -> u64
-    requires text_value { is_some (register text.now) ≡ true }
-    requires i_in_bounds { i < length (register_of text.now).accounts }
+    requires passes { is_some (register text.now) ≡ true }
+    requires listed { i < length (register_of text.now).accounts }
     ensures { result ≡ (account_at (register_of text.now) i).high }
 {
     bound_at(text, account_place(text, i) + 30)

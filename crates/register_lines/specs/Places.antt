@@ -91,9 +91,9 @@ code_stands s at = fits code_form (cut s at (at + 33)) && ends_at s (at + 33)
 unfoldable pub keys_in : List ℕ → ℕ → List ℕ → List (List ℕ)
 keys_in s size ps = map (key_in s size) ps
 
--- the bytes at a place are the key of one of lines i up to n, the first of all at b
-unfoldable pub stands_in : List ℕ → ℕ → ℕ → ℕ → ℕ → ℕ → ℕ → Bool
-stands_in s size w a b i n = any (equal (key_in s size a)) (keys_in s size (upto w b i n))
+-- some bytes are the key of one of lines i up to n, the first of all at b
+unfoldable pub stands_in : List ℕ → ℕ → ℕ → List ℕ → ℕ → ℕ → ℕ → Bool
+stands_in s size w key b i n = any (equal key) (keys_in s size (upto w b i n))
 
 -- one of their keys appears twice
 unfoldable pub repeat_in : List ℕ → ℕ → ℕ → ℕ → ℕ → ℕ → Bool

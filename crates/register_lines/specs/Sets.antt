@@ -9,4 +9,4 @@ pub ruleset lining = (formed, lines)
 
 pub ruleset sectioning = (forms, counts)
 
-pub ruleset marking = (forms, marks)
+pub ruleset marking = marks

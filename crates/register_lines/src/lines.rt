@@ -1,59 +1,48 @@
 // A single line of the register.
 ghost use Rattle.std.specs.Prelude.{◌≡◌, true, ◌+◌, ◌≤◌, leb, length};
-ghost use Rattle.register_lines.specs.Places.{ends_at, bound_at, first_in, account_stands, code_stands};
+ghost use Rattle.register_lines.specs.Places.{ends_at, bound_at, first_in};
 ghost use Rattle.register_lines.specs.Formed.{bounds_at};
-
-use text::Num;
 
 // The bound at a place: six digits.
 pub fn bound_at(text: &[u8], at: usize) -> u64
     requires { at + 6 ≤ length text.now }
     ensures { result ≡ bound_at text.now at }
 {
-    match text::read_digits(text, at, at + 6) {
-        Num::Value(n) => n,
-        Num::Bad => 0,
-    }
+    text::read_digits(&text[at..at + 6]).unwrap_or(0)
 }
 
 // Do two bounds of six digits stand there, a comma before each?
-fn bounds_at(text: &[u8], at: usize) -> bool
+pub fn bounds_at(text: &[u8], at: usize) -> bool
     requires { at + 14 ≤ length text.now }
     ensures { result ≡ bounds_at text.now at }
 {
-    if text[at] != 44 {
+    if text[at] != b',' {
         return false;
     }
-    if text::digits_at(text, at + 1, 6) < 6 {
+    if text::leading_at::<text::Digit>(text, at + 1, 6) < 6 {
         return false;
     }
-    if text[at + 7] != 44 {
+    if text[at + 7] != b',' {
         return false;
     }
-    text::digits_at(text, at + 8, 6) == 6
+    text::leading_at::<text::Digit>(text, at + 8, 6) == 6
 }
 
 // Is the first of them at most the second?
-fn in_order(text: &[u8], at: usize) -> bool
-    requires at_in_bounds { at + 14 ≤ length text.now }
-    requires at_value { bounds_at text.now at ≡ true }
+pub fn in_order(text: &[u8], at: usize) -> bool
+    requires room { at + 14 ≤ length text.now }
+    requires bounds { bounds_at text.now at ≡ true }
     ensures { result ≡ leb (bound_at text.now (at + 1)) (bound_at text.now (at + 8)) }
 {
     text::small_digits(text, at + 1, 6) <= text::small_digits(text, at + 8, 6)
 }
 
 // Does the line end there, by CR LF?
-fn ends_at(text: &[u8], at: usize) -> bool
+pub fn ends_at(text: &[u8], at: usize) -> bool
     requires { at + 2 ≤ length text.now }
     ensures { result ≡ ends_at text.now at }
 {
-    if text[at] != 13 {
-        return false;
-    }
-    if text[at + 1] != 10 {
-        return false;
-    }
-    true
+    text[at] == b'\r' && text[at + 1] == b'\n'
 }
 
 // Does the first line pass: the temporary account's IBAN?
@@ -63,42 +52,8 @@ pub fn first_line_passes(text: &[u8]) -> bool
     if text.len() < 24 {
         return false;
     }
-    if account::iban_passes(text, 0) {
+    if account::iban_passes(&text[0..22]) {
         return ends_at(text, 22);
     }
     false
-}
-
-// Does an account line stand there: an IBAN that passes, its bounds, its end, low at most high?
-pub fn account_line_stands(text: &[u8], at: usize) -> bool
-    requires { at + 38 ≤ length text.now }
-    ensures { result ≡ account_stands text.now at }
-{
-    if !account::iban_passes(text, at) {
-        return false;
-    }
-    if !bounds_at(text, at + 22) {
-        return false;
-    }
-    if !ends_at(text, at + 36) {
-        return false;
-    }
-    in_order(text, at + 22)
-}
-
-// Does a code line stand there: ten digits, a comma, 22 letters or digits, its end?
-pub fn code_line_stands(text: &[u8], at: usize) -> bool
-    requires { at + 35 ≤ length text.now }
-    ensures { result ≡ code_stands text.now at }
-{
-    if text::digits_at(text, at, 10) < 10 {
-        return false;
-    }
-    if text[at + 10] != 44 {
-        return false;
-    }
-    if text::alnums_at(text, at + 11, 22) < 22 {
-        return false;
-    }
-    ends_at(text, at + 33)
 }

@@ -3,18 +3,21 @@ ghost use Rattle.std.specs.Prelude.{◌≡◌};
 ghost use Rattle.rules.specs.Calls.{first_of};
 ghost use Rattle.rules.specs.Moves.{with_end, newer_stops};
 ghost use Rattle.laws.specs.Writing.{Wrote};
+ghost use Rattle.refusal.specs.Numbers.{stop_of};
 
-// 9 or 16, the first that holds, with so much room for the text; 0 where neither does.
-pub fn newer_stop(text: &[u8], room: usize) -> u32
-    ensures { result ≡ first_of (newer_stops room text.now) }
+use refusal::Refusal;
+
+// 9 or 16, the first that holds, with so much room for the text.
+pub fn newer_stop(text: &[u8], room: usize) -> Result<(), Refusal>
+    ensures { stop_of result ≡ first_of (newer_stops room text.now) }
 {
     if !register::old_register_passes(text) {
-        return 9;
+        return Err(Refusal::BadRegister);
     }
     if room < text.len() + 5 {
-        return 16;
+        return Err(Refusal::OutputTooShort);
     }
-    0
+    Ok(())
 }
 
 // A register's text and the last line.

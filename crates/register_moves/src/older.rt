@@ -4,26 +4,29 @@ ghost use Rattle.rules.specs.Calls.{first_of};
 ghost use Rattle.rules.specs.Moves.{without_end, older_stops};
 ghost use Rattle.laws.specs.Writing.{Wrote};
 ghost use Rattle.register_moves.specs.Stops.{way_stops};
+ghost use Rattle.refusal.specs.Numbers.{stop_of};
 
-// 19 or 16, the first that holds: of code lines in the way, and of a text that does not fit; 0 where neither does.
-fn way_stop(coded: bool, fits: bool) -> u32
-    ensures { result ≡ first_of (way_stops coded fits) }
+use refusal::Refusal;
+
+// 19 or 16, the first that holds: of code lines in the way, and of a text that does not fit.
+fn way_stop(coded: bool, fits: bool) -> Result<(), Refusal>
+    ensures { stop_of result ≡ first_of (way_stops coded fits) }
 {
     if coded {
-        return 19;
+        return Err(Refusal::HasCodes);
     }
     if !fits {
-        return 16;
+        return Err(Refusal::OutputTooShort);
     }
-    0
+    Ok(())
 }
 
-// 9, 19 or 16, the first that holds, with so much room for the text; 0 where none does.
-pub fn older_stop(text: &[u8], room: usize) -> u32
-    ensures { result ≡ first_of (older_stops room text.now) }
+// 9, 19 or 16, the first that holds, with so much room for the text.
+pub fn older_stop(text: &[u8], room: usize) -> Result<(), Refusal>
+    ensures { stop_of result ≡ first_of (older_stops room text.now) }
 {
     if !register::register_passes(text) {
-        return 9;
+        return Err(Refusal::BadRegister);
     }
     let coded = register::has_codes(text);
     way_stop(coded, text.len() - 5 <= room)
@@ -34,5 +37,5 @@ pub fn put_older(output: &mut [u8], text: &[u8]) -> usize
     requires { 5 ≤ length text.now }
     ensures { Wrote (without_end text.now) 0 output.old result output.new }
 {
-    put::put_part(output, 0, text, 0, text.len() - 5)
+    put::put_bytes(output, 0, &text[0..text.len() - 5])
 }

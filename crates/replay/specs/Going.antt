@@ -3,29 +3,9 @@ use Rattle.std.specs.Prelude.{◌≡◌, refl, List, ℕ, ◌+◌, ◌-◌, ◌�
 use Rattle.std.proofs.Common.{◌∙◌, subst, arith, length-take}
 use borrow.Rule.Slice.PartMut.{put_mid, take_put}
 use Rattle.laws.specs.Parts.{cut}
-use Rattle.text.specs.Answers.{num_of}
-use Rattle.text.specs.declared.numbers.Num.{Num}
-use Rattle.text.specs.declared.numbers.Num.TheVariants.{Value}
-use Rattle.commands.specs.Numbers.{room_of, room_small}
 use Rattle.day.specs.declared.onward.Onward.{Onward}
 use Rattle.day.specs.declared.onward.Onward.TheVariants.{Answered, Wants}
 use Rattle.day.specs.Onwards.{WindowReady, WindowKept, Answering, Reading, OnwardTold, Onwards}
-use Rattle.replay.specs.declared.words.Room.{Room}
-use Rattle.replay.specs.declared.words.Room.TheVariants.{Bytes, Unknown}
-
--- a room is one that there are bytes for
-abbrev WithinTold : Room → Type 0
-WithinTold (Bytes n) = n ≤ 1048576
-WithinTold Unknown = Unit {0}
-
-pub record RoomWithin (r : Room) : Type 0 where
-  pub told : WithinTold r
-
-pub room_within : (cs : List ℕ) (q : Num) (v : ℕ) → num_of q ≡ room_of cs → q ≡ Value v → RoomWithin (Bytes v)
-room_within cs q v u w = record { told = room_small cs q v u w }
-
-pub room_known : (r : Room) → RoomWithin r → (n : ℕ) → r ≡ Bytes n → n ≤ 1048576
-room_known r w n e = subst WithinTold e w.told
 
 -- a piece was read behind the first n bytes, which stay
 pub record More (s : List ℕ) (n r : ℕ) (s' : List ℕ) : Type 0 where
@@ -94,4 +74,4 @@ module _ {s area out shown s₀ area₀ out₀ shown₀ : List ℕ} {at n : ℕ}
           kept = record { window = v.size ∙ both.window; size = both.size; lent = both.lent; shows = both.shows };
         }
 
-pub ruleset going = (room_within, room_known, more_read, going_starts, print_fits, going_answered, read_fits, going_read)
+pub ruleset going = (more_read, going_starts, print_fits, going_answered, read_fits, going_read)

@@ -6,19 +6,14 @@ mod words;
 
 use std::io;
 use std::process::ExitCode;
-use words::Room;
 
 fn main(rt: HostRuntime) -> io::Result<ExitCode> {
-    match words::asked_room(&rt) {
-        Room::Bytes(room) => {
-            going::replay(&rt, room)?;
-            Ok(ExitCode::SUCCESS)
-        }
-        Room::Unknown => {
-            eprintln!(rt;
-                "usage: replay [--room N] <COMMANDS >ANSWERS (N: the room of the output in bytes, at most 1048576)"
-            )?;
-            Ok(ExitCode::from(2))
-        }
-    }
+    let Some(room) = words::asked_room(&rt) else {
+        eprintln!(rt;
+            "usage: replay [--room N] <COMMANDS >ANSWERS (N: the room of the output in bytes, at most 1048576)"
+        )?;
+        return Ok(ExitCode::from(2));
+    };
+    going::replay(&rt, room)?;
+    Ok(ExitCode::SUCCESS)
 }

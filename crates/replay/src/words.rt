@@ -1,26 +1,12 @@
 // The words of the command line.
-ghost use Rattle.replay.specs.Going.{RoomWithin};
+ghost use Rattle.std.specs.Prelude.{IfSome, ◌≤◌};
 
 use std::env::{Env, FillError};
-use text::Num;
 
-// What the words on the command line ask for.
-#[derive(Clone, Copy)]
-pub enum Room {
-    // The room of the output.
-    Bytes(usize),
-    // They say something else.
-    Unknown,
-}
-
-// Is there a word at i? The program's name is at 0.
+// Is there a word at i? The program's name is at 0: it may be no UTF-8, and `env::args` would fail on it.
 fn has_word(rt: &impl Env, i: usize) -> bool {
     let mut word = [0u8; 16];
-    match rt.arg(i, &mut word) {
-        Ok(_) => true,
-        Err(FillError::TooLong) => true,
-        Err(FillError::NotPresent) => false,
-    }
+    !matches!(rt.arg(i, &mut word), Err(FillError::NotPresent))
 }
 
 // Is the first word `--room`?
@@ -33,34 +19,25 @@ fn says_room(rt: &impl Env) -> bool {
 }
 
 // The number that the second word is.
-fn room_word(rt: &impl Env) -> Room
-    ensures { RoomWithin result }
+fn room_word(rt: &impl Env) -> Option<usize>
+    ensures { IfSome result (λ room. room ≤ 1048576) }
 {
     let mut word = [0u8; 16];
     let Ok(n) = rt.arg(2, &mut word) else {
-        return Room::Unknown;
+        return None;
     };
-    let Num::Value(room) = commands::read_room(&word, 0, n) else {
-        return Room::Unknown;
-    };
-    Room::Bytes(room as usize)
+    commands::read_room(&word[..n])
 }
 
-// The room that the words ask for, 32,768 bytes where there are none.
-pub fn asked_room(rt: &impl Env) -> Room
-    ensures { RoomWithin result }
+// The room that the words ask for, 32,768 bytes where there are none, and no room where they say something else.
+pub fn asked_room(rt: &impl Env) -> Option<usize>
+    ensures { IfSome result (λ room. room ≤ 1048576) }
 {
     if !has_word(rt, 1) {
-        return Room::Bytes(32768);
+        return Some(32768);
     }
-    if !has_word(rt, 2) {
-        return Room::Unknown;
+    if has_word(rt, 3) || !says_room(rt) {
+        return None;
     }
-    if has_word(rt, 3) {
-        return Room::Unknown;
-    }
-    if says_room(rt) {
-        return room_word(rt);
-    }
-    Room::Unknown
+    room_word(rt)
 }

@@ -1,5 +1,6 @@
 -- 15, "a total over its limit", of what was booked of a message; and of an MT101 by the sum that is kept while its details are read.
-use Rattle.std.specs.Prelude.{◌≡◌, refl, Bool, true, false, ◌||◌, not, cond, List, ℕ, ◌+◌, ◌≤◌, leb}
+use Rattle.std.specs.Prelude.{◌≡◌, refl, Bool, true, false, ◌||◌, not, cond, List, ℕ, ◌+◌, ◌≤◌, leb, Option}
+use Rattle.std.specs.Prelude as R
 use Rattle.std.proofs.Common.{sym, ap, ◌∙◌, add-zero, arith, le-leb}
 use Rattle.std.proofs.Math.Option.{some}
 use Rattle.rules.specs.Messages.{Order, mt101, details, details_of, transferred_by, detailed_by, sum_of_amounts}
@@ -11,9 +12,8 @@ use Rattle.laws.specs.All.{All, All.none, All.more}
 use Rattle.rule_laws.specs.Options.{some_is}
 use Rattle.engine_laws.specs.Limits.{limits}
 use Rattle.engine_laws.specs.Positions.{Good, all_good}
-use Rattle.position.specs.Values.{key_value}
-use Rattle.engine.specs.Totals.{TotalsOf}
-use Rattle.engine.specs.declared.lookup.Totals.{Totals}
+use Rattle.position.specs.declared.Position as P
+use Rattle.engine.specs.Totals.{TotalsOf, begun, total_transferred, total_detailed}
 use Rattle.details.specs.Message.{message_in}
 use Rattle.conditions.specs.Books.{Books, amount_if}
 use Rattle.conditions.specs.Tally.{TallyAt, DetailsTallied}
@@ -21,13 +21,13 @@ use Rattle.conditions.specs.declared.booking.Booking.{Booking}
 use Rattle.conditions.specs.declared.tally.Tally.{Tally}
 
 -- of both totals, as the code tests it
-unfoldable pub over_by : Totals → Booking → Bool
+unfoldable pub over_by : P.Position → Booking → Bool
 over_by t b = not (leb (t.transferred + amount_if b.transfer b.amount) limit) || not (leb (t.detailed + amount_if (not b.transfer) b.amount) limit)
 
 -- it is the message's 15
-pub over_is : (s area : List ℕ) (b : Booking) → Books s (message_in s) b → (t : Totals) → TotalsOf (decode area).positions (key_value b.key) t → over_by t b ≡ over_limit (decode area) (message_in s)
+pub over_is : (s area : List ℕ) (b : Booking) → Books s (message_in s) b → (o : Option P.Position) → TotalsOf (decode area).positions b.key o → over_by (begun b.key o) b ≡ over_limit (decode area) (message_in s)
 unfolding over_by over_limit position_after
-over_is s area b k t g = rw (← k.key, ← g.transferred, ← g.detailed, k.transferred, k.detailed) refl
+over_is s area b k o g = rw (← k.key, ← total_transferred g, ← total_detailed g, k.transferred, k.detailed) refl
 
 -- ---- of an MT101
 
@@ -47,10 +47,10 @@ unfolding over_limit position_after transferred_by detailed_by details_of
 over_sum e w o = rw (add-zero (position_of (key_of (mt101 o)) e.positions).transferred, le-leb _ _ (under (key_of (mt101 o)) (all_good e.day e.positions (limits e w).good))) refl
 
 -- "15 is tested with the last": the sum that the walk over the details answers decides it
-pub running_sum_decides : (s text : List ℕ) (at : ℕ) (t : Tally) (amounts places verdicts fields : List ℕ) → TallyAt s text at t amounts places verdicts fields → t.ok ≡ true
+pub running_sum_decides : (s text : List ℕ) (at : ℕ) {q : R.Option Tally} {kept : _} → TallyAt s text at q kept → (t : Tally) → q ≡ R.Some t
     → (e : Engine) → within e ≡ true → (o : Order) → details 4096 (from s at) ≡ some o.details
     → over_limit e (mt101 o) ≡ not (leb ((position_of (key_of (mt101 o)) e.positions).detailed + t.sum) limit)
-running_sum_decides s text at t amounts places verdicts fields w h e g o r =
-    let d : DetailsTallied s text at t amounts places verdicts fields = w.all_there h in
+running_sum_decides s text at w t h e g o r =
+    let d : DetailsTallied s text at t _ = w.all_there t h in
     let same : sum_of_amounts o.details ≡ t.sum = ap sum_of_amounts (some_is (sym r ∙ d.read)) ∙ sym d.told.sum in
     over_sum e g o ∙ ap (λ (v : ℕ). not (leb ((position_of (key_of (mt101 o)) e.positions).detailed + v) limit)) same

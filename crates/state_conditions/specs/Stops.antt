@@ -1,21 +1,19 @@
 -- The conditions 11 to 15, as the code tests them: one law for each way out.
-use Rattle.std.specs.Prelude.{◌≡◌, Bool, true, false, ◌&&◌, not, cond, List, ℕ, ◌+◌, ◌*◌, ◌^◌, ◌≤◌, ◌<◌, leb, eqb}
+use Rattle.std.specs.Prelude.{◌≡◌, Bool, true, false, ◌&&◌, not, cond, List, ℕ, ◌+◌, ◌-◌, ◌*◌, ◌^◌, ◌≤◌, ◌<◌, leb, eqb, Option, is_some, take, drop}
 use Rattle.std.proofs.Math.Path.{refl}
 use Rattle.std.proofs.Common.{ap, ◌∙◌, arith}
 use Rattle.std.proofs.Math.Bool.{and-false}
 use Rattle.std.proofs.Math.Option.{some}
 use borrow.Author.Tests.{le-leb, lt-leb}
-use Rattle.rules.specs.Text.{any}
+use Rattle.rules.specs.Text.{is_text, every, any}
 use Rattle.rules.specs.Engine.{Key, limit, same_reference}
 use Rattle.rules.specs.Calls.{limit_stops, first_of, holds_of, misdated, own_reference, no_room}
 use Rattle.rules.specs.Area.{decode}
 use Rattle.laws.specs.Parts.{cut}
 use Rattle.laws.specs.Tests.{holds_told}
-use Rattle.position.specs.Values.{key_value}
 use Rattle.position.specs.declared.Position as P
-use Rattle.engine.specs.Totals.{TotalsOf}
-use Rattle.engine.specs.References.{of_bank}
-use Rattle.engine.specs.declared.lookup.Totals.{Totals}
+use Rattle.engine.specs.Totals.{TotalsOf, begun}
+use Rattle.engine.specs.References.{of_bank, part_is}
 use Rattle.engine.specs.Header.{HeaderOf}
 use Rattle.engine.specs.declared.header.Header.{Header}
 use Rattle.details.specs.Message.{message_in}
@@ -33,8 +31,8 @@ pub added_made : (b : Booking) {t d : ℕ} → t ≡ amount_if b.transfer b.amou
 added_made b e f = rw (e, f)
 
 -- 14 and 15
-unfoldable pub rest_number : ℕ → Totals → Booking → ℕ
-rest_number n t b = cond (leb 32 n && not t.is_open) 14 (cond (over_by t b) 15 0)
+unfoldable pub rest_number : ℕ → Option P.Position → Booking → ℕ
+rest_number n o b = cond (leb 32 n && not (is_some o)) 14 (cond (over_by (begun b.key o) b) 15 0)
 
 module _ (b : Booking) (day : ℕ) where
   pub misdated_transfer : b.transfer ≡ true → not (eqb b.key.date day) ≡ misdated_by b.transfer b.key.date day
@@ -75,7 +73,7 @@ module _ (b : Booking) where
   pub summed_small : {v : ℕ} → v ≡ amount_if (not b.transfer) b.amount → b.amount ≤ 16 * 10 ^ 16 → v ≤ 16 * 10 ^ 16
   summed_small e h = rw e (amount_small (not b.transfer) h)
 
-module _ (t : Totals) (b : Booking) {v : ℕ} (e : v ≡ amount_if b.transfer b.amount) (q : Bool) (u : q ≡ not (leb (t.transferred + v) limit)) where
+module _ (t : P.Position) (b : Booking) {v : ℕ} (e : v ≡ amount_if b.transfer b.amount) (q : Bool) (u : q ≡ not (leb (t.transferred + v) limit)) where
   pub over_first : q ≡ true → true ≡ over_by t b
   unfolding over_by
   over_first d = rw (← e, ← u, d) refl
@@ -84,8 +82,8 @@ module _ (t : Totals) (b : Booking) {v : ℕ} (e : v ≡ amount_if b.transfer b.
   unfolding over_by
   over_second d f g = g ∙ rw (← e, ← u, d, f) refl
 
-module _ (n : ℕ) (t : Totals) (b : Booking) (q : Bool) (u : q ≡ over_by t b) where
-  module _ (o : t.is_open ≡ true) where
+module _ (n : ℕ) (t : Option P.Position) (b : Booking) (q : Bool) (u : q ≡ over_by (begun b.key t) b) where
+  module _ (o : is_some t ≡ true) where
     pub rest_open_over : q ≡ true → 15 ≡ rest_number n t b
     unfolding rest_number over_by
     rest_open_over d = rw (o, and-false, ← u, d) refl
@@ -94,7 +92,7 @@ module _ (n : ℕ) (t : Totals) (b : Booking) (q : Bool) (u : q ≡ over_by t b)
     unfolding rest_number over_by
     rest_open d = rw (o, and-false, ← u, d) refl
 
-  module _ (o : t.is_open ≡ false) where
+  module _ (o : is_some t ≡ false) where
     pub rest_full : 32 ≤ n → 14 ≡ rest_number n t b
     unfolding rest_number
     rest_full l = rw (o, le-leb _ _ l) refl
@@ -110,9 +108,17 @@ module _ (n : ℕ) (t : Totals) (b : Booking) (q : Bool) (u : q ≡ over_by t b)
 
 -- ---- all of them
 
-pub used_is : (s area : List ℕ) (b : Booking) → Books s (message_in s) b → {q : Bool} → q ≡ any (same_reference (of_bank b.key.bank (cut s b.reference.start b.reference.end))) (decode area).references
-    → q ≡ any (same_reference (own_reference (message_in s))) (decode area).references
-used_is s area b k e = e ∙ rw (ap (λ (y : Key). y.bank) k.key, k.reference) refl
+module _ (s : List ℕ) (b : Booking) (k : Books s (message_in s) b) where
+  -- field 20, as a slice has it
+  field : take (b.reference.end - b.reference.start) (drop b.reference.start s) ≡ cut s b.reference.start b.reference.end
+  field = part_is s b.reference.start b.reference.end k.order
+
+  pub field_text : every is_text (take (b.reference.end - b.reference.start) (drop b.reference.start s)) ≡ true
+  field_text = rw field k.text
+
+  pub used_is : (area : List ℕ) {q : Bool} → q ≡ any (same_reference (of_bank b.key.bank (take (b.reference.end - b.reference.start) (drop b.reference.start s)))) (decode area).references
+      → q ≡ any (same_reference (own_reference (message_in s))) (decode area).references
+  used_is area e = e ∙ rw (field, ap (λ (y : Key). y.bank) k.key, k.reference) refl
 
 module _ (s area : List ℕ) (b : Booking) (k : Books s (message_in s) b) (x : Header) (n : HeaderOf area x) where
   day_is : misdated (decode area).day (message_in s) ≡ misdated_by b.transfer b.key.date x.day
@@ -133,7 +139,7 @@ module _ (s area : List ℕ) (b : Booking) (k : Books s (message_in s) b) (x : H
         unfolding first_of limit_stops holds_of
         state_full l = rw (day_is, ← u, d, ← v, w, ← n.references, le-leb _ _ l) refl
 
-        pub state_rest : x.references < 64 → (y : Totals) → TotalsOf (decode area).positions (key_value b.key) y → {r : ℕ} → r ≡ rest_number x.positions y b → r ≡ first_of (limit_stops (decode area) (some (message_in s)))
+        pub state_rest : x.references < 64 → (y : Option P.Position) → TotalsOf (decode area).positions b.key y → {r : ℕ} → r ≡ rest_number x.positions y b → r ≡ first_of (limit_stops (decode area) (some (message_in s)))
         unfolding first_of limit_stops holds_of rest_number no_room
         state_rest l y g e = e ∙ rw (day_is, ← u, d, ← v, w, ← n.references, lt-leb _ _ l, ← over_is s area b k y g, ← k.key, ← g.opens, ← n.positions) refl
 

@@ -7,14 +7,14 @@ ghost use Rattle.rules.specs.Calls.{first_of, own_reference, limit_stops};
 ghost use Rattle.rules.specs.Area.{holds, decode};
 ghost use Rattle.details.specs.Message.{message_in};
 ghost use Rattle.conditions.specs.Books.{Books, amount_if, misdated_by};
-ghost use Rattle.position.specs.Values.{key_value};
-ghost use Rattle.engine.specs.Totals.{TotalsOf};
+ghost use Rattle.engine.specs.Totals.{TotalsOf, begun};
+ghost use Rattle.refusal.specs.Numbers.{stop_of};
 ghost use Rattle.state_conditions.specs.Limit.{over_by};
 ghost use Rattle.state_conditions.specs.Stops.{addition_by, rest_number};
 
 use conditions::Booking;
-use engine::Totals;
 use position::{LIMIT, Position};
+use refusal::Refusal;
 
 // 11: an MT103 not dated on the day, an MT101 dated after it?
 fn is_misdated(b: Booking, day: u32) -> bool
@@ -75,7 +75,7 @@ fn total_over(total: u64, added: u64) -> bool
 }
 
 // 15: is one of both totals over its limit?
-fn is_over(t: Totals, b: Booking) -> bool
+fn is_over(t: Position, b: Booking) -> bool
     requires transferred_bound { t.transferred < 2 ^ 48 }
     requires detailed_bound { t.detailed < 2 ^ 48 }
     requires amount_bound { b.amount ≤ 16 * 10 ^ 16 }
@@ -87,27 +87,27 @@ fn is_over(t: Totals, b: Booking) -> bool
     total_over(t.detailed, detailed_by(b))
 }
 
-// 14 and 15, with n positions open; 0 where neither holds.
-fn rest_number(n: u32, t: Totals, b: Booking) -> u32
-    requires transferred_bound { t.transferred < 2 ^ 48 }
-    requires detailed_bound { t.detailed < 2 ^ 48 }
+// 14 or 15, the first that holds, with n positions open.
+fn rest_number(n: u32, before: Option<Position>, b: Booking) -> Result<(), Refusal>
+    requires transferred_bound { (begun b.key before).transferred < 2 ^ 48 }
+    requires detailed_bound { (begun b.key before).detailed < 2 ^ 48 }
     requires amount_bound { b.amount ≤ 16 * 10 ^ 16 }
-    ensures { result ≡ rest_number n t b }
+    ensures { stop_of result ≡ rest_number n before b }
 {
-    let over = is_over(t, b);
-    if t.is_open {
+    let over = is_over(before.unwrap_or(Position::empty(b.key)), b);
+    if before.is_some() {
         if over {
-            return 15;
+            return Err(Refusal::OverLimit);
         }
-        return 0;
+        return Ok(());
     }
     if 32 <= n {
-        return 14;
+        return Err(Refusal::TooManyPositions);
     }
     if over {
-        return 15;
+        return Err(Refusal::OverLimit);
     }
-    0
+    Ok(())
 }
 
 // Was its field 20 accepted today from this sender?
@@ -117,26 +117,30 @@ fn already_accepted(s: &[u8], area: &[u8], b: Booking) -> bool
     ensures { result ≡ any (same_reference (own_reference (message_in s.now))) (decode area.now).references }
 {
     let p = b.reference;
-    let k = b.key;
-    engine::is_used(area, k.bank, s, p.start as usize, p.end as usize)
+    engine::is_used(area, b.key.bank, &s[p.start as usize..p.end as usize])
 }
 
-// 11 to 15, t being the totals of the message's position; 0 where none holds.
-pub fn state_number(s: &[u8], area: &[u8], b: Booking, t: Totals) -> u32
+// 11 to 15, the first that holds, the message's position being open or missing.
+pub fn state_number(
+    s: &[u8],
+    area: &[u8],
+    b: Booking,
+    before: Option<Position>,
+) -> Result<(), Refusal>
     requires area_value { is_some (holds area.now) ≡ true }
     requires books { Books s.now (message_in s.now) b }
-    requires totals_of { TotalsOf (decode area.now).positions (key_value b.key) t }
-    ensures { result ≡ first_of (limit_stops (decode area.now) (some (message_in s.now))) }
+    requires totals_of { TotalsOf (decode area.now).positions b.key before }
+    ensures { stop_of result ≡ first_of (limit_stops (decode area.now) (some (message_in s.now))) }
 {
     let h = engine::header_of(area);
     if is_misdated(b, h.day) {
-        return 11;
+        return Err(Refusal::Misdated);
     }
     if already_accepted(s, area, b) {
-        return 12;
+        return Err(Refusal::AlreadyAccepted);
     }
     if 64 <= h.references {
-        return 13;
+        return Err(Refusal::TooManyMessages);
     }
-    rest_number(h.positions, t, b)
+    rest_number(h.positions, before, b)
 }

@@ -4,9 +4,9 @@
 mod against;
 mod classes;
 mod numbers;
+mod places;
 
 pub use against::{equal_from_end, equal_parts, fits_pattern, fits_sign, is_before, same_parts};
-pub use classes::{Class, alnums_at, digits_at, is_digit, letters_at, run_in, texts_at};
-pub use numbers::{
-    Num, digits_value, less, number_at, read_be, read_digits, small_digits, with_digit,
-};
+pub use classes::{Alnum, Class, Digit, Letter, Text, is_all, is_run, leading};
+pub use numbers::{digits_value, number_at, read_be, read_digits, small_digits, with_digit};
+pub use places::leading_at;

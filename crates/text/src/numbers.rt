@@ -4,36 +4,11 @@ ghost use Rattle.rules.specs.Text.{is_digit, every, digits, big_endian};
 ghost use Rattle.laws.specs.Parts.{cut};
 ghost use Rattle.laws.specs.Reading.{power, Placed};
 ghost use Rattle.laws.specs.Values.{Valued};
-ghost use Rattle.text.specs.Answers.{Small, num_of};
+ghost use Rattle.laws.specs.Told.{told};
+ghost use Rattle.text.specs.Answers.{Small};
 ghost use Rattle.text.specs.Numbers.{NumberAt};
 
-use crate::classes::digits_at;
-
-// The reading of a number.
-#[derive(Clone, Copy)]
-pub enum Num {
-    // The number.
-    Value(u64),
-    // There is none.
-    Bad,
-}
-
-// A byte as a number.
-pub fn wide(c: u8) -> u64
-    ensures { Small c result }
-{
-    c as u64
-}
-
-// A byte less k, and 0 where it is smaller.
-pub fn less(c: u8, k: u8) -> u32
-    ensures { Small (c - k) result }
-{
-    if c < k {
-        return 0;
-    }
-    (c - k) as u32
-}
+use crate::classes::{Digit, is_all};
 
 // The number v with a digit behind it.
 pub fn with_digit(v: u64, c: u8) -> u64
@@ -41,7 +16,7 @@ pub fn with_digit(v: u64, c: u8) -> u64
     requires c_value { is_digit c ≡ true }
     ensures { Placed 10 v (c - 48) result }
 {
-    v * 10 + less(c, 48) as u64
+    v * 10 + (c - 48) as u64
 }
 
 // A number of at most eight digits with a digit behind it.
@@ -60,11 +35,9 @@ pub fn small_digits(s: &[u8], a: usize, n: u32) -> u32
     requires n_value { every is_digit (cut s.now a (a + n)) ≡ true }
     ensures { Valued s.now a n result }
 {
-    let mut v: u32 = 0;
-    let mut k: u32 = 0;
-    while k < n {
+    let mut v = 0;
+    for k in 0..n {
         v = with_place(v, s[a + k as usize]);
-        k += 1;
     }
     v
 }
@@ -83,18 +56,15 @@ pub fn digits_value(s: &[u8], a: usize, n: u32) -> u64
     small_digits(s, a, h) as u64 * 1000000000 + small_digits(s, a + h as usize, 9) as u64
 }
 
-// The number of the digits from a up to b, 18 of them at most.
-pub fn read_digits(s: &[u8], a: usize, b: usize) -> Num
-    requires a_le_b { a ≤ b }
-    requires b_in_bounds { b ≤ length s.now }
-    requires a_bound { b - a ≤ 18 }
-    ensures { num_of result ≡ digits (cut s.now a b) }
+// The number of some digits, 18 of them at most.
+pub fn read_digits(s: &[u8]) -> Option<u64>
+    requires { length s.now ≤ 18 }
+    ensures { told result ≡ digits s.now }
 {
-    let n = (b - a) as u32;
-    if digits_at(s, a, n) < n {
-        return Num::Bad;
+    if !is_all::<Digit>(s) {
+        return None;
     }
-    Num::Value(digits_value(s, a, n))
+    Some(digits_value(s, 0, s.len() as u32))
 }
 
 // The number v with a byte behind it.
@@ -102,7 +72,7 @@ fn with_byte(v: u64, c: u8) -> u64
     requires { v < power 256 7 }
     ensures { Placed 256 v c result }
 {
-    v * 256 + wide(c)
+    v * 256 + c as u64
 }
 
 // The number of the bytes from a up to b, 8 of them at most, the first the most significant.
@@ -112,11 +82,9 @@ pub fn read_be(s: &[u8], a: usize, b: usize) -> u64
     requires a_bound { b - a ≤ 8 }
     ensures { result ≡ big_endian (cut s.now a b) }
 {
-    let mut v: u64 = 0;
-    let mut i = a;
-    while i < b {
+    let mut v = 0;
+    for i in a..b {
         v = with_byte(v, s[i]);
-        i += 1;
     }
     v
 }

@@ -1,110 +1,74 @@
 // Reads messages, `@NAME` and the bytes up to the next `@`, and writes for each the lowest number of 1 to 8 that stops it, or 0 and its parts.
 #![tactic(auto)]
 
-ghost use Rattle.std.specs.Prelude.{◌≤◌, length};
-ghost use Rattle.try_forms.specs.Places.{Reached};
-
-use conditions::Checked;
+use conditions::Booking;
 use forms::{DETAIL_21, Span};
+use refusal::Refusal;
 use std::io::{self, Read};
-
-// The next place with the byte c, or the end.
-fn reach(s: &[u8], at: usize, c: u8) -> usize
-    requires { at ≤ length s.now }
-    ensures { Reached s.now at result }
-{
-    let mut i = at;
-    while i < s.len() {
-        if s[i] == c {
-            return i;
-        }
-        i += 1;
-    }
-    i
-}
-
-// A number.
-fn say_number(rt: &impl Print, v: u64) -> io::Result<()> {
-    rt.write_all(b" ")?;
-    rt.print(v)
-}
+use verdict::{Judged, NO_DETAIL};
 
 // A part of the message.
 fn say_part(rt: &impl Print, s: &[u8], p: Span) -> io::Result<()> {
-    let a = p.start as usize;
-    let e = p.end as usize;
-    if a <= e {
-        if e <= s.len() {
-            rt.write_all(b" ")?;
-            rt.write_all(&s[a..e])?;
-        }
+    if let Some(part) = s.get(p.start as usize..p.end as usize) {
+        rt.write_all(b" ")?;
+        rt.write_all(part)?;
     }
     Ok(())
 }
 
 // The details from first on: field 21's line, and the amount that is kept.
-fn say_details(
-    rt: &impl Print,
-    s: &[u8],
-    amounts: &[u64; 16],
-    first: usize,
-    count: u8,
-) -> io::Result<()> {
+fn say_details(rt: &impl Print, s: &[u8], kept: &[Judged], first: usize) -> io::Result<()> {
     let mut at = first;
-    let mut i: u8 = 0;
-    while i < count {
-        if s.len() < at {
+    for judged in kept {
+        if s.len() < at || 4096 < s.len() {
             return Ok(());
         }
-        if 4096 < s.len() {
+        let Some(d) = forms::read_detail(s, at) else {
             return Ok(());
-        }
-        if 16 <= i {
-            return Ok(());
-        }
-        let d = forms::read_detail(s, at);
+        };
         say_part(rt, s, d.spans[DETAIL_21])?;
-        say_number(rt, amounts[i as usize])?;
+        print!(rt; " {}", judged.detail.amount)?;
         at = d.next;
-        i += 1;
     }
     Ok(())
 }
 
 // Where the details of an MT101 begin, behind its field 20.
 fn first_detail(s: &[u8]) -> usize {
-    if s.len() < 23 {
+    if s.len() < 23 || 4096 < s.len() {
         return 0;
     }
-    if 4096 < s.len() {
-        return 0;
+    match forms::read_rows(s, 23, 0, 1) {
+        Some(rows) => rows.next,
+        None => 0,
     }
-    let rows = forms::read_rows(s, 23, 0, 1);
-    rows.next
 }
 
-// The answer of the check, and the amounts that it kept.
-fn say_checked(rt: &impl Print, s: &[u8], r: Checked, amounts: &[u64; 16]) -> io::Result<()> {
+// The answer of the check, and the details that it kept.
+fn say_checked(
+    rt: &impl Print,
+    s: &[u8],
+    r: Result<Booking, Refusal>,
+    kept: &[Judged; 16],
+) -> io::Result<()> {
     match r {
-        Checked::Refused(k) => say_number(rt, k as u64),
-        Checked::Passed(b) => {
-            say_number(rt, 0)?;
+        Err(refusal) => print!(rt; " {}", refusal.number()),
+        Ok(b) => {
+            print!(rt; " 0")?;
             say_part(rt, s, b.reference)?;
-            say_number(rt, b.key.date as u64)?;
-            say_number(rt, b.amount)?;
-            say_details(rt, s, amounts, first_detail(s), b.count)
+            print!(rt; " {} {}", b.key.date, b.amount)?;
+            let n = kept.len().min(b.count as usize);
+            say_details(rt, s, &kept[..n], first_detail(s))
         }
     }
 }
 
 // A message to the card with the register of a text.
 fn say_message(rt: &impl Print, s: &[u8], text: &[u8]) -> io::Result<()> {
-    let mut amounts = [0u64; 16];
-    let mut places = [0u16; 128];
-    let mut verdicts = [0u8; 16];
+    let mut kept = [NO_DETAIL; 16];
     if register::register_passes(text) {
-        let r = conditions::check_message(s, text, &mut amounts, &mut places, &mut verdicts);
-        say_checked(rt, s, r, &amounts)?;
+        let r = conditions::check_message(s, text, &mut kept);
+        say_checked(rt, s, r, &kept)?;
     }
     Ok(())
 }
@@ -117,20 +81,19 @@ fn try_message(rt: &impl Print, s: &[u8]) -> io::Result<()> {
 
 // Each message of the input.
 fn try_each(rt: &impl Print, s: &[u8]) -> io::Result<()> {
-    let mut i: usize = 0;
-    while i < s.len() {
-        let e = reach(s, i, b'\n');
-        if s.len() <= e {
+    let mut rest = s;
+    while let Some(e) = rest.iter().position(|c| *c == b'\n') {
+        if e == 0 {
             return Ok(());
         }
-        if e == i {
-            return Ok(());
-        }
-        rt.write_all(&s[i + 1..e])?;
-        let a = e + 1;
-        let b = reach(s, a, b'@');
-        try_message(rt, &s[a..b])?;
-        i = b;
+        rt.write_all(&rest[1..e])?;
+        let behind = &rest[e + 1..];
+        let n = behind
+            .iter()
+            .position(|c| *c == b'@')
+            .unwrap_or(behind.len());
+        try_message(rt, &behind[..n])?;
+        rest = &behind[n..];
     }
     Ok(())
 }

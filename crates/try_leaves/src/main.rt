@@ -1,135 +1,92 @@
 // Reads lines KIND=TEXT and writes each with what the text is: d a date, n a day's number, a an amount, i an IBAN, b a BIC.
 #![tactic(auto)]
 
-ghost use Rattle.std.specs.Prelude.{◌+◌, ◌≤◌, length};
-
 use std::io::{self, Read};
-use text::Num;
 
 // A number that was read, or none.
-fn say_number(rt: &impl Print, r: Num) -> io::Result<()> {
+fn say_number(rt: &impl Print, r: Option<u64>) -> io::Result<()> {
     match r {
-        Num::Value(v) => rt.print(v),
-        Num::Bad => rt.write_all(b"none"),
-    }
-}
-
-// A word that says whether a test holds.
-fn say(rt: &impl Print, holds: bool, yes: &[u8], no: &[u8]) -> io::Result<()> {
-    if holds {
-        rt.write_all(yes)
-    } else {
-        rt.write_all(no)
+        Some(v) => print!(rt; "{v}"),
+        None => print!(rt; "none"),
     }
 }
 
 // A date: six digits.
-fn try_date(rt: &impl Print, s: &[u8], a: usize, b: usize) -> io::Result<()>
-    requires a_le_b { a ≤ b }
-    requires b_in_bounds { b ≤ length s.now }
-{
-    if b - a == 6 {
-        say_number(rt, calendar::read_date(s, a))
-    } else {
-        say_number(rt, Num::Bad)
-    }
+fn try_date(rt: &impl Print, s: &[u8]) -> io::Result<()> {
+    say_number(rt, calendar::read_date(s).map(|n| n as u64))
 }
 
 // The number of a day, as it is handed to a call.
-fn try_day(rt: &impl Print, s: &[u8], a: usize, b: usize) -> io::Result<()>
-    requires a_le_b { a ≤ b }
-    requires b_in_bounds { b ≤ length s.now }
-{
-    if b - a <= 18 {
-        match text::read_digits(s, a, b) {
-            Num::Value(n) => {
-                if n <= 4294967295 {
-                    say(rt, calendar::exists(n as u32), b"exists", b"none")?;
-                }
+fn try_day(rt: &impl Print, s: &[u8]) -> io::Result<()> {
+    if s.len() <= 18 {
+        if let Some(n) = text::read_digits(s) {
+            if let Ok(day) = u32::try_from(n) {
+                return print!(rt;
+                    "{}",
+                    if calendar::exists(day) {
+                        "exists"
+                    } else {
+                        "none"
+                    }
+                );
             }
-            Num::Bad => {}
         }
     }
     Ok(())
 }
 
-// An IBAN: passes, or the first of shape and control that does not hold.
-fn try_iban(rt: &impl Print, s: &[u8], a: usize, b: usize) -> io::Result<()>
-    requires a_le_b { a ≤ b }
-    requires b_in_bounds { b ≤ length s.now }
-{
-    if b - a != 22 {
-        say(rt, true, b"shape", b"")
-    } else {
-        if account::iban_passes(s, a) {
-            say(
-                rt,
-                account::iban_shape(s, a),
-                b"passes",
-                b"passes, and no shape",
-            )
+// Of an IBAN: it passes, or the first of shape and control that does not hold.
+fn iban_says(s: &[u8]) -> &'static str {
+    if s.len() != 22 {
+        return "shape";
+    }
+    if account::iban_passes(s) {
+        if account::iban_shape(s) {
+            "passes"
         } else {
-            if account::iban_shape(s, a) {
-                say(
-                    rt,
-                    account::iban_control(s, a),
-                    b"control holds, and does not pass",
-                    b"control",
-                )
-            } else {
-                say(rt, true, b"shape", b"")
-            }
+            "passes, and no shape"
         }
+    } else if !account::iban_shape(s) {
+        "shape"
+    } else if account::iban_control(s) {
+        "control holds, and does not pass"
+    } else {
+        "control"
     }
 }
 
-// A BIC: eight characters.
-fn try_bic(rt: &impl Print, s: &[u8], a: usize, b: usize) -> io::Result<()>
-    requires a_le_b { a ≤ b }
-    requires b_in_bounds { b ≤ length s.now }
-{
-    say(rt, b - a == 8 && account::is_bic(s, a), b"bic", b"none")
+// Of a BIC: eight characters.
+fn bic_says(s: &[u8]) -> &'static str {
+    if account::is_bic(s) { "bic" } else { "none" }
 }
 
-// The text from a up to b, by its kind.
-fn try_text(rt: &impl Print, kind: u8, s: &[u8], a: usize, b: usize) -> io::Result<()>
-    requires a_le_b { a ≤ b }
-    requires b_in_bounds { b ≤ length s.now }
-{
+// A text, by its kind.
+fn try_text(rt: &impl Print, kind: u8, s: &[u8]) -> io::Result<()> {
     match kind {
-        b'd' => try_date(rt, s, a, b),
-        b'n' => try_day(rt, s, a, b),
-        b'a' => say_number(rt, money::read_amount(s, a, b)),
-        b'i' => try_iban(rt, s, a, b),
-        b'b' => try_bic(rt, s, a, b),
+        b'd' => try_date(rt, s),
+        b'n' => try_day(rt, s),
+        b'a' => say_number(rt, money::read_amount(s)),
+        b'i' => print!(rt; "{}", iban_says(s)),
+        b'b' => print!(rt; "{}", bic_says(s)),
         _ => Ok(()),
     }
 }
 
-// A line, from a up to b, and behind it what its text is.
-fn try_line(rt: &impl Print, s: &[u8], a: usize, b: usize) -> io::Result<()>
-    requires a_le_b { a ≤ b }
-    requires b_in_bounds { b ≤ length s.now }
-{
-    rt.write_all(&s[a..b])?;
+// A line, and behind it what its text is.
+fn try_line(rt: &impl Print, line: &[u8]) -> io::Result<()> {
+    rt.write_all(line)?;
     rt.write_all(b" ")?;
-    if 2 <= b - a {
-        try_text(rt, s[a], s, a + 2, b)?;
+    if 2 <= line.len() {
+        try_text(rt, line[0], &line[2..])?;
     }
     rt.write_all(b"\n")
 }
 
 // Each line of the input.
 fn try_lines(rt: &impl Print, s: &[u8]) -> io::Result<()> {
-    let mut start = 0;
-    let mut i = 0;
-    while i < s.len() {
-        if s[i] == b'\n' {
-            try_line(rt, s, start, i)?;
-            i += 1;
-            start = i;
-        } else {
-            i += 1;
+    for line in s.split_inclusive(|c| *c == b'\n') {
+        if let Some(text) = line.strip_suffix(b"\n") {
+            try_line(rt, text)?;
         }
     }
     Ok(())

@@ -3,14 +3,15 @@
 
 ghost use Rattle.std.specs.Prelude.{◌≤◌, length};
 
+use outgoing_number::Reference;
 use position::{Key, Position};
 use std::io;
 use written::Book;
 
 // The output up to a place.
 fn say(rt: &impl Print, out: &[u8], n: usize) -> io::Result<()> {
-    if n <= out.len() {
-        rt.write_all(&out[0..n])?;
+    if let Some(text) = out.get(..n) {
+        rt.write_all(text)?;
     }
     Ok(())
 }
@@ -20,8 +21,10 @@ fn try_postings(rt: &impl Print) -> io::Result<()> {
     let mut out = [0u8; 256];
     let book = Book {
         day: 60302,
-        bank: text::read_be(b"AAAABGSF", 0, 8),
-        date: 60302,
+        key: Key {
+            bank: u64::from_be_bytes(*b"AAAABGSF"),
+            date: 60302,
+        },
     };
     let a = written::put_from_bank(&mut out, 0, book, b"BG80BNBG96611020345678", 10000);
     let b = written::put_to_account(
@@ -39,7 +42,7 @@ fn try_postings(rt: &impl Print) -> io::Result<()> {
 // A turn to 040607.
 fn try_turn(rt: &impl Print) -> io::Result<()> {
     let mut out = [0u8; 1024];
-    let bank = text::read_be(b"ZHSRPL8S", 0, 8);
+    let bank = u64::from_be_bytes(*b"ZHSRPL8S");
     let p = Position {
         key: Key { bank, date: 40305 },
         transferred: 0,
@@ -52,16 +55,28 @@ fn try_turn(rt: &impl Print) -> io::Result<()> {
     };
     let a = written::put_correction_posting(&mut out, 0, 40607, b"BG18BNBG96611633648985", p);
     let b = written::put_correction_posting(&mut out, a, 40607, b"BG18BNBG96611633648985", q);
-    let c = written::put_correction(&mut out, b, 40607, b"BG18BNBG96611633648985", 1, p);
-    let d = written::put_correction(&mut out, c, 40607, b"BG18BNBG96611633648985", 2, q);
+    let r = Reference {
+        day: 40607,
+        number: 1,
+    };
+    let c = written::put_correction(&mut out, b, r, b"BG18BNBG96611633648985", p);
+    let s = Reference {
+        day: 40607,
+        number: 2,
+    };
+    let d = written::put_correction(&mut out, c, s, b"BG18BNBG96611633648985", q);
     say(rt, &out, d)
 }
 
 // The listing's MT199, without its returned detail.
 fn try_only_part(rt: &impl Print) -> io::Result<()> {
     let mut out = [0u8; 256];
-    let bank = text::read_be(b"AAAABGSF", 0, 8);
-    let a = written::put_opened199(&mut out, 0, 60302, 1, 1, bank, 1);
+    let bank = u64::from_be_bytes(*b"AAAABGSF");
+    let r = Reference {
+        day: 60302,
+        number: 1,
+    };
+    let a = written::put_opened199(&mut out, 0, r, 1, bank, 1);
     let b = written::put_position79(&mut out, a, 60302, 10000, 11400);
     let c = written::put_closed79(&mut out, b, 1, 1);
     say(rt, &out, c)
@@ -70,8 +85,12 @@ fn try_only_part(rt: &impl Print) -> io::Result<()> {
 // The second part of an MT199 whose first is 000003.
 fn try_second_part(rt: &impl Print) -> io::Result<()> {
     let mut out = [0u8; 256];
-    let bank = text::read_be(b"FBBMXFIK", 0, 8);
-    let a = written::put_opened199(&mut out, 0, 51108, 3, 4, bank, 2);
+    let bank = u64::from_be_bytes(*b"FBBMXFIK");
+    let r = Reference {
+        day: 51108,
+        number: 4,
+    };
+    let a = written::put_opened199(&mut out, 0, r, 3, bank, 2);
     let b = written::put_position79(&mut out, a, 51108, 0, 39876122005479);
     let c = written::put_closed79(&mut out, b, 2, 2);
     say(rt, &out, c)
@@ -98,8 +117,10 @@ fn say_return(
 fn try_return(rt: &impl Print) -> io::Result<()> {
     let book = Book {
         day: 60302,
-        bank: text::read_be(b"AAAABGSF", 0, 8),
-        date: 60302,
+        key: Key {
+            bank: u64::from_be_bytes(*b"AAAABGSF"),
+            date: 60302,
+        },
     };
     say_return(
         rt,
@@ -116,8 +137,10 @@ fn try_return(rt: &impl Print) -> io::Result<()> {
 fn try_small_return(rt: &impl Print) -> io::Result<()> {
     let book = Book {
         day: 40607,
-        bank: text::read_be(b"ZHSRPL8S", 0, 8),
-        date: 40305,
+        key: Key {
+            bank: u64::from_be_bytes(*b"ZHSRPL8S"),
+            date: 40305,
+        },
     };
     say_return(
         rt,
@@ -134,8 +157,10 @@ fn try_small_return(rt: &impl Print) -> io::Result<()> {
 fn try_large_return(rt: &impl Print) -> io::Result<()> {
     let book = Book {
         day: 51108,
-        bank: text::read_be(b"FBBMXFIK", 0, 8),
-        date: 51107,
+        key: Key {
+            bank: u64::from_be_bytes(*b"FBBMXFIK"),
+            date: 51107,
+        },
     };
     say_return(
         rt,

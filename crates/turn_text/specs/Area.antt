@@ -1,6 +1,6 @@
 -- The text of a turn of an area that holds an engine.
 use Rattle.std.specs.Prelude.{◌≡◌, true, List, ◌++◌, ℕ}
-use Rattle.std.proofs.Common.{sym, ◌∙◌}
+use Rattle.std.proofs.Common.{◌∙◌}
 use Rattle.rules.specs.Text.{is_some}
 use Rattle.rules.specs.Written.{correction_postings, corrections, corrected_count}
 use Rattle.rules.specs.Calls.{turn_text}
@@ -11,8 +11,7 @@ use Rattle.engine.specs.declared.header.Header.{Header}
 use Rattle.engine.specs.Positions.{positions_from}
 use Rattle.engine.specs.Lookup.{positions_are}
 use Rattle.outgoing_number.specs.declared.Numbered.{Numbered}
-use Rattle.turn_text.specs.declared.turn.Correcting.{Correcting}
-use Rattle.turn_text.specs.Turn.{temporary_at, NextFound, CorrectionsPut}
+use Rattle.turn_text.specs.Turn.{temporary_at, CorrectionsPut}
 
 -- the text of a turn was written, and the count is that of its corrections
 pub record TurnPut (area : List ℕ) (day at : ℕ) (out : List ℕ) (r : Numbered) (out' : List ℕ) : Type 0 where
@@ -25,9 +24,9 @@ module _ (area : List ℕ) (day : ℕ) (x : Header) (h : is_some (holds area) �
   turn_text_lem = rw (← positions_are area h x n)
 
   -- "Posting lines come first, .. then messages."
-  pub turn_wrote : {at m : ℕ} {r : Numbered} {out out₁ out₂ : List ℕ} {first : Correcting} (temporary : List ℕ) → temporary ≡ temporary_at area → Wrote (correction_postings day temporary (positions_from area 0 x.positions)) at out m out₁
-      → NextFound area m 0 x.positions first → CorrectionsPut day area first out₁ r out₂ → TurnPut area day at out r out₂
-  turn_wrote temporary e v f w = record {
-    wrote = rw (← turn_text_lem) (wrote_then (rw e at v) (rw (f.alike.texts day (temporary_at area) 0, ← f.behind) w.wrote));
-    count = w.count ∙ sym f.alike.counts ∙ rw (positions_are area h x n);
+  pub turn_wrote : {at m : ℕ} {r : Numbered} {out out₁ out₂ : List ℕ} (temporary : List ℕ) → temporary ≡ temporary_at area → Wrote (correction_postings day temporary (positions_from area 0 x.positions)) at out m out₁
+      → CorrectionsPut day x.positions area m out₁ r out₂ → TurnPut area day at out r out₂
+  turn_wrote temporary e v w = record {
+    wrote = rw (← turn_text_lem) (wrote_then (rw e at v) w.wrote);
+    count = w.count ∙ rw (positions_are area h x n);
   }

@@ -99,6 +99,9 @@ module _ (p : Position) (ps : List Position) where
 pub sums_all : (area : List ℕ) (n : ℕ) → SumsLeft area 0 n n (record { refunded = 0; collected = 0 })
 sums_all area n = record { place = omega arith; refunded = omega arith; collected = omega arith; refunded_small = omega arith; collected_small = omega arith }
 
+pub sums_start : (area : List ℕ) (n : ℕ) → SumsLeft area 0 (n - 0) n (record { refunded = 0; collected = 0 })
+sums_start area n = let e : n - 0 ≡ n = omega arith in rw e (sums_all area n)
+
 module _ (area : List ℕ) (i k n : ℕ) (s : Sums) (l : SumsLeft area i k n s) where
   pub sums_more : 0 < k → {q : P.Position} → PositionAt area (positions_place + record_size * i) q → {r : Sums} → Adds (position_value q) s r → SumsLeft area (i + 1) (k - 1) n r
   sums_more h {q} a {r} d =
@@ -124,8 +127,13 @@ module _ (area : List ℕ) (i k n : ℕ) (s : Sums) (l : SumsLeft area i k n s) 
         collected_small = omega (arith, l.collected_small);
       }
 
+-- one position more of those that a loop counts up
+pub sums_turn : (area : List ℕ) (i n : ℕ) (s : Sums) → SumsLeft area i (n - i) n s → i < n → {q : P.Position} → PositionAt area (positions_place + record_size * i) q → {r : Sums} → Adds (position_value q) s r
+    → SumsLeft area (i + 1) (n - (i + 1)) n r
+sums_turn area i n s l h a d = let e : n - i - 1 ≡ n - (i + 1) = omega arith in rw e at (sums_more area i (n - i) n s l (omega arith) a d)
+
 -- the positions of the engine that the area holds
 pub sums_decoded : (area : List ℕ) (x : Header) (s : Sums) → is_some (holds area) ≡ true → HeaderOf area x → SumsOf (positions_from area 0 x.positions) s → SumsOf (decode area).positions s
 sums_decoded area x s h n t = subst (λ (ps : List Position). SumsOf ps s) (sym (positions_are area h x n)) t
 
-pub ruleset summing = (adds_nothing, adds_some, sums_all, sums_more, sums_end, sums_decoded, decoded_room)
+pub ruleset summing = (adds_nothing, adds_some, sums_start, sums_turn, sums_end, sums_decoded, decoded_room)

@@ -9,8 +9,5 @@ use position::Position;
 pub fn is_corrected(p: Position) -> bool
     ensures { result ≡ corrected (position_value p) }
 {
-    if p.detailed == 0 {
-        return false;
-    }
-    p.transferred != p.detailed
+    p.detailed != 0 && p.transferred != p.detailed
 }

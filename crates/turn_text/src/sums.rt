@@ -1,10 +1,10 @@
 // What a turn refunds and collects.
-ghost use Rattle.std.specs.Prelude.{◌≡◌, true, ◌-◌, ◌+◌, ◌^◌, ◌<◌, ◌≤◌, length};
+ghost use Rattle.std.specs.Prelude.{◌≡◌, true, ◌+◌, ◌^◌, ◌<◌, ◌≤◌, length};
 ghost use Rattle.rules.specs.Text.{is_some};
 ghost use Rattle.rules.specs.Area.{decode, holds, texts_place};
 ghost use Rattle.position.specs.Values.{position_value};
 ghost use Rattle.engine.specs.Positions.{positions_from};
-ghost use Rattle.turn_text.specs.Sums.{Adds, SumsOf};
+ghost use Rattle.turn_text.specs.Sums.{SumsOf};
 
 use engine::{header_of, nth_position};
 use position::Position;
@@ -18,28 +18,22 @@ pub struct Sums {
     pub collected: u64,
 }
 
-// What a is above b, 0 where it is not.
-fn above(a: u64, b: u64) -> u64
-    ensures { result ≡ a - b }
-{
-    if a < b {
-        return 0;
-    }
-    a - b
-}
+impl Sums {
+    ghost use Rattle.turn_text.specs.Sums.{Adds};
 
-// The sums with one position more.
-fn with_position(s: Sums, p: Position) -> Sums
-    requires transferred_bound { s.refunded + p.transferred < 2 ^ 64 }
-    requires detailed_bound { s.collected + p.detailed < 2 ^ 64 }
-    ensures { Adds (position_value p) s result }
-{
-    if p.detailed == 0 {
-        return s;
-    }
-    Sums {
-        refunded: s.refunded + above(p.transferred, p.detailed),
-        collected: s.collected + above(p.detailed, p.transferred),
+    // With one position more.
+    fn with_position(self, p: Position) -> Sums
+        requires transferred_bound { self.refunded + p.transferred < 2 ^ 64 }
+        requires detailed_bound { self.collected + p.detailed < 2 ^ 64 }
+        ensures { Adds (position_value p) self result }
+    {
+        if p.detailed == 0 {
+            return self;
+        }
+        Sums {
+            refunded: self.refunded + p.transferred.saturating_sub(p.detailed),
+            collected: self.collected + p.detailed.saturating_sub(p.transferred),
+        }
     }
 }
 
@@ -53,12 +47,8 @@ fn sums_of(area: &[u8], n: u32) -> Sums
         refunded: 0,
         collected: 0,
     };
-    let mut i: u32 = 0;
-    let mut k = n;
-    while k > 0 {
-        s = with_position(s, nth_position(area, i));
-        i += 1;
-        k -= 1;
+    for i in 0..n {
+        s = s.with_position(nth_position(area, i));
     }
     s
 }

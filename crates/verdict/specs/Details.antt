@@ -1,142 +1,122 @@
--- The verdicts of a message's details, and a detail with its verdict, as the code holds them.
-use Rattle.std.specs.Prelude.{◌≡◌, true, List, ℕ, ◌+◌, ◌*◌, ◌<◌, length, get_or, set}
-use Rattle.std.proofs.Common.{ap, ◌∙◌, arith, length-set, get_or-set_same, get_or-set_other}
+-- The details of a message with their verdicts, as the code holds them.
+use Rattle.std.specs.Prelude.{◌≡◌, true, false, List, ℕ, ◌<◌, ◌≤◌, length, get_or, set}
+use Rattle.std.proofs.Common.{ap, ◌∙◌, arith, get_or-set_same, get_or-set_other}
+use Rattle.std.proofs.lemmas.List.{get_or_default}
 use Rattle.rules.specs.Text.{is_some}
 use Rattle.rules.specs.Messages as M
 use Rattle.rules.specs.Calls as C
-use Rattle.rules.specs.Forms.{detail50h, detail_code, detail52d, detail59, detail_baeref}
+use Rattle.rules.specs.Forms.{detail_code, detail59}
 use Rattle.rules.specs.Messages.{past}
 use Rattle.rules.specs.Register.{register, register_of}
 use Rattle.rules.specs.Verdict as paper
-use Rattle.rules.specs.Verdict.{verdict, by_code}
-use Rattle.register.specs.Passed.{accounts_few}
+use Rattle.rules.specs.Verdict.{verdict, by_code, is_returned, is_listed199}
 use Rattle.forms.specs.Spans.{span_of, no_span, SpanIn, span_line}
 use Rattle.forms.specs.Fields.{Behind, behind_in, behind_bytes}
 use Rattle.forms.specs.Details.{DetailAt, detail_in}
 use Rattle.forms.specs.declared.rows.Span.{Span}
 use Rattle.forms.specs.declared.detail.Detail.{Detail}
-use Rattle.details.specs.Lines.{line_at}
 use Rattle.details.specs.Message.{details_in, detail_at}
-use Rattle.details.specs.Kept.{LineOf, RowsOf, LinesIn, AmountsIn, DetailRoom, KeptAt, Keeps, keeps_room, keeps_own, keeps_other}
-use Rattle.verdict.specs.Answers.{verdict_of, verdict_by, VerdictNumber, judged_in, InRegister, in_register, line_credited, line_coded, number_line, number_cause, number_coded, by_cause, by_line_lem, by_coded}
-use Rattle.verdict.specs.declared.Cause.{Cause}
+use Rattle.details.specs.Kept.{KeptOf, kept_of, kept_told}
+use Rattle.verdict.specs.Answers.{verdict_of}
+use Rattle.verdict.specs.declared.Cause.TheVariants.{WrongShape}
 use Rattle.verdict.specs.declared.Verdict.{Verdict}
-use Rattle.verdict.specs.declared.Verdict.TheVariants.{Credited, CreditedByCode}
+use Rattle.verdict.specs.declared.Verdict.TheVariants.{Credited, CreditedByCode, Returned}
 use Rattle.verdict.specs.declared.detail.Judged.{Judged}
 
--- the verdict kept at place i is detail d's
-abbrev pub verdict_at : List ℕ → List ℕ → M.Detail → ℕ → Type 0
-verdict_at text verdicts d i = verdict_of (verdict_by (get_or verdicts i 0)) ≡ C.verdict_of (register_of text) d
+-- what stands behind the details that are kept
+abbrev pub no_judged : Judged
+no_judged = record { detail = record { amount = 0; reference = no_span; payer = no_span; branch = no_span; account = no_span; baeref = no_span }; verdict = Returned WrongShape }
 
--- those of a message's n details
-pub record VerdictsIn (text s verdicts : List ℕ) (n : ℕ) : Type 0 where
-  pub each : (i : ℕ) → i < n → verdict_at text verdicts (detail_at (details_in s) i) i
+-- what is kept at place i
+abbrev pub judged_at : List Judged → ℕ → Judged
+judged_at kept i = get_or kept i no_judged
 
--- the n details of a message: their lines and amounts kept, and their verdicts
-pub record JudgedIn (text s amounts places verdicts : List ℕ) (n : ℕ) : Type 0 where
-  pub lines_kept : LinesIn s places n
-  pub amounts_kept : AmountsIn s amounts n
-  pub verdicts_kept : VerdictsIn text s verdicts n
+-- what is kept of detail d, and its verdict
+pub record JudgedAs (text s : List ℕ) (d : M.Detail) (j : Judged) : Type 0 where
+  pub kept : KeptOf s d j.detail
+  pub verdict : verdict_of j.verdict ≡ C.verdict_of (register_of text) d
+
+-- the details of a message, 16 at most, are kept
+pub record KeptIn (s : List ℕ) (kept : List Judged) : Type 0 where
+  pub count : length kept ≡ length (details_in s)
+  pub few : length kept ≤ 16
+  pub each : (i : ℕ) → i < length kept → KeptOf s (detail_at (details_in s) i) (judged_at kept i).detail
+
+-- with their verdicts
+pub record JudgedIn (text s : List ℕ) (kept : List Judged) : Type 0 where
+  pub kept_in : KeptIn s kept
+  pub verdicts : (i : ℕ) → i < length kept → verdict_of (judged_at kept i).verdict ≡ C.verdict_of (register_of text) (detail_at (details_in s) i)
+
+-- each, read with any value behind the last
+module _ (s : List ℕ) (kept : List Judged) (k : KeptIn s kept) (i : ℕ) (h : i < length kept) (other : Judged) where
+  at_any : judged_at kept i ≡ get_or kept i other
+  at_any = get_or_default kept i no_judged other h
+
+  pub kept_at : KeptOf s (detail_at (details_in s) i) (get_or kept i other).detail
+  kept_at = rw at_any at (k.each i h)
+
+pub verdict_at : (text s : List ℕ) (kept : List Judged) → JudgedIn text s kept → (i : ℕ) → i < length kept → (other : Judged) → verdict_of (get_or kept i other).verdict ≡ C.verdict_of (register_of text) (detail_at (details_in s) i)
+verdict_at text s kept v i h other = rw (at_any s kept v.kept_in i h other) at (v.verdicts i h)
 
 -- ---- judged one by one
 
--- a register's text that passes 9, and room for 16 details and their verdicts
-pub record JudgingRoom (text amounts places verdicts : List ℕ) : Type 0 where
+-- a register's text that passes 9, and room for 16 details
+pub record JudgingRoom (text : List ℕ) (kept : List Judged) : Type 0 where
   pub passes : is_some (register text) ≡ true
-  pub details : DetailRoom amounts places
-  pub size : length verdicts ≡ 16
+  pub size : length kept ≡ 16
 
--- r is the number of the verdict on some bytes, and on a code where they would be returned
-pub record VerdictOn (text code cs : List ℕ) (r : ℕ) : Type 0 where
-  pub same : verdict_of (verdict_by r) ≡ by_code (register_of text) code (verdict (register_of text) cs)
+-- the verdict v is that on detail d by its field 59 and its code
+pub record VerdictOn (text s : List ℕ) (d : Detail) (v : Verdict) : Type 0 where
+  pub same : verdict_of v ≡ by_code (register_of text) (span_of s (get_or d.spans detail_code no_span)) (verdict (register_of text) (past ":59:/" (span_of s (get_or d.spans detail59 no_span))))
 
--- what is kept of detail d at place i, and its verdict
-pub record JudgedAt (text s amounts places verdicts : List ℕ) (d : M.Detail) (i : ℕ) : Type 0 where
-  pub kept : KeptAt s amounts places d i
-  pub verdict : verdict_at text verdicts d i
+-- detail n is d now, with its verdict
+module _ (text s : List ℕ) (d : Detail) {at : ℕ} (w : DetailAt s at d) {v : Verdict} (o : VerdictOn text s d v) where
+  judged_own : JudgedAs text s (detail_in s d) record { detail = kept_of d; verdict = v }
+  judged_own = record { kept = kept_told s d w; verdict = rw (span_line s d.spans 17 detail59 (omega arith), span_line s d.spans 17 detail_code (omega arith)) o.same }
 
--- detail n is d now, and its verdict's number c
-module _ (text s : List ℕ) {n : ℕ} {amounts places verdicts : List ℕ} (r : JudgingRoom text amounts places verdicts) (h : n < 16) (d : Detail) {at : ℕ} (w : DetailAt s at d) (g : d.ok ≡ true) {amounts' places' : List ℕ} (k : Keeps n d amounts places amounts' places')
-    {c : ℕ} (v : VerdictOn text (span_of s (get_or d.spans detail_code no_span)) (past ":59:/" (span_of s (get_or d.spans detail59 no_span))) c) where
-  pub judged_room : JudgingRoom text amounts' places' (set verdicts n c)
-  judged_room = record { passes = r.passes; details = keeps_room s r.details h d w g k; size = length-set verdicts n c ∙ r.size }
+  module _ (kept : List Judged) (n : ℕ) (r : length kept ≡ 16) (h : n < 16) where
+    pub kept_own : JudgedAs text s (detail_in s d) (judged_at (set kept n record { detail = kept_of d; verdict = v }) n)
+    kept_own = rw (get_or-set_same kept n (record { detail = kept_of d; verdict = v }) no_judged (omega arith)) judged_own
 
-  pub judged_own : JudgedAt text s amounts' places' (set verdicts n c) (detail_in s d) n
-  judged_own = record {
-    kept = keeps_own s r.details h d w g k;
-    verdict = ap (λ (x : ℕ). verdict_of (verdict_by x)) (get_or-set_same verdicts n c 0 (omega (arith, r.size))) ∙ rw (span_line s d.spans 17 detail59 (omega arith), span_line s d.spans 17 detail_code (omega arith)) v.same;
-  }
+pub kept_other : (text s : List ℕ) (kept : List Judged) (n : ℕ) (j : Judged) (e : M.Detail) (i : ℕ) → i < n → JudgedAs text s e (judged_at kept i) → JudgedAs text s e (judged_at (set kept n j) i)
+kept_other text s kept n j e i l k = rw (get_or-set_other kept n i j no_judged (λ z. omega arith)) k
 
-  pub judged_other : (e : M.Detail) (i : ℕ) → i < n → JudgedAt text s amounts places verdicts e i → JudgedAt text s amounts' places' (set verdicts n c) e i
-  judged_other e i l j = record {
-    kept = keeps_other s r.details h d w g k e i l j.kept;
-    verdict = ap (λ (x : ℕ). verdict_of (verdict_by x)) (get_or-set_other verdicts n i c 0 (λ z. omega arith)) ∙ j.verdict;
-  }
+-- ---- 59's line, and that with the code
 
--- a line number of a register that passed is small
-module _ (text : List ℕ) (v : Verdict) (i : ℕ) (h : is_some (register text) ≡ true) (l : InRegister text v) where
-  pub credited_small : v ≡ Credited i → i < 40
-  credited_small e = omega (arith, line_credited text v i l e, accounts_few text h)
-
-  pub coded_small : {c : Cause} → v ≡ CreditedByCode i c → i < 40
-  coded_small e = omega (arith, line_coded text v i l e, accounts_few text h)
-
--- ---- both lines
-
--- the verdict u on some bytes, and v with the code
-module _ (text code cs : List ℕ) {u : paper.Verdict} (v : Verdict) (f : u ≡ verdict (register_of text) cs) (g : verdict_of v ≡ by_code (register_of text) code u) where
-  both_judged : verdict_of v ≡ by_code (register_of text) code (verdict (register_of text) cs)
-  both_judged = g ∙ ap (by_code (register_of text) code) f
-
-  pub both_known : InRegister text v
-  both_known = in_register text code cs v both_judged
-
--- the bytes behind 59's slash
 module _ (s : List ℕ) (p q : Span) (w : SpanIn s p) (b : Behind p 5 q) where
   pub account_in_lem : SpanIn s q
   account_in_lem = behind_in s p 5 w q b
 
-  pub verdict_on : (text code : List ℕ) {u : paper.Verdict} (v : Verdict) → u ≡ verdict (register_of text) (span_of s q) → verdict_of v ≡ by_code (register_of text) code u → (c : ℕ) → VerdictNumber v c → VerdictOn text code (past ":59:/" (span_of s p)) c
-  verdict_on text code v f g c e = record { same = ap verdict_of e.same ∙ both_judged text code (span_of s q) v f g ∙ ap (λ (cs : List ℕ). by_code (register_of text) code (verdict (register_of text) cs)) (behind_bytes s p 5 w q b) }
+  pub verdict_behind : (text code : List ℕ) {u : paper.Verdict} (v : Verdict) → u ≡ verdict (register_of text) (span_of s q) → verdict_of v ≡ by_code (register_of text) code u → verdict_of v ≡ by_code (register_of text) code (verdict (register_of text) (past ":59:/" (span_of s p)))
+  verdict_behind text code v f g = g ∙ ap (by_code (register_of text) code) (f ∙ ap (verdict (register_of text)) (behind_bytes s p 5 w q b))
 
--- ---- a detail with its verdict
+pub ruleset detailing = (account_in_lem, verdict_behind)
 
-pub record JudgedAs (text s : List ℕ) (d : M.Detail) (r : Judged) : Type 0 where
-  pub amount : r.amount ≡ d.amount
-  pub verdict : verdict_of r.verdict ≡ C.verdict_of (register_of text) d
+-- ---- is it listed? is it returned?
 
--- what stands in the record of detail i
-module _ (amounts places verdicts : List ℕ) (i : ℕ) (r : Judged) (e : r ≡ judged_in amounts places verdicts i) where
-  pub judged_verdict : r.verdict ≡ verdict_by (get_or verdicts i 0)
-  unfolding judged_in
-  judged_verdict = rw e
+module _ (v : Verdict) where
+  pub credit_unlisted : {i : ℕ} → v ≡ Credited i → false ≡ is_listed199 (verdict_of v)
+  unfolding is_listed199
+  credit_unlisted e = rw e
 
-  module _ (s : List ℕ) (n : ℕ) (k : LinesIn s places n) (h : i < n) where
-    pub judged_payer : RowsOf s (detail_at (details_in s) i) detail50h 4 r.payer
-    unfolding judged_in
-    judged_payer = rw e (k.each i h).payer
+  pub coded_listed : {i : ℕ} {c : _} → v ≡ CreditedByCode i c → true ≡ is_listed199 (verdict_of v)
+  unfolding is_listed199
+  coded_listed e = rw e
 
-    pub judged_branch : RowsOf s (detail_at (details_in s) i) detail52d 2 r.branch
-    unfolding judged_in
-    judged_branch = rw e (k.each i h).branch
+  pub return_listed : {c : _} → v ≡ Returned c → true ≡ is_listed199 (verdict_of v)
+  unfolding is_listed199
+  return_listed e = rw e
 
-    pub judged_account : LineOf s (detail_at (details_in s) i) detail59 r.account
-    unfolding judged_in
-    judged_account = rw e (k.each i h).account
+  pub credit_stays : {i : ℕ} → v ≡ Credited i → false ≡ is_returned (verdict_of v)
+  unfolding is_returned
+  credit_stays e = rw e
 
-    pub judged_baeref : LineOf s (detail_at (details_in s) i) detail_baeref r.baeref
-    unfolding judged_in
-    judged_baeref = rw e (k.each i h).baeref
+  pub coded_stays : {i : ℕ} {c : _} → v ≡ CreditedByCode i c → false ≡ is_returned (verdict_of v)
+  unfolding is_returned
+  coded_stays e = rw e
 
--- detail i of a message whose details are kept and judged
-pub judged_as : (text s amounts places verdicts : List ℕ) (n i : ℕ) (r : Judged) → LinesIn s places n → AmountsIn s amounts n → VerdictsIn text s verdicts n → i < n → r ≡ judged_in amounts places verdicts i
-    → JudgedAs text s (detail_at (details_in s) i) r
-unfolding judged_in
-judged_as text s amounts places verdicts n i r k a v h e = record { amount = ap (λ (x : Judged). x.amount) e ∙ a.each i h; verdict = ap (λ (x : Judged). verdict_of x.verdict) e ∙ v.each i h }
+  pub return_goes : {c : _} → v ≡ Returned c → true ≡ is_returned (verdict_of v)
+  unfolding is_returned
+  return_goes e = rw e
 
-pub judged_made : (amounts places verdicts : List ℕ) (i : ℕ) {y b a p : Span} {v : Verdict} → y ≡ line_at places (4 * i) → b ≡ line_at places (4 * i + 1) → a ≡ line_at places (4 * i + 2) → p ≡ line_at places (4 * i + 3) → v ≡ verdict_by (get_or verdicts i 0)
-    → record { amount = get_or amounts i 0; payer = y; branch = b; account = a; baeref = p; verdict = v } ≡ judged_in amounts places verdicts i
-unfolding judged_in
-judged_made amounts places verdicts i c e f g h = rw (c, e, f, g, h)
-
-pub ruleset detailing = (credited_small, coded_small, number_line, number_coded, number_cause, by_cause, by_line_lem, by_coded, account_in_lem, both_known, verdict_on, judged_made)
+pub ruleset choosing = (credit_unlisted, coded_listed, return_listed, credit_stays, coded_stays, return_goes)

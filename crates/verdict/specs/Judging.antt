@@ -1,5 +1,5 @@
 -- A law for each way that a judgement goes, the tests as calls answered them.
-use Rattle.std.specs.Prelude.{◌≡◌, refl, ◌⊎◌, Bool, false, ◌&&◌, ◌||◌, not, cond, List, [], ◌∷◌, ℕ, ◌+◌, ◌-◌, ◌≤◌, ◌<◌, leb, take, drop}
+use Rattle.std.specs.Prelude.{◌≡◌, refl, Option, Some, None, ◌⊎◌, Bool, false, ◌&&◌, ◌||◌, not, cond, List, [], ◌∷◌, ℕ, ◌+◌, ◌-◌, ◌≤◌, ◌<◌, leb, take, drop}
 use Rattle.std.proofs.Common.{sym, ap, ◌∙◌, inl, inr, length-take, length-drop, le-leb}
 use Rattle.std.proofs.Math.Bool.{true, and-true}
 use native.Mathlib.Omega.{arith}
@@ -10,15 +10,13 @@ use Rattle.rules.specs.Accounts.{iban_shape, control}
 use Rattle.rules.specs.Register.{Account, Register}
 use Rattle.rules.specs.Verdict.{found, account_at, shaped, in_bounds, judged, verdict, wrong_shape, wrong_control, not_in_register, out_of_bounds, credited, credited_by_code, returned, line_by_code, by_line, by_code}
 use Rattle.laws.specs.Parts.{cut, cut_take, cut_drop, cut_done, cut_length}
+use Rattle.laws.specs.Told.{told}
 use Rattle.laws.specs.Tests.{and_left, and_right, not_holds}
 use Rattle.laws.specs.Reading.{fits_length}
 use Rattle.laws.specs.Equal.{equal_true}
 use Rattle.rule_laws.specs.Verdicts.{found_listed}
-use Rattle.register.specs.Answers.{found_of}
 use Rattle.register_lines.specs.AccountLine.{bound}
 use Rattle.register_lines.specs.Places.{bound_at}
-use Rattle.register.specs.declared.search.Found.{Found}
-use Rattle.register.specs.declared.search.Found.TheVariants.{At, Nothing}
 use Rattle.verdict.specs.Answers.{cause_of, verdict_of}
 use Rattle.verdict.specs.declared.Cause.{Cause}
 use Rattle.verdict.specs.declared.Verdict.{Verdict}
@@ -137,8 +135,8 @@ code_missing s a b k e x = rw (cut_drop s a b 22, cut_done s (a + 22) b (omega a
 
 -- ---- the search
 
-pub found_known : (q : Found) (iban : List ℕ) (xs : List Account) → found_of q ≡ found iban 0 xs → (i : ℕ) → q ≡ At i → i < length xs
-found_known q iban xs e i w = found_listed iban i xs (sym e ∙ ap found_of w)
+pub found_known : (q : Option ℕ) (iban : List ℕ) (xs : List Account) → told q ≡ found iban 0 xs → (i : ℕ) → q ≡ Some i → i < length xs
+found_known q iban xs e i w = found_listed iban i xs (sym e ∙ ap told w)
 
 -- ---- the verdict
 
@@ -163,16 +161,16 @@ module _ (g : Register) (s : List ℕ) (a b : ℕ) (h : a ≤ b) (k : b ≤ leng
       unfolding verdict
       judge_control d₂ = rw (← u, d, iban s a b h k (judge_shaped s a b t u d), ← u₂, d₂)
 
-      module _ (d₂ : not t₂ ≡ false) (q : Found) (e : found_of q ≡ found (cut s a (a + 22)) 0 g.accounts) where
-        by_line_lem : judged g (cut s a b) (found_of q) ≡ verdict g (cut s a b)
+      module _ (d₂ : not t₂ ≡ false) (q : Option ℕ) (e : told q ≡ found (cut s a (a + 22)) 0 g.accounts) where
+        by_line_lem : judged g (cut s a b) (told q) ≡ verdict g (cut s a b)
         unfolding verdict
         by_line_lem = rw (← u, d, iban s a b h k (judge_shaped s a b t u d), ← u₂, d₂, ← e)
 
-        pub judge_nothing : q ≡ Nothing → returned not_in_register ≡ verdict g (cut s a b)
+        pub judge_nothing : q ≡ None → returned not_in_register ≡ verdict g (cut s a b)
         unfolding judged
         judge_nothing w = rw w at by_line_lem
 
-        module _ (i : ℕ) (w : q ≡ At i) (t₃ : Bool) (u₃ : t₃ ≡ in_bounds (account_at g i) (cut s a b)) where
+        module _ (i : ℕ) (w : q ≡ Some i) (t₃ : Bool) (u₃ : t₃ ≡ in_bounds (account_at g i) (cut s a b)) where
           at_line : cond t₃ (credited i) (returned out_of_bounds) ≡ verdict g (cut s a b)
           unfolding judged
           at_line = rw u₃ (rw w at by_line_lem)
@@ -194,16 +192,16 @@ module _ (r : Register) (code : List ℕ) (v : Verdict) where
   unfolding by_code
   stays_coded e = rw e
 
-  module _ {c : Cause} (e : v ≡ Returned c) (q : Found) (f : found_of q ≡ line_by_code r code) where
-    by_found : by_line (cause_of c) (found_of q) ≡ by_code r code (verdict_of v)
+  module _ {c : Cause} (e : v ≡ Returned c) (q : Option ℕ) (f : told q ≡ line_by_code r code) where
+    by_found : by_line (cause_of c) (told q) ≡ by_code r code (verdict_of v)
     unfolding by_code
     by_found = rw (e, f)
 
-    pub code_leads : {i : ℕ} → q ≡ At i → credited_by_code i (cause_of c) ≡ by_code r code (verdict_of v)
+    pub code_leads : {i : ℕ} → q ≡ Some i → credited_by_code i (cause_of c) ≡ by_code r code (verdict_of v)
     unfolding by_line
     code_leads w = rw w at by_found
 
-    pub code_unknown : q ≡ Nothing → returned (cause_of c) ≡ by_code r code (verdict_of v)
+    pub code_unknown : q ≡ None → returned (cause_of c) ≡ by_code r code (verdict_of v)
     unfolding by_line
     code_unknown w = rw w at by_found
 

@@ -1,129 +1,58 @@
-// The verdicts of a message's details, kept as a number each, and a detail with its verdict.
-ghost use Rattle.std.specs.Prelude.{◌≡◌, true, ◌<◌};
+// A detail with its verdict.
+ghost use Rattle.std.specs.Prelude.{◌≡◌, true, ◌<◌, slice_set};
 ghost use Rattle.rules.specs.Text.{is_some};
 ghost use Rattle.rules.specs.Messages.{past};
-ghost use Rattle.rules.specs.Register.{register};
+ghost use Rattle.rules.specs.Register.{register, register_of};
+ghost use Rattle.rules.specs.Verdict.{verdict, by_code};
 ghost use Rattle.forms.specs.Spans.{span_of, SpanIn};
-ghost use Rattle.verdict.specs.Answers.{cause_by, coded_by, verdict_by, judged_in, InRegister, CauseNumber, VerdictNumber};
-ghost use Rattle.verdict.specs.Details.{VerdictOn};
+ghost use Rattle.details.specs.Kept.{kept_of};
+ghost use Rattle.verdict.specs.Answers.{verdict_of};
 
 use crate::{Cause, Verdict, by_code, judge};
-use details::line_at;
-use forms::{Span, behind};
+use details::Kept;
+use forms::{Detail, Span, behind};
 
-// A detail with its verdict.
+// What is kept of a detail, and its verdict.
 #[derive(Clone, Copy)]
 pub struct Judged {
-    // Its amount.
-    pub amount: u64,
-    // 50H's account line and its first three further lines.
-    pub payer: Span,
-    // 52D's lines.
-    pub branch: Span,
-    // 59's account line.
-    pub account: Span,
-    // The line of BAEREF.
-    pub baeref: Span,
-    // Its verdict.
+    pub detail: Kept,
     pub verdict: Verdict,
 }
 
-// The number of a cause, in their order from 0.
-fn cause_number(c: Cause) -> u8
-    ensures { CauseNumber c result }
-{
-    match c {
-        Cause::WrongShape => 0,
-        Cause::WrongControl => 1,
-        Cause::NotInRegister => 2,
-        Cause::OutOfBounds => 3,
-    }
-}
+const NO_LINE: Span = Span { start: 0, end: 0 };
 
-// The cause of a number.
-fn cause_by(k: u8) -> Cause
-    requires { k < 4 }
-    ensures { result ≡ cause_by k }
-{
-    match k {
-        0 => Cause::WrongShape,
-        1 => Cause::WrongControl,
-        2 => Cause::NotInRegister,
-        _ => Cause::OutOfBounds,
-    }
-}
+// What stands where no detail is kept.
+pub const NO_DETAIL: Judged = Judged {
+    detail: Kept {
+        amount: 0,
+        reference: NO_LINE,
+        payer: NO_LINE,
+        branch: NO_LINE,
+        account: NO_LINE,
+        baeref: NO_LINE,
+    },
+    verdict: Verdict::Returned(Cause::WrongShape),
+};
 
-// A verdict as one number: the causes from 0, the account lines from 4, and from 44 on for each cause the 40 lines to which a code may lead.
-fn verdict_number(text: &[u8], v: Verdict) -> u8
-    requires text_value { is_some (register text.now) ≡ true }
-    requires in_register { InRegister text.now v }
-    ensures { VerdictNumber v result }
-{
-    match v {
-        Verdict::Credited(i) => i as u8 + 4,
-        Verdict::CreditedByCode(i, c) => 44 + 40 * cause_number(c) + i as u8,
-        Verdict::Returned(c) => cause_number(c),
-    }
-}
-
-// The verdict of a number from 44 on, less 44.
-fn coded_by(k: u8) -> Verdict
-    ensures { result ≡ coded_by k }
-{
-    if k < 40 {
-        return Verdict::CreditedByCode(k as usize, Cause::WrongShape);
-    }
-    if k < 80 {
-        return Verdict::CreditedByCode((k - 40) as usize, Cause::WrongControl);
-    }
-    if k < 120 {
-        return Verdict::CreditedByCode((k - 80) as usize, Cause::NotInRegister);
-    }
-    Verdict::CreditedByCode((k - 120) as usize, Cause::OutOfBounds)
-}
-
-// The verdict of a number.
-pub fn verdict_by(k: u8) -> Verdict
-    ensures { result ≡ verdict_by k }
-{
-    if k < 4 {
-        return Verdict::Returned(cause_by(k));
-    }
-    if k < 44 {
-        return Verdict::Credited((k - 4) as usize);
-    }
-    coded_by(k - 44)
-}
-
-// A detail judged by 59's line, and by the second line behind 50H's account: its verdict as one number.
-pub fn judge_line(text: &[u8], s: &[u8], account: Span, code: Span) -> u8
-    requires text_value { is_some (register text.now) ≡ true }
-    requires span_in { SpanIn s.now account }
-    requires span_in_2 { SpanIn s.now code }
-    ensures { VerdictOn text.now (span_of s.now code) (past ":59:/" (span_of s.now account)) result }
+// A detail judged by 59's line, and by the second line behind 50H's account.
+pub fn judge_line(text: &[u8], s: &[u8], account: Span, code: Span) -> Verdict
+    requires text_passes { is_some (register text.now) ≡ true }
+    requires account_within { SpanIn s.now account }
+    requires code_within { SpanIn s.now code }
+    ensures { verdict_of result ≡ by_code (register_of text.now) (span_of s.now code) (verdict (register_of text.now) (past ":59:/" (span_of s.now account))) }
 {
     let p = behind(account, 5);
     let v = judge(text, s, p.start as usize, p.end as usize);
-    let w = by_code(text, s, v, code.start as usize, code.end as usize);
-    verdict_number(text, w)
+    by_code(text, s, v, code.start as usize, code.end as usize)
 }
 
-// Detail i with its verdict.
-pub fn judged_at(amounts: &[u64; 16], places: &[u16; 128], verdicts: &[u8; 16], i: u32) -> Judged
+// Detail i is kept with its verdict.
+pub fn keep(kept: &mut [Judged; 16], i: u32, d: Detail, verdict: Verdict)
     requires { i < 16 }
-    ensures { result ≡ judged_in amounts.now places.now verdicts.now i }
+    ensures { kept.new ≡ slice_set kept.old i record { detail = kept_of d; verdict = verdict } }
 {
-    let payer = line_at(places, 4 * i);
-    let branch = line_at(places, 4 * i + 1);
-    let account = line_at(places, 4 * i + 2);
-    let baeref = line_at(places, 4 * i + 3);
-    let verdict = verdict_by(verdicts[i as usize]);
-    Judged {
-        amount: amounts[i as usize],
-        payer,
-        branch,
-        account,
-        baeref,
+    kept[i as usize] = Judged {
+        detail: Kept::from(d),
         verdict,
-    }
+    };
 }

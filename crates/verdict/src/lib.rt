@@ -6,15 +6,14 @@ mod detail;
 ghost use Rattle.std.specs.Prelude.{◌≡◌, true, ◌<◌, ◌≤◌, length};
 ghost use Rattle.rules.specs.Text.{is_some};
 ghost use Rattle.rules.specs.Register.{register, register_of};
-ghost use Rattle.rules.specs.Verdict.{account_at, shaped, in_bounds, verdict, by_code};
+ghost use Rattle.rules.specs.Verdict.{account_at, shaped, in_bounds, verdict, by_code, is_returned, is_listed199};
 ghost use Rattle.laws.specs.Parts.{cut};
 ghost use Rattle.verdict.specs.Answers.{verdict_of};
 
-pub use detail::{Judged, judge_line, judged_at, verdict_by};
-use register::Found;
+pub use detail::{Judged, NO_DETAIL, judge_line, keep};
 
 // Why a detail is returned: the first cause that holds.
-#[derive(Clone, Copy)]
+#[derive(Clone, Copy, PartialEq, Eq)]
 pub enum Cause {
     // Its account is no IBAN, alone or with a payment code.
     WrongShape,
@@ -27,7 +26,7 @@ pub enum Cause {
 }
 
 // The verdict on a detail.
-#[derive(Clone, Copy)]
+#[derive(Clone, Copy, PartialEq, Eq)]
 pub enum Verdict {
     // Credited: the account line found, counted from 0.
     Credited(usize),
@@ -35,6 +34,32 @@ pub enum Verdict {
     CreditedByCode(usize, Cause),
     // Returned: the cause.
     Returned(Cause),
+}
+
+impl Verdict {
+    // Does the MT199 list the detail? It lists what is returned, and what its code credits.
+    #[tactic(auto, using(crate::specs::Details::choosing))]
+    pub fn is_listed(self) -> bool
+        ensures { result ≡ is_listed199 (verdict_of self) }
+    {
+        match self {
+            Verdict::Credited(_) => false,
+            Verdict::CreditedByCode(_, _) => true,
+            Verdict::Returned(_) => true,
+        }
+    }
+
+    // Does it return the detail?
+    #[tactic(auto, using(crate::specs::Details::choosing))]
+    pub fn is_returned(self) -> bool
+        ensures { result ≡ is_returned (verdict_of self) }
+    {
+        match self {
+            Verdict::Credited(_) => false,
+            Verdict::CreditedByCode(_, _) => false,
+            Verdict::Returned(_) => true,
+        }
+    }
 }
 
 // Is the part an IBAN, alone or followed by `PAY` and six digits?
@@ -45,12 +70,12 @@ fn is_shaped(s: &[u8], a: usize, b: usize) -> bool
 {
     let n = b - a;
     if n == 22 {
-        return account::iban_shape(s, a);
+        return account::iban_shape(&s[a..a + 22]);
     }
     if n != 31 {
         return false;
     }
-    if account::iban_shape(s, a) {
+    if account::iban_shape(&s[a..a + 22]) {
         return text::fits_pattern(b"PAYnnnnnn", s, a + 22);
     }
     false
@@ -85,17 +110,17 @@ pub fn judge(text: &[u8], s: &[u8], a: usize, b: usize) -> Verdict
     if !is_shaped(s, a, b) {
         return Verdict::Returned(Cause::WrongShape);
     }
-    if !account::iban_control(s, a) {
+    if !account::iban_control(&s[a..a + 22]) {
         return Verdict::Returned(Cause::WrongControl);
     }
-    match register::find_account(text, s, a) {
-        Found::At(i) => {
+    match register::find_account(text, &s[a..a + 22]) {
+        Some(i) => {
             if is_in_bounds(text, i, s, a, b) {
                 return Verdict::Credited(i);
             }
             Verdict::Returned(Cause::OutOfBounds)
         }
-        Found::Nothing => Verdict::Returned(Cause::NotInRegister),
+        None => Verdict::Returned(Cause::NotInRegister),
     }
 }
 
@@ -107,9 +132,9 @@ pub fn by_code(text: &[u8], s: &[u8], v: Verdict, a: usize, b: usize) -> Verdict
     ensures { verdict_of result ≡ by_code (register_of text.now) (cut s.now a b) (verdict_of v) }
 {
     match v {
-        Verdict::Returned(c) => match register::find_code(text, s, a, b) {
-            Found::At(i) => Verdict::CreditedByCode(i, c),
-            Found::Nothing => v,
+        Verdict::Returned(c) => match register::find_code(text, &s[a..b]) {
+            Some(i) => Verdict::CreditedByCode(i, c),
+            None => v,
         },
         Verdict::Credited(_) => v,
         Verdict::CreditedByCode(_, _) => v,

@@ -5,4 +5,4 @@ use Rattle.written.specs.declared.Book.{Book}
 
 -- what the lines of a call share, with the temporary account
 abbrev pub book_of : List ℕ → Book → W.Book
-book_of temporary b = record { day = b.day; temporary = temporary; bank = b.bank; date = b.date }
+book_of temporary b = record { day = b.day; temporary = temporary; bank = b.key.bank; date = b.key.date }

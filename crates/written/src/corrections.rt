@@ -8,83 +8,113 @@ ghost use Rattle.laws.specs.Writing.{Wrote};
 ghost use Rattle.position.specs.Values.{position_value};
 
 use crate::Book;
-use crate::fields::{
-    put_amount_field, put_baeref_row, put_bank_field, put_date_field, put_field32a, put_opened,
-    put_reference_field, put_temporary_field,
-};
+use crate::fields::{put_baeref_row, put_field, put_field32a, put_opened, put_temporary_field};
 use crate::postings::{put_from_bank, put_to_bank};
+use crate::shown::{Amount, Bank, Date};
+use outgoing_number::Reference;
 use position::Position;
 
 // The last row of 72, and the closing line.
 fn put_detailed_row(out: &mut [u8], at: usize, detailed: u64) -> usize
     ensures { Wrote (field (ascii "//SUMA PREZ BISERA ") (with_point detailed) ++ ascii "-\r\n") at out.old result out.new }
 {
-    let a = put_amount_field(out, at, b"//SUMA PREZ BISERA ", b'.', detailed);
+    let a = put_field(
+        out,
+        at,
+        b"//SUMA PREZ BISERA ",
+        Amount {
+            mark: b'.',
+            stotinki: detailed,
+        },
+    );
     put::put_bytes(out, a, b"-\r\n")
 }
 
 // Field 72, dated with the centralisation date, and the closing line.
-fn put_field72(out: &mut [u8], at: usize, day: u32, n: u32, p: Position) -> usize
-    ensures { Wrote (field72 day n (position_value p)) at out.old result out.new }
+fn put_field72(out: &mut [u8], at: usize, r: Reference, p: Position) -> usize
+    ensures { Wrote (field72 r.day r.number (position_value p)) at out.old result out.new }
 {
-    let a = put_baeref_row(out, at, b":72:/BAEREF/", day, n);
-    let b = put_date_field(out, a, b"/RELREF/ERRCENTRB", p.key.date);
+    let a = put_baeref_row(out, at, b":72:/BAEREF/", r);
+    let b = put_field(out, a, b"/RELREF/ERRCENTRB", Date(p.key.date));
     let c = put::put_bytes(out, b, b"//RAZLIKA OT CENTRALIZACIA NA BS\r\n");
-    let d = put_amount_field(out, c, b"//SUMA PREZ RINGS ", b'.', p.transferred);
+    let d = put_field(
+        out,
+        c,
+        b"//SUMA PREZ RINGS ",
+        Amount {
+            mark: b'.',
+            stotinki: p.transferred,
+        },
+    );
     put_detailed_row(out, d, p.detailed)
 }
 
 // First line and fields 20, 19 and 30 of an MT204.
-fn put_opened204(out: &mut [u8], at: usize, day: u32, n: u32, bank: u64, v: u64) -> usize
-    ensures { Wrote (first_line (ascii "204") bank ++ field (ascii ":20:") (reference day n) ++ field (ascii ":19:") (with_comma v) ++ field (ascii ":30:") (fixed 6 day)) at out.old result out.new }
+fn put_opened204(out: &mut [u8], at: usize, r: Reference, bank: u64, v: u64) -> usize
+    ensures { Wrote (first_line (ascii "204") bank ++ field (ascii ":20:") (reference r.day r.number) ++ field (ascii ":19:") (with_comma v) ++ field (ascii ":30:") (fixed 6 r.day)) at out.old result out.new }
 {
     let a = put_opened(out, at, b"204", bank);
-    let b = put_reference_field(out, a, b":20:", day, n);
-    let c = put_amount_field(out, b, b":19:", b',', v);
-    put_date_field(out, c, b":30:", day)
+    let b = put_field(out, a, b":20:", r);
+    let c = put_field(
+        out,
+        b,
+        b":19:",
+        Amount {
+            mark: b',',
+            stotinki: v,
+        },
+    );
+    put_field(out, c, b":30:", Date(r.day))
 }
 
 // Field 58D, and field 20 behind it.
-fn put_temporary204(out: &mut [u8], at: usize, temporary: &[u8], day: u32, n: u32) -> usize
-    ensures { Wrote (temporary_field (ascii ":58D:/") temporary.now ++ field (ascii ":20:") (reference day n)) at out.old result out.new }
+fn put_temporary204(out: &mut [u8], at: usize, temporary: &[u8], r: Reference) -> usize
+    ensures { Wrote (temporary_field (ascii ":58D:/") temporary.now ++ field (ascii ":20:") (reference r.day r.number)) at out.old result out.new }
 {
     let a = put_temporary_field(out, at, b":58D:/", temporary);
-    put_reference_field(out, a, b":20:", day, n)
+    put_field(out, a, b":20:", r)
 }
 
 // Fields 32B and 53A.
 fn put_collected204(out: &mut [u8], at: usize, v: u64, bank: u64) -> usize
     ensures { Wrote (field (ascii ":32B:BGN") (with_comma v) ++ field (ascii ":53A:") (bic bank)) at out.old result out.new }
 {
-    let a = put_amount_field(out, at, b":32B:BGN", b',', v);
-    put_bank_field(out, a, b":53A:", bank)
+    let a = put_field(
+        out,
+        at,
+        b":32B:BGN",
+        Amount {
+            mark: b',',
+            stotinki: v,
+        },
+    );
+    put_field(out, a, b":53A:", Bank(bank))
 }
 
 // An MT204: v is collected.
 fn put_mt204(
     out: &mut [u8],
     at: usize,
-    day: u32,
+    r: Reference,
     temporary: &[u8],
-    n: u32,
     p: Position,
     v: u64,
 ) -> usize
-    ensures { Wrote (mt204 day temporary.now n (position_value p) v) at out.old result out.new }
+    ensures { Wrote (mt204 r.day temporary.now r.number (position_value p) v) at out.old result out.new }
 {
-    let a = put_opened204(out, at, day, n, p.key.bank, v);
-    let b = put_temporary204(out, a, temporary, day, n);
+    let a = put_opened204(out, at, r, p.key.bank, v);
+    let b = put_temporary204(out, a, temporary, r);
     let c = put_collected204(out, b, v, p.key.bank);
-    put_field72(out, c, day, n, p)
+    put_field72(out, c, r, p)
 }
 
 // First line and fields 20 and 21 of an MT205.
-fn put_opened205(out: &mut [u8], at: usize, day: u32, n: u32, bank: u64) -> usize
-    ensures { Wrote (first_line (ascii "205") bank ++ field (ascii ":20:") (reference day n) ++ field (ascii ":21:") (reference day n)) at out.old result out.new }
+fn put_opened205(out: &mut [u8], at: usize, r: Reference, bank: u64) -> usize
+    ensures { Wrote (first_line (ascii "205") bank ++ field (ascii ":20:") (reference r.day r.number) ++ field (ascii ":21:") (reference r.day r.number)) at out.old result out.new }
 {
     let a = put_opened(out, at, b"205", bank);
-    let b = put_reference_field(out, a, b":20:", day, n);
-    put_reference_field(out, b, b":21:", day, n)
+    let b = put_field(out, a, b":20:", r);
+    put_field(out, b, b":21:", r)
 }
 
 // Fields 52A and 58A.
@@ -92,17 +122,17 @@ fn put_parties205(out: &mut [u8], at: usize, bank: u64) -> usize
     ensures { Wrote (ascii ":52A:BNBGBGSD\r\n" ++ field (ascii ":58A:") (bic bank)) at out.old result out.new }
 {
     let a = put::put_bytes(out, at, b":52A:BNBGBGSD\r\n");
-    put_bank_field(out, a, b":58A:", bank)
+    put_field(out, a, b":58A:", Bank(bank))
 }
 
 // An MT205: v is refunded.
-fn put_mt205(out: &mut [u8], at: usize, day: u32, n: u32, p: Position, v: u64) -> usize
-    ensures { Wrote (mt205 day n (position_value p) v) at out.old result out.new }
+fn put_mt205(out: &mut [u8], at: usize, r: Reference, p: Position, v: u64) -> usize
+    ensures { Wrote (mt205 r.day r.number (position_value p) v) at out.old result out.new }
 {
-    let a = put_opened205(out, at, day, n, p.key.bank);
-    let b = put_field32a(out, a, day, v);
+    let a = put_opened205(out, at, r, p.key.bank);
+    let b = put_field32a(out, a, r.day, v);
     let c = put_parties205(out, b, p.key.bank);
-    put_field72(out, c, day, n, p)
+    put_field72(out, c, r, p)
 }
 
 // The posting line of a correction: a refund to the bank, or a collection from it.
@@ -115,11 +145,7 @@ pub fn put_correction_posting(
 ) -> usize
     ensures { Wrote (correction_posting day temporary.now (position_value p)) at out.old result out.new }
 {
-    let book = Book {
-        day,
-        bank: p.key.bank,
-        date: p.key.date,
-    };
+    let book = Book { day, key: p.key };
     if p.detailed <= p.transferred {
         return put_to_bank(out, at, book, temporary, p.transferred - p.detailed);
     }
@@ -130,15 +156,14 @@ pub fn put_correction_posting(
 pub fn put_correction(
     out: &mut [u8],
     at: usize,
-    day: u32,
+    r: Reference,
     temporary: &[u8],
-    n: u32,
     p: Position,
 ) -> usize
-    ensures { Wrote (correction day temporary.now n (position_value p)) at out.old result out.new }
+    ensures { Wrote (correction r.day temporary.now r.number (position_value p)) at out.old result out.new }
 {
     if p.detailed <= p.transferred {
-        return put_mt205(out, at, day, n, p, p.transferred - p.detailed);
+        return put_mt205(out, at, r, p, p.transferred - p.detailed);
     }
-    put_mt204(out, at, day, temporary, n, p, p.detailed - p.transferred)
+    put_mt204(out, at, r, temporary, p, p.detailed - p.transferred)
 }

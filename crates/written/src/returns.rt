@@ -7,19 +7,19 @@ ghost use Rattle.laws.specs.Writing.{Wrote};
 ghost use Rattle.written.specs.Values.{book_of};
 
 use crate::Book;
-use crate::fields::{
-    put_baeref_row, put_date_field, put_field32a, put_opened, put_reference_field,
-    put_temporary_field, put_text_field,
-};
+use crate::fields::{put_baeref_row, put_field, put_field32a, put_opened, put_temporary_field};
+use crate::shown::Date;
+use outgoing_number::Reference;
+use position::Key;
 
 // First line and fields 20, 23B and 32A.
-fn put_opened103(out: &mut [u8], at: usize, book: Book, n: u32, v: u64) -> usize
-    ensures { Wrote (first_line (ascii "103") book.bank ++ field (ascii ":20:") (reference book.day n) ++ ascii ":23B:CRED\r\n" ++ field32a book.day v) at out.old result out.new }
+fn put_opened103(out: &mut [u8], at: usize, r: Reference, key: Key, v: u64) -> usize
+    ensures { Wrote (first_line (ascii "103") key.bank ++ field (ascii ":20:") (reference r.day r.number) ++ ascii ":23B:CRED\r\n" ++ field32a r.day v) at out.old result out.new }
 {
-    let a = put_opened(out, at, b"103", book.bank);
-    let b = put_reference_field(out, a, b":20:", book.day, n);
+    let a = put_opened(out, at, b"103", key.bank);
+    let b = put_field(out, a, b":20:", r);
     let c = put::put_bytes(out, b, b":23B:CRED\r\n");
-    put_field32a(out, c, book.day, v)
+    put_field32a(out, c, r.day, v)
 }
 
 // Fields 50K and 52D: the temporary account, its BAE code and `BNB`.
@@ -28,7 +28,7 @@ fn put_temporary103(out: &mut [u8], at: usize, temporary: &[u8]) -> usize
     ensures { Wrote (temporary_field (ascii ":50K:/") temporary.now ++ field (ascii ":52D:") (bae_of temporary.now) ++ ascii "BNB\r\n") at out.old result out.new }
 {
     let a = put_temporary_field(out, at, b":50K:/", temporary);
-    let b = put_text_field(out, a, b":52D:", &temporary[4..12]);
+    let b = put_field(out, a, b":52D:", &temporary[4..12]);
     put::put_bytes(out, b, b"BNB\r\n")
 }
 
@@ -43,12 +43,12 @@ fn put_beneficiary103(out: &mut [u8], at: usize, lines52d: &[u8], lines50h: &[u8
 }
 
 // Fields 70, 71A and 72, and the closing line.
-fn put_closed103(out: &mut [u8], at: usize, book: Book, n: u32) -> usize
-    ensures { Wrote (field (ascii ":70:VRASHTANE CENTRB") (fixed 6 book.date) ++ ascii ":71A:OUR\r\n:72:/DTYPE/PORD\r\n" ++ baeref_row (ascii "/BAEREF/") book.day n ++ ascii "-\r\n") at out.old result out.new }
+fn put_closed103(out: &mut [u8], at: usize, r: Reference, key: Key) -> usize
+    ensures { Wrote (field (ascii ":70:VRASHTANE CENTRB") (fixed 6 key.date) ++ ascii ":71A:OUR\r\n:72:/DTYPE/PORD\r\n" ++ baeref_row (ascii "/BAEREF/") r.day r.number ++ ascii "-\r\n") at out.old result out.new }
 {
-    let a = put_date_field(out, at, b":70:VRASHTANE CENTRB", book.date);
+    let a = put_field(out, at, b":70:VRASHTANE CENTRB", Date(key.date));
     let b = put::put_bytes(out, a, b":71A:OUR\r\n:72:/DTYPE/PORD\r\n");
-    let c = put_baeref_row(out, b, b"/BAEREF/", book.day, n);
+    let c = put_baeref_row(out, b, b"/BAEREF/", r);
     put::put_bytes(out, c, b"-\r\n")
 }
 
@@ -66,8 +66,12 @@ pub fn put_return(
     requires { 22 ≤ length temporary.now }
     ensures { Wrote (return103 (book_of temporary.now book) n v lines52d.now lines50h.now) at out.old result out.new }
 {
-    let a = put_opened103(out, at, book, n, v);
+    let r = Reference {
+        day: book.day,
+        number: n,
+    };
+    let a = put_opened103(out, at, r, book.key, v);
     let b = put_temporary103(out, a, temporary);
     let c = put_beneficiary103(out, b, lines52d, lines50h);
-    put_closed103(out, c, book, n)
+    put_closed103(out, c, r, book.key)
 }

@@ -1,16 +1,11 @@
--- `account::iban_passes` meets its contract: shape, then control.
+-- `account::iban_passes` meets its contract: the shape, then the control.
+use Rattle.rules.specs.Accounts.{passes}
+use Rattle.laws.specs.Tests.{and_holds, and_failed}
 use borrow.Author.Rules.{rules}
-use Rattle.account.specs.Control.{controls}
 use Rattle.account.proofs.iban_passes.Goals as goal
 
-pub iban_shape-requires : goal.iban_shape-requires
-iban_shape-requires c = search (controls, rules)
-
-pub iban_control-requires : goal.iban_control-requires
-iban_control-requires c = search (controls, rules)
-
 pub returns-then-iban_shape : goal.returns-then-iban_shape
-returns-then-iban_shape c = search (controls, rules)
+returns-then-iban_shape c = unfold passes in search (and_holds, rules)
 
-pub returns : goal.returns
-returns c = search (controls, rules)
+pub returns-else-iban_shape : goal.returns-else-iban_shape
+returns-else-iban_shape c = unfold passes in search (and_failed, rules)

@@ -1,16 +1,21 @@
--- `calendar::read_date` meets its contract: 0 is no date, and any other number that `date_at` answers is one.
+use Rattle.std.proofs.Common.{rules}
 use Rattle.calendar.specs.Days.{days}
-use borrow.Author.Rules.{rules}
 use Rattle.calendar.proofs.read_date.Goals as goal
 
-pub date_at-n-requires : goal.date_at-n-requires
-date_at-n-requires c = search (days, rules)
+pub returns-then-s-ne6 : goal.returns-then-s-ne6
+returns-then-s-ne6 c = search (days, rules)
 
-pub returns-then-n-eq0 : goal.returns-then-n-eq0
-returns-then-n-eq0 c = search (days, rules)
+pub two_at-year-requires-clause-at_value : goal.two_at-year-requires-clause-at_value
+two_at-year-requires-clause-at_value c = search (days, rules)
 
-pub overflow_cast-result : goal.overflow_cast-result
-overflow_cast-result c = search (days, rules)
+pub two_at-month-requires-clause-at_value : goal.two_at-month-requires-clause-at_value
+two_at-month-requires-clause-at_value c = search (days, rules)
+
+pub two_at-day-requires-clause-at_value : goal.two_at-day-requires-clause-at_value
+two_at-day-requires-clause-at_value c = search (days, rules)
+
+pub returns-then-is_date : goal.returns-then-is_date
+returns-then-is_date c = search (days, rules)
 
 pub returns : goal.returns
 returns c = search (days, rules)

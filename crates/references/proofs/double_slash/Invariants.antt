@@ -1,10 +1,6 @@
 -- `references::double_slash` meets its contract. The loop's invariant: what is left from the last byte read has such slashes where the whole has them.
-use Prim.Native.Nat.{◌-◌}
 use Rattle.references.specs.Slashes.{Doubling}
 use Rattle.references.proofs.double_slash.Given as goal
 
 abbrev pub invariant-loop-k : goal.invariant-loop-k
 invariant-loop-k l = Doubling l.s l.a l.n l.k
-
-abbrev pub decreases-loop-k : goal.decreases-loop-k
-decreases-loop-k l = l.n - l.k

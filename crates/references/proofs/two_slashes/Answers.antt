@@ -1,5 +1,4 @@
--- `references::two_slashes` meets its contract: a branch of the code for each of the two comparisons.
-use borrow.Author.Rules.{rules}
+use Rattle.std.proofs.Common.{rules}
 use Rattle.references.specs.Slashes.{slashes}
 use Rattle.references.proofs.two_slashes.Goals as goal
 

@@ -1,9 +1,6 @@
--- Each message ends behind its name.
-use Rattle.std.proofs.Common.{length, ◌-◌, ◌≤◌}
+-- Each message takes its line, so that fewer bytes are left.
+use Rattle.std.proofs.Common.{length}
 use Rattle.try_forms.proofs.try_each.Given as goal
 
-abbrev pub invariant-loop-i : goal.invariant-loop-i
-invariant-loop-i g l = l.i ≤ length l.s
-
-abbrev pub decreases-loop-i : goal.decreases-loop-i
-decreases-loop-i g l = length l.s - l.i
+abbrev pub decreases-loop-e : goal.decreases-loop-e
+decreases-loop-e g l = length l.rest

@@ -1,31 +1,14 @@
 -- `verdict::by_code` meets its contract: only a verdict that returns the detail asks for the code, and it stays where none is found.
 use Rattle.verdict.specs.Judging.{judging}
+use Rattle.account.specs.Part.{part_cut}
 use borrow.Author.Rules.{rules}
 use Rattle.verdict.proofs.by_code.Goals as goal
 
-pub enum_known-v : goal.enum_known-v
-enum_known-v c = search (judging, rules)
+pub returns-in-Some : goal.returns-in-Some
+returns-in-Some c = let f = rw (part_cut c.args.s.now c.args.a c.args.b c.requires.a_le_b) at c.find_code.ensures in search (judging, rules)
 
-pub find_code-requires : goal.find_code-requires
-find_code-requires c = search (judging, rules)
-
-pub enum_known-i : goal.enum_known-i
-enum_known-i c = search (judging, rules)
-
-pub enum_told-1 : goal.enum_told-1
-enum_told-1 c = search (judging, rules)
-
-pub enum_told-in-Credited : goal.enum_told-in-Credited
-enum_told-in-Credited c = search (judging, rules)
-
-pub enum_told-in-CreditedByCode : goal.enum_told-in-CreditedByCode
-enum_told-in-CreditedByCode c = search (judging, rules)
-
-pub returns-in-At : goal.returns-in-At
-returns-in-At c = search (judging, rules)
-
-pub returns-in-Nothing : goal.returns-in-Nothing
-returns-in-Nothing c = search (judging, rules)
+pub returns-in-None : goal.returns-in-None
+returns-in-None c = let f = rw (part_cut c.args.s.now c.args.a c.args.b c.requires.a_le_b) at c.find_code.ensures in search (judging, rules)
 
 pub returns-in-Credited : goal.returns-in-Credited
 returns-in-Credited c = search (judging, rules)

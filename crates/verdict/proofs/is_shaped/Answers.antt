@@ -1,31 +1,17 @@
 -- `verdict::is_shaped` meets its contract: 22 bytes are an IBAN alone, 31 one with a code, and no other length has a shape.
-use borrow.Author.Rules.{rules}
 use Rattle.verdict.specs.Judging.{judging}
+use Rattle.account.specs.Part.{part_at}
+use borrow.Author.Rules.{rules}
 use Rattle.verdict.proofs.is_shaped.Goals as goal
 
-pub overflow_sub-n : goal.overflow_sub-n
-overflow_sub-n c = search (judging, rules)
-
-pub iban_shape-requires : goal.iban_shape-requires
-iban_shape-requires c = search (judging, rules)
-
 pub returns-then-n-eq22 : goal.returns-then-n-eq22
-returns-then-n-eq22 c = search (judging, rules)
+returns-then-n-eq22 c = let u = rw (part_at c.args.s.now c.args.a 22) at c.iban_shape.ensures in search (judging, rules)
 
 pub returns-then-n-ne31 : goal.returns-then-n-ne31
 returns-then-n-ne31 c = search (judging, rules)
 
-pub iban_shape-requires-2 : goal.iban_shape-requires-2
-iban_shape-requires-2 c = search (judging, rules)
-
-pub overflow_add-a : goal.overflow_add-a
-overflow_add-a c = search (judging, rules)
-
-pub fits_pattern-requires : goal.fits_pattern-requires
-fits_pattern-requires c = search (judging, rules)
-
 pub returns-then-iban_shape : goal.returns-then-iban_shape
-returns-then-iban_shape c = search (judging, rules)
+returns-then-iban_shape c = let u = rw (part_at c.args.s.now c.args.a 22) at c.iban_shape-2.ensures in search (judging, rules)
 
 pub returns : goal.returns
-returns c = search (judging, rules)
+returns c = let u = rw (part_at c.args.s.now c.args.a 22) at c.iban_shape-2.ensures in search (judging, rules)

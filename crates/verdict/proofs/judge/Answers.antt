@@ -1,41 +1,31 @@
 -- `verdict::judge` meets its contract: shape, control, register and bounds are asked in the order of the definition.
-use borrow.Author.Rules.{rules}
-use Rattle.verdict.specs.Judging.{found_known, judge_shaped}
 use Rattle.verdict.specs.Judging.{judging}
+use Rattle.std.proofs.Common.{sym, ◌∙◌, arith}
+use Rattle.verdict.specs.Judging.{shaped_iban}
+use Rattle.account.specs.Part.{part_at}
+use borrow.Author.Rules.{rules}
 use Rattle.verdict.proofs.judge.Goals as goal
-
-pub is_shaped-requires : goal.is_shaped-requires
-is_shaped-requires c = search (judging, rules)
 
 pub returns-then-not-is_shaped : goal.returns-then-not-is_shaped
 returns-then-not-is_shaped c = search (judging, rules)
 
+pub slice_bounds-iban_control-end : goal.slice_bounds-iban_control-end
+slice_bounds-iban_control-end c = let l = shaped_iban _ _ _ c.requires.a_le_b c.requires.b_in_bounds (sym c.is_shaped.ensures ∙ c.if-not-is_shaped.false) in omega arith
+
 pub iban_control-requires : goal.iban_control-requires
-iban_control-requires c = search (judging, rules)
+iban_control-requires c = rw (part_at c.args.s.now c.args.a 22) (search (judging, rules))
 
 pub returns-then-not-iban_control : goal.returns-then-not-iban_control
-returns-then-not-iban_control c = search (judging, rules)
-
-pub find_account-requires : goal.find_account-requires
-find_account-requires c = search (judging, rules)
-
-pub enum_known-i : goal.enum_known-i
-enum_known-i c = search (judging, rules)
+returns-then-not-iban_control c = let u = rw (part_at c.args.s.now c.args.a 22) at c.iban_control.ensures in search (judging, rules)
 
 pub is_in_bounds-requires-clause-i_in_bounds : goal.is_in_bounds-requires-clause-i_in_bounds
-is_in_bounds-requires-clause-i_in_bounds c = search (found_known, rules)
-
-pub is_in_bounds-requires-clause-b_value : goal.is_in_bounds-requires-clause-b_value
-is_in_bounds-requires-clause-b_value c = search (judge_shaped, rules)
+is_in_bounds-requires-clause-i_in_bounds c = search (judging, rules)
 
 pub returns-then-is_in_bounds : goal.returns-then-is_in_bounds
-returns-then-is_in_bounds c = search (judging, rules)
-
-pub enum_told-1 : goal.enum_told-1
-enum_told-1 c = search (judging, rules)
+returns-then-is_in_bounds c = let u = rw (part_at c.args.s.now c.args.a 22) at c.iban_control.ensures in let f = rw (part_at c.args.s.now c.args.a 22) at c.find_account.ensures in search (judging, rules)
 
 pub returns-else-is_in_bounds : goal.returns-else-is_in_bounds
-returns-else-is_in_bounds c = search (judging, rules)
+returns-else-is_in_bounds c = let u = rw (part_at c.args.s.now c.args.a 22) at c.iban_control.ensures in let f = rw (part_at c.args.s.now c.args.a 22) at c.find_account.ensures in search (judging, rules)
 
-pub returns-in-Nothing : goal.returns-in-Nothing
-returns-in-Nothing c = search (judging, rules)
+pub returns-in-None : goal.returns-in-None
+returns-in-None c = let u = rw (part_at c.args.s.now c.args.a 22) at c.iban_control.ensures in let f = rw (part_at c.args.s.now c.args.a 22) at c.find_account.ensures in search (judging, rules)

@@ -1,25 +1,26 @@
--- `account::control::iban_control` meets its contract: the head behind the rest makes the whole number, then the control digits are compared with their bounds.
+use Rattle.std.proofs.Common.{arith}
+use Rattle.rule_laws.specs.Groups.{iban_length}
 use Rattle.account.specs.Control.{controls}
 use borrow.Author.Rules.{rules}
 use Rattle.account.proofs.control.iban_control.Goals as goal
 
-pub tail_remainder-tail-requires : goal.tail_remainder-tail-requires
-tail_remainder-tail-requires c = search (controls, rules)
+pub slice_bounds-c-items-end : goal.slice_bounds-c-items-end
+slice_bounds-c-items-end c = let l = iban_length _ c.requires in omega arith
 
-pub overflow_add-at : goal.overflow_add-at
-overflow_add-at c = search (controls, rules)
+pub loop-c-init : goal.loop-c-init
+loop-c-init c = search (controls, rules)
 
-pub two_digits-digits-requires : goal.two_digits-digits-requires
-two_digits-digits-requires c = search (controls, rules)
+pub with_sign-tail-requires-clause-sign : goal.with_sign-tail-requires-clause-sign
+with_sign-tail-requires-clause-sign c = search (controls, rules)
 
-pub overflow_mul-tail : goal.overflow_mul-tail
-overflow_mul-tail c = search (controls, rules)
+pub loop-c-preserved : goal.loop-c-preserved
+loop-c-preserved c = search (controls, rules)
 
-pub overflow_add-tail : goal.overflow_add-tail
-overflow_add-tail c = search (controls, rules)
+pub overflow_sub-digits : goal.overflow_sub-digits
+overflow_sub-digits c = search (controls, rules)
 
-pub overflow_add-tail-2 : goal.overflow_add-tail-2
-overflow_add-tail-2 c = search (controls, rules)
+pub overflow_sub-digits-2 : goal.overflow_sub-digits-2
+overflow_sub-digits-2 c = search (controls, rules)
 
 pub returns-then-tail-digits-ne1 : goal.returns-then-tail-digits-ne1
 returns-then-tail-digits-ne1 c = search (controls, rules)

@@ -1,28 +1,16 @@
--- `account::control::with_sign` meets its contract: a letter or digit below 58 is a digit, any other a letter.
-use Rattle.account.specs.Control.{carrying}
+-- `account::control::with_sign` meets its contract: a letter or digit up to 57 is a digit, any other a letter.
+use Rattle.account.specs.Control.{controls}
 use borrow.Author.Rules.{rules}
 use Rattle.account.proofs.control.with_sign.Goals as goal
 
-pub overflow_mul-result : goal.overflow_mul-result
-overflow_mul-result c = search (carrying, rules)
+pub overflow_sub-result : goal.overflow_sub-result
+overflow_sub-result c = search (controls, rules)
 
-pub digit-requires : goal.digit-requires
-digit-requires c = search (carrying, rules)
+pub returns-then-c-le57 : goal.returns-then-c-le57
+returns-then-c-le57 c = search (controls, rules)
 
-pub overflow_add-result : goal.overflow_add-result
-overflow_add-result c = search (carrying, rules)
-
-pub returns-then-c-lt58 : goal.returns-then-c-lt58
-returns-then-c-lt58 c = search (carrying, rules)
-
-pub overflow_mul-result-2 : goal.overflow_mul-result-2
-overflow_mul-result-2 c = search (carrying, rules)
-
-pub letter-requires : goal.letter-requires
-letter-requires c = search (carrying, rules)
-
-pub overflow_add-result-2 : goal.overflow_add-result-2
-overflow_add-result-2 c = search (carrying, rules)
+pub overflow_sub-result-2 : goal.overflow_sub-result-2
+overflow_sub-result-2 c = search (controls, rules)
 
 pub returns : goal.returns
-returns c = search (carrying, rules)
+returns c = search (controls, rules)

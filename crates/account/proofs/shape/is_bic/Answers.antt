@@ -1,25 +1,13 @@
--- `account::shape::is_bic` meets its contract: too few bytes, no six letters, or as the two behind them are.
+-- `account::shape::is_bic` meets its contract: both runs, one behind the other.
 use Rattle.account.specs.Shape.{shapes}
 use borrow.Author.Rules.{rules}
 use Rattle.account.proofs.shape.is_bic.Goals as goal
 
-pub overflow_sub-s : goal.overflow_sub-s
-overflow_sub-s c = search (shapes, rules)
+pub returns-then-s-ne8 : goal.returns-then-s-ne8
+returns-then-s-ne8 c = search (shapes, rules)
 
-pub returns-then-s-at-lt8 : goal.returns-then-s-at-lt8
-returns-then-s-at-lt8 c = search (shapes, rules)
+pub returns-then-leading_at-eq6 : goal.returns-then-leading_at-eq6
+returns-then-leading_at-eq6 c = search (shapes, rules)
 
-pub letters_at-requires : goal.letters_at-requires
-letters_at-requires c = search (shapes, rules)
-
-pub returns-then-letters_at-lt6 : goal.returns-then-letters_at-lt6
-returns-then-letters_at-lt6 c = search (shapes, rules)
-
-pub overflow_add-at : goal.overflow_add-at
-overflow_add-at c = search (shapes, rules)
-
-pub alnums_at-requires : goal.alnums_at-requires
-alnums_at-requires c = search (shapes, rules)
-
-pub returns : goal.returns
-returns c = search (shapes, rules)
+pub returns-else-leading_at-eq6 : goal.returns-else-leading_at-eq6
+returns-else-leading_at-eq6 c = search (shapes, rules)

@@ -3,14 +3,8 @@ use Rattle.banking_days.specs.Seeking.{seeks}
 use borrow.Author.Rules.{rules}
 use Rattle.banking_days.proofs.banking.is_banking_day.Goals as goal
 
-pub is_weekend-requires : goal.is_weekend-requires
-is_weekend-requires c = search (seeks, rules)
-
 pub returns-then-is_weekend : goal.returns-then-is_weekend
 returns-then-is_weekend c = search (seeks, rules)
-
-pub is_listed-requires : goal.is_listed-requires
-is_listed-requires c = search (seeks, rules)
 
 pub returns : goal.returns
 returns c = search (seeks, rules)

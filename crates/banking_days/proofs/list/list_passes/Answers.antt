@@ -9,8 +9,5 @@ returns-then-list-eq0 c = search (rises, rules)
 pub returns-then-list-gt-LONGEST : goal.returns-then-list-gt-LONGEST
 returns-then-list-gt-LONGEST c = search (rises, rules)
 
-pub dates_rise-requires : goal.dates_rise-requires
-dates_rise-requires c = search (rises, rules)
-
 pub returns : goal.returns
 returns c = search (rises, rules)

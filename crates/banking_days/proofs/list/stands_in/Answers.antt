@@ -1,33 +1,13 @@
+use Rattle.std.proofs.Common.{◌≡◌, ◌+◌, ◌*◌, arith}
 use borrow.Author.Rules.{rules}
-use Rattle.banking_days.specs.Seeking.{seeks}
+use Rattle.banking_days.specs.Seeking.{seeks, stands_on}
 use Rattle.banking_days.proofs.list.stands_in.Goals as goal
 
-pub overflow_cast-n : goal.overflow_cast-n
-overflow_cast-n c = search (seeks, rules)
-
-pub loop-at-init : goal.loop-at-init
-loop-at-init c = search (seeks, rules)
-
-pub overflow_add-at : goal.overflow_add-at
-overflow_add-at c = search (seeks, rules)
-
-pub overflow_cast-at : goal.overflow_cast-at
-overflow_cast-at c = search (seeks, rules)
-
-pub equal_parts-requires : goal.equal_parts-requires
-equal_parts-requires c = search (seeks, rules)
+pub loop-k-preserved : goal.loop-k-preserved
+loop-k-preserved c = let e : 7 * (c.loop-k.k + 1) ≡ 7 * c.loop-k.k + 7 = omega arith in rw e (stands_on _ _ _ _ c.loop-k.invariant (omega arith) (search rules) _ c.equal_parts.ensures (search rules))
 
 pub returns-then-equal_parts : goal.returns-then-equal_parts
 returns-then-equal_parts c = search (seeks, rules)
-
-pub overflow_add-at-in-loop-at : goal.overflow_add-at-in-loop-at
-overflow_add-at-in-loop-at c = search (seeks, rules)
-
-pub loop-at-smaller : goal.loop-at-smaller
-loop-at-smaller c = search (seeks, rules)
-
-pub loop-at-preserved : goal.loop-at-preserved
-loop-at-preserved c = search (seeks, rules)
 
 pub returns : goal.returns
 returns c = search (seeks, rules)

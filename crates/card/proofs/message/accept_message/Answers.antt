@@ -4,7 +4,7 @@ use borrow.Author.Rules.{rules}
 use Rattle.card.proofs.message.accept_message.Goals as goal
 
 pub put_message_text-text-requires : goal.put_message_text-text-requires
-put_message_text-text-requires c = let r = c.requires.ready in record { area_value = r.engine; books = r.books; judged_in = r.judged; p_value = r.leaves.same; due_in = r.dues }
+put_message_text-text-requires c = let r = c.requires.ready in record { area_value = r.engine; books = r.books; judged_in = r.judged; p_value = r.leaves.same }
 
 pub minus-requires : goal.minus-requires
 minus-requires c = search (sending, rules)

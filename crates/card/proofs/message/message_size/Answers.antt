@@ -18,8 +18,5 @@ put_message_text-text-requires-clause-judged_in c = c.requires.judged
 pub put_message_text-text-requires-clause-p_value : goal.put_message_text-text-requires-clause-p_value
 put_message_text-text-requires-clause-p_value c = c.requires.leaves.same
 
-pub put_message_text-text-requires-clause-due_in : goal.put_message_text-text-requires-clause-due_in
-put_message_text-text-requires-clause-due_in c = c.requires.dues
-
 pub returns : goal.returns
 returns c = search (sending, rules)

@@ -1,19 +1,10 @@
--- The move to the newer form: what the conditions give, in their order: 9, 16; and the text with its last line where none holds.
-use Rattle.card.specs.Moves.{moving}
-use borrow.Author.Rules.{rules}
+use Rattle.std.proofs.Common.{arith, refl, ◌∙◌}
+use Rattle.refusal.specs.Numbers.{number_some}
+use Rattle.card.specs.Moves.{newer_stopped, newer_done}
 use Rattle.card.proofs.moves.card_newer.Goals as goal
 
-pub newer_stop-stop-requires : goal.newer_stop-stop-requires
-newer_stop-stop-requires c = search (moving, rules)
-
-pub returns-then-stop-ne0 : goal.returns-then-stop-ne0
-returns-then-stop-ne0 c = search (moving, rules)
-
-pub put_newer-requires : goal.put_newer-requires
-put_newer-requires c = search (moving, rules)
-
-pub shape_of-output : goal.shape_of-output
-shape_of-output c = search (moving, rules)
+pub returns-in-Err : goal.returns-in-Err
+returns-in-Err c = newer_stopped _ _ _ (c.number.ensures ∙ c.in-Err.ensures {u = tt}) (λ z. omega (arith, z, c.number.ensures, number_some c.in-Err.refusal))
 
 pub returns : goal.returns
-returns c = search (moving, rules)
+returns c = newer_done _ _ _ (c.in_default.ensures {u = tt}) refl c.put_newer.ensures

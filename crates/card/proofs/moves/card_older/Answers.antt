@@ -1,19 +1,13 @@
--- The move to the older form: what the conditions give, in their order: 9, 19, 16; and the text without its last line where none holds.
-use Rattle.card.specs.Moves.{moving}
-use borrow.Author.Rules.{rules}
+use Rattle.std.proofs.Common.{arith, refl, ◌∙◌}
+use Rattle.refusal.specs.Numbers.{number_some}
+use Rattle.card.specs.Moves.{older_stopped, older_done, older_last}
 use Rattle.card.proofs.moves.card_older.Goals as goal
 
-pub older_stop-stop-requires : goal.older_stop-stop-requires
-older_stop-stop-requires c = search (moving, rules)
-
-pub returns-then-stop-ne0 : goal.returns-then-stop-ne0
-returns-then-stop-ne0 c = search (moving, rules)
+pub returns-in-Err : goal.returns-in-Err
+returns-in-Err c = older_stopped _ _ _ (c.number.ensures ∙ c.in-Err.ensures {u = tt}) (λ z. omega (arith, z, c.number.ensures, number_some c.in-Err.refusal))
 
 pub put_older-requires : goal.put_older-requires
-put_older-requires c = search (moving, rules)
-
-pub shape_of-output : goal.shape_of-output
-shape_of-output c = search (moving, rules)
+put_older-requires c = older_last _ c.args.output.now _ (c.in_default.ensures {u = tt}) refl
 
 pub returns : goal.returns
-returns c = search (moving, rules)
+returns c = older_done _ _ _ (c.in_default.ensures {u = tt}) refl c.put_older.ensures

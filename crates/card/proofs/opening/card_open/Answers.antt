@@ -1,6 +1,7 @@
 -- Opening: each way out answers what the conditions give, in their order: 10, 3, 9, 18, 17.
 use Rattle.std.specs.Prelude.{not}
-use Rattle.std.proofs.Common.{ap}
+use Rattle.std.proofs.Common.{ap, ◌∙◌, arith}
+use Rattle.refusal.specs.Numbers.{number_some}
 use Rattle.card.specs.Opening.{open_stopped, opening}
 use borrow.Author.Rules.{rules}
 use Rattle.card.proofs.opening.card_open.Goals as goal
@@ -29,16 +30,10 @@ register_passes-registered-requires c = search (opening, rules)
 pub list_passes-listed-requires : goal.list_passes-listed-requires
 list_passes-listed-requires c = search (opening, rules)
 
-pub opening_stop-stop-requires : goal.opening_stop-stop-requires
-opening_stop-stop-requires c = search (opening, rules)
-
-pub shape_of-area-then-stop-ne0 : goal.shape_of-area-then-stop-ne0
-shape_of-area-then-stop-ne0 c = search (opening, rules)
-
-pub returns-then-stop-ne0 : goal.returns-then-stop-ne0
-returns-then-stop-ne0 c =
-    open_stopped _ _ _ _ _ c.has_room.ensures (ap not c.if-not-has_room.false) _ c.exists.ensures (ap not c.if-not-exists.false) _ c.register_passes-registered.ensures _ c.list_passes-listed.ensures _ c.is_banking_day-banking.ensures _ c.opening_stop-stop.ensures
-    c.if-stop-ne0.true
+pub returns-in-Err : goal.returns-in-Err
+returns-in-Err c =
+    open_stopped _ _ _ _ _ c.has_room.ensures (ap not c.if-not-has_room.false) _ c.exists.ensures (ap not c.if-not-exists.false) _ c.register_passes-registered.ensures _ c.list_passes-listed.ensures _ c.is_banking_day-banking.ensures _ (c.number-in-Err.ensures ∙ c.in-Err.ensures {u = tt})
+    (λ z. omega (arith, z, c.number-in-Err.ensures, number_some c.in-Err.refusal))
 
 pub open_area-requires-clause-area_size_in_bounds : goal.open_area-requires-clause-area_size_in_bounds
 open_area-requires-clause-area_size_in_bounds c = search (opening, rules)

@@ -1,40 +1,24 @@
 -- The line's letter says which command it is.
-use Rattle.commands.specs.Lines.{commanded, begins_long}
-use borrow.Author.Rules.{rules}
+use Rattle.std.proofs.Common.{sym}
+use Rattle.commands.specs.Letters.{letter_room}
+use Rattle.commands.specs.Numbers.{rest_is}
+use Rattle.commands.specs.Lines.{by_text, by_turn, by_open, by_none}
 use Rattle.commands.proofs.command.line_command.Goals as goal
 
-pub letter_at-requires : goal.letter_at-requires
-letter_at-requires c = search (commanded, rules)
+pub slice_bounds-text_command-count : goal.slice_bounds-text_command-count
+slice_bounds-text_command-count c = letter_room _ _ (sym c.in-Some.ensures)
 
-pub enum_known-h : goal.enum_known-h
-enum_known-h c = search (commanded, rules)
+pub slice_bounds-text_command-start : goal.slice_bounds-text_command-start
+slice_bounds-text_command-start c = letter_room _ _ (sym c.in-Some.ensures)
 
-pub text_command-requires : goal.text_command-requires
-text_command-requires c = search (commanded, rules)
+pub returns-in-Some : goal.returns-in-Some
+returns-in-Some c = by_text _ _ c.in-Some.ensures (rw rest_is at c.text_command.ensures)
 
-pub returns-in-Text : goal.returns-in-Text
-returns-in-Text c = search (commanded, rules)
+pub returns-in-Some-strip_prefix : goal.returns-in-Some-strip_prefix
+returns-in-Some-strip_prefix c = by_turn _ _ c.in_default.ensures c.in-Some-strip_prefix.ensures.cases c.turn_command.ensures
 
-pub enum_told-1 : goal.enum_told-1
-enum_told-1 c = search (commanded, rules)
-
-pub begins-requires : goal.begins-requires
-begins-requires c = search (commanded, rules)
-
-pub turn_command-requires : goal.turn_command-requires
-turn_command-requires c = search (commanded, rules)
-
-pub returns-then-begins : goal.returns-then-begins
-returns-then-begins c = search (commanded, rules)
-
-pub begins-requires-2 : goal.begins-requires-2
-begins-requires-2 c = search (commanded, rules)
-
-pub open_command-requires : goal.open_command-requires
-open_command-requires c = (begins_long _ _ _ _ _ c.begins-2.ensures c.if-begins-2.true (search rules) (search rules), search rules)
-
-pub returns-then-begins-2 : goal.returns-then-begins-2
-returns-then-begins-2 c = search (commanded, rules)
+pub returns-in-Some-strip_prefix-2 : goal.returns-in-Some-strip_prefix-2
+returns-in-Some-strip_prefix-2 c = by_open _ _ c.in_default.ensures c.in_default-strip_prefix.ensures.cases c.in-Some-strip_prefix-2.ensures.cases c.open_command.ensures
 
 pub returns : goal.returns
-returns c = search (commanded, rules)
+returns c = by_none _ _ c.in_default.ensures c.in_default-strip_prefix.ensures.cases c.in_default-strip_prefix-2.ensures.cases

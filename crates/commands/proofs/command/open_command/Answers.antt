@@ -1,76 +1,28 @@
 -- An opening's command: day, comma, two lengths, and as many bytes behind the line.
-use Rattle.commands.specs.Lines.{commanded}
-use borrow.Author.Rules.{rules}
+use Rattle.commands.specs.Numbers.{six_small}
+use Rattle.commands.specs.Lines.{open_short, open_other, open_no_day, open_no_lengths, open_cut, open_cut_behind, open_whole}
 use Rattle.commands.proofs.command.open_command.Goals as goal
 
-pub overflow_sub-e : goal.overflow_sub-e
-overflow_sub-e c = search (commanded, rules)
+pub returns-in_err-day : goal.returns-in_err-day
+returns-in_err-day c = rw c.from_residual.ensures (open_short _ _ c.in_err-day.ensures.cases)
 
-pub returns-then-e-at-lt9 : goal.returns-then-e-at-lt9
-returns-then-e-at-lt9 c = search (commanded, rules)
+pub returns-in_err-sizes : goal.returns-in_err-sizes
+returns-in_err-sizes c = rw c.from_residual-in_err-sizes.ensures (open_other _ _ c.in_ok-day.ensures.cases c.in_err-sizes.ensures.cases)
 
-pub overflow_add-at : goal.overflow_add-at
-overflow_add-at c = search (commanded, rules)
+pub returns-in_err-day-2 : goal.returns-in_err-day-2
+returns-in_err-day-2 c = rw c.from_residual-in_err-day-2.ensures (open_no_day _ _ c.in_ok-day.ensures.cases c.in_ok-sizes.ensures.cases c.in_err-day-2.ensures)
 
-pub bounds-s-at : goal.bounds-s-at
-bounds-s-at c = search (commanded, rules)
+pub overflow_cast-day : goal.overflow_cast-day
+overflow_cast-day c = six_small _ _ c.in_ok-day-2.ensures
 
-pub returns-then-s-at-ne44 : goal.returns-then-s-at-ne44
-returns-then-s-at-ne44 c = search (commanded, rules)
+pub returns-in_err-m : goal.returns-in_err-m
+returns-in_err-m c = rw c.from_residual-in_err-m.ensures (open_no_lengths _ _ c.in_ok-day.ensures.cases c.in_ok-sizes.ensures.cases c.in_ok-day-2.ensures c.in_err-m.ensures)
 
-pub overflow_add-at-2 : goal.overflow_add-at-2
-overflow_add-at-2 c = search (commanded, rules)
+pub returns-in_err-register : goal.returns-in_err-register
+returns-in_err-register c = rw c.from_residual-in_err-register.ensures (open_cut _ _ c.in_ok-day.ensures.cases c.in_ok-sizes.ensures.cases c.in_ok-day-2.ensures c.in_ok-m.ensures c.in_err-register.ensures.cases)
 
-pub overflow_add-at-3 : goal.overflow_add-at-3
-overflow_add-at-3 c = search (commanded, rules)
-
-pub six_digits-requires : goal.six_digits-requires
-six_digits-requires c = search (commanded, rules)
-
-pub enum_known-day : goal.enum_known-day
-enum_known-day c = search (commanded, rules)
-
-pub enum_told-1 : goal.enum_told-1
-enum_told-1 c = search (commanded, rules)
-
-pub returns-in_default : goal.returns-in_default
-returns-in_default c = search (commanded, rules)
-
-pub overflow_add-at-4 : goal.overflow_add-at-4
-overflow_add-at-4 c = search (commanded, rules)
-
-pub two_lengths-requires : goal.two_lengths-requires
-two_lengths-requires c = search (commanded, rules)
-
-pub enum_known-m : goal.enum_known-m
-enum_known-m c = search (commanded, rules)
-
-pub enum_told-in_default-two_lengths : goal.enum_told-in_default-two_lengths
-enum_told-in_default-two_lengths c = search (commanded, rules)
-
-pub returns-in_default-two_lengths : goal.returns-in_default-two_lengths
-returns-in_default-two_lengths c = search (commanded, rules)
-
-pub overflow_add-start : goal.overflow_add-start
-overflow_add-start c = search (commanded, rules)
-
-pub overflow_sub-s : goal.overflow_sub-s
-overflow_sub-s c = search (commanded, rules)
-
-pub overflow_add-m : goal.overflow_add-m
-overflow_add-m c = search (commanded, rules)
-
-pub returns-then-s-start : goal.returns-then-s-start
-returns-then-s-start c = search (commanded, rules)
-
-pub overflow_add-middle : goal.overflow_add-middle
-overflow_add-middle c = search (commanded, rules)
-
-pub overflow_cast-result : goal.overflow_cast-result
-overflow_cast-result c = search (commanded, rules)
-
-pub overflow_add-result : goal.overflow_add-result
-overflow_add-result c = search (commanded, rules)
+pub returns-in_err-holidays : goal.returns-in_err-holidays
+returns-in_err-holidays c = rw c.from_residual-in_err-holidays.ensures (open_cut_behind _ _ c.in_ok-day.ensures.cases c.in_ok-sizes.ensures.cases c.in_ok-day-2.ensures c.in_ok-m.ensures c.in_ok-register.ensures.cases c.in_err-holidays.ensures.cases)
 
 pub returns : goal.returns
-returns c = search (commanded, rules)
+returns c = open_whole _ _ c.in_ok-day.ensures.cases c.in_ok-sizes.ensures.cases c.in_ok-day-2.ensures c.in_ok-m.ensures c.in_ok-register.ensures.cases c.in_ok-holidays.ensures.cases

@@ -1,22 +1,10 @@
--- The command stands on the next line.
-use Rattle.commands.specs.Lines.{commanded}
-use borrow.Author.Rules.{rules}
+-- The command stands on the first line.
+use Rattle.commands.specs.Numbers.{rest_is}
+use Rattle.commands.specs.Lines.{command_line, command_none}
 use Rattle.commands.proofs.command.read_command.Goals as goal
 
-pub next_line-requires : goal.next_line-requires
-next_line-requires c = search (commanded, rules)
+pub returns-in-Some : goal.returns-in-Some
+returns-in-Some c = command_line _ _ c.next_line.ensures _ c.in-Some.is (rw rest_is at c.line_command.ensures)
 
-pub enum_known-e : goal.enum_known-e
-enum_known-e c = search (commanded, rules)
-
-pub line_command-requires : goal.line_command-requires
-line_command-requires c = search (commanded, rules)
-
-pub enum_told-1 : goal.enum_told-1
-enum_told-1 c = search (commanded, rules)
-
-pub returns-in-Line : goal.returns-in-Line
-returns-in-Line c = search (commanded, rules)
-
-pub returns-in-Bad : goal.returns-in-Bad
-returns-in-Bad c = search (commanded, rules)
+pub returns-in-None : goal.returns-in-None
+returns-in-None c = command_none _ _ c.next_line.ensures c.in-None.is

@@ -1,34 +1,12 @@
 -- A command of one text: its length is read, and as many bytes stand behind the line.
-use Rattle.commands.specs.Lines.{commanded}
-use borrow.Author.Rules.{rules}
+use Rattle.commands.specs.Lines.{text_none, text_short, text_whole}
 use Rattle.commands.proofs.command.text_command.Goals as goal
 
-pub overflow_add-at : goal.overflow_add-at
-overflow_add-at c = search (commanded, rules)
+pub returns-in_err-n : goal.returns-in_err-n
+returns-in_err-n c = rw c.from_residual.ensures (text_none _ _ _ c.in_err-n.ensures)
 
-pub read_length-requires : goal.read_length-requires
-read_length-requires c = search (commanded, rules)
-
-pub enum_known-n : goal.enum_known-n
-enum_known-n c = search (commanded, rules)
-
-pub enum_told-1 : goal.enum_told-1
-enum_told-1 c = search (commanded, rules)
-
-pub returns-in_default : goal.returns-in_default
-returns-in_default c = search (commanded, rules)
-
-pub overflow_add-start : goal.overflow_add-start
-overflow_add-start c = search (commanded, rules)
-
-pub overflow_sub-s : goal.overflow_sub-s
-overflow_sub-s c = search (commanded, rules)
-
-pub returns-then-s-start : goal.returns-then-s-start
-returns-then-s-start c = search (commanded, rules)
-
-pub overflow_add-result : goal.overflow_add-result
-overflow_add-result c = search (commanded, rules)
+pub returns-in_err-text : goal.returns-in_err-text
+returns-in_err-text c = rw c.from_residual-in_err-text.ensures (text_short _ _ _ c.in_ok-n.ensures c.in_err-text.ensures.cases)
 
 pub returns : goal.returns
-returns c = search (commanded, rules)
+returns c = text_whole _ _ _ c.in_ok-n.ensures c.in_ok-text.ensures.cases

@@ -1,28 +1,13 @@
 -- A turn's command: its day is six digits.
-use Rattle.commands.specs.Lines.{commanded}
-use borrow.Author.Rules.{rules}
+use Rattle.commands.specs.Numbers.{six_small}
+use Rattle.commands.specs.Lines.{turn_none, turn_day}
 use Rattle.commands.proofs.command.turn_command.Goals as goal
 
-pub overflow_add-at : goal.overflow_add-at
-overflow_add-at c = search (commanded, rules)
+pub returns-in_err-day : goal.returns-in_err-day
+returns-in_err-day c = rw c.from_residual.ensures (turn_none _ _ c.in_err-day.ensures)
 
-pub six_digits-requires : goal.six_digits-requires
-six_digits-requires c = search (commanded, rules)
-
-pub enum_known-day : goal.enum_known-day
-enum_known-day c = search (commanded, rules)
-
-pub enum_told-1 : goal.enum_told-1
-enum_told-1 c = search (commanded, rules)
-
-pub returns-in_default : goal.returns-in_default
-returns-in_default c = search (commanded, rules)
-
-pub overflow_cast-result : goal.overflow_cast-result
-overflow_cast-result c = search (commanded, rules)
-
-pub overflow_add-result : goal.overflow_add-result
-overflow_add-result c = search (commanded, rules)
+pub overflow_cast-day : goal.overflow_cast-day
+overflow_cast-day c = six_small _ _ c.in_ok-day.ensures
 
 pub returns : goal.returns
-returns c = search (commanded, rules)
+returns c = turn_day _ _ c.in_ok-day.ensures

@@ -2,38 +2,23 @@ use borrow.Author.Rules.{rules}
 use Rattle.commands.specs.Numbers.{numbers}
 use Rattle.commands.proofs.number.read_length.Goals as goal
 
-pub returns-then-a-b : goal.returns-then-a-b
-returns-then-a-b c = search (numbers, rules)
+pub returns-then-is_empty : goal.returns-then-is_empty
+returns-then-is_empty c = search (numbers, rules)
 
-pub loop-i-init : goal.loop-i-init
-loop-i-init c = search (numbers, rules)
+pub loop-c-init : goal.loop-c-init
+loop-c-init c = search (numbers, rules)
 
-pub returns-then-v-gt8192 : goal.returns-then-v-gt8192
-returns-then-v-gt8192 c = search (numbers, rules)
+pub returns-then-not-has : goal.returns-then-not-has
+returns-then-not-has c = search (numbers, rules)
 
-pub bounds-s-i : goal.bounds-s-i
-bounds-s-i c = search (numbers, rules)
+pub with_digit-n-requires-clause-v_bound : goal.with_digit-n-requires-clause-v_bound
+with_digit-n-requires-clause-v_bound c = search (numbers, rules)
 
-pub is_digit-requires : goal.is_digit-requires
-is_digit-requires c = search (numbers, rules)
+pub returns-then-n-gt8192 : goal.returns-then-n-gt8192
+returns-then-n-gt8192 c = search (numbers, rules)
 
-pub with_digit-v-requires : goal.with_digit-v-requires
-with_digit-v-requires c = search (numbers, rules)
-
-pub overflow_add-i : goal.overflow_add-i
-overflow_add-i c = search (numbers, rules)
-
-pub loop-i-smaller : goal.loop-i-smaller
-loop-i-smaller c = search (numbers, rules)
-
-pub loop-i-preserved : goal.loop-i-preserved
-loop-i-preserved c = search (numbers, rules)
-
-pub returns-else-is_digit : goal.returns-else-is_digit
-returns-else-is_digit c = search (numbers, rules)
-
-pub returns-then-v-gt8192-2 : goal.returns-then-v-gt8192-2
-returns-then-v-gt8192-2 c = search (numbers, rules)
+pub loop-c-preserved : goal.loop-c-preserved
+loop-c-preserved c = search (numbers, rules)
 
 pub returns : goal.returns
 returns c = search (numbers, rules)

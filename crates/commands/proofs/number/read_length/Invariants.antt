@@ -1,13 +1,9 @@
--- A length is one or more digits and at most 8192: a number that is larger stays so, and the loop ends there.
-use mathlib.Core.Path.{◌≡◌}
-use Prim.Native.Nat.{◌≤◌, ◌-◌}
+-- A length is one or more digits and at most 8192: what is read and the bytes behind it decide.
+use Rattle.std.proofs.Common.{◌≡◌, ◌≤◌}
 use Rattle.rules.specs.Replay.{length_of}
-use Rattle.laws.specs.Parts.{cut}
+use Rattle.laws.specs.Parts.{from}
 use Rattle.commands.specs.Numbers.{limited}
 use Rattle.commands.proofs.number.read_length.Given as goal
 
-abbrev pub invariant-loop-i : goal.invariant-loop-i
-invariant-loop-i l = (l.i ≤ l.b) × (limited l.v (cut l.s l.i l.b) ≡ length_of (cut l.s l.a l.b))
-
-abbrev pub decreases-loop-i : goal.decreases-loop-i
-decreases-loop-i l = l.b - l.i
+abbrev pub invariant-loop-c : goal.invariant-loop-c
+invariant-loop-c l = (l.n ≤ 8192) × (limited l.n (from l.part l.c-index) ≡ length_of l.part)

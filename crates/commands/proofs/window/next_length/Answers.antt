@@ -1,34 +1,15 @@
 -- Behind the digits at p stands the end, a comma or another byte, and only behind a comma a length may follow.
-use Rattle.commands.specs.Seeking.{seeking}
 use borrow.Author.Rules.{rules}
+use Rattle.commands.specs.Seeking.{seeking, next_end, next_none}
 use Rattle.commands.proofs.window.next_length.Goals as goal
-
-pub overflow_sub-w : goal.overflow_sub-w
-overflow_sub-w c = search (seeking, rules)
-
-pub overflow_cast-w : goal.overflow_cast-w
-overflow_cast-w c = search (seeking, rules)
-
-pub digits_at-requires : goal.digits_at-requires
-digits_at-requires c = search (seeking, rules)
-
-pub overflow_cast-e : goal.overflow_cast-e
-overflow_cast-e c = search (seeking, rules)
-
-pub overflow_add-e : goal.overflow_add-e
-overflow_add-e c = search (seeking, rules)
-
-pub returns-then-e-w : goal.returns-then-e-w
-returns-then-e-w c = search (seeking, rules)
-
-pub bounds-w-e : goal.bounds-w-e
-bounds-w-e c = search (seeking, rules)
-
-pub overflow_add-result : goal.overflow_add-result
-overflow_add-result c = search (seeking, rules)
+use Rattle.commands.proofs.window.next_length.Goals.{else-e-w-via-then-e-w+else-w-e-eq44, else-e-w-via-else-e-w}
 
 pub returns-then-w-e-eq44 : goal.returns-then-w-e-eq44
 returns-then-w-e-eq44 c = search (seeking, rules)
 
 pub returns : goal.returns
-returns c = search (seeking, rules)
+returns c =
+    elim c.else-e-w.branch [
+      | else-e-w-via-then-e-w+else-w-e-eq44 w ↦ next_none _ _ _ c.requires.within c.leading_at.ensures w.if-e-w.true w.if-w-e-eq44.false
+      | else-e-w-via-else-e-w w ↦ next_end _ _ _ c.requires.within c.leading_at.ensures w.if-e-w.false
+    ]

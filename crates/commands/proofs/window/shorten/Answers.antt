@@ -1,61 +1,41 @@
 -- By where a length begins with two zeros: those behind the first of them go.
-use Rattle.commands.specs.Window.{windows}
+use Rattle.std.proofs.Common.{arith}
 use borrow.Author.Rules.{rules}
+use Rattle.commands.specs.Window.{idle_within, zeros_within, shorten_none, shorten_less}
 use Rattle.commands.proofs.window.shorten.Goals as goal
 
-pub slice_bounds-idle_place-count : goal.slice_bounds-idle_place-count
-slice_bounds-idle_place-count c = search (windows, rules)
-
-pub slice_bounds-idle_place-start : goal.slice_bounds-idle_place-start
-slice_bounds-idle_place-start c = search (windows, rules)
-
-pub slice_bounds-idle_place-end : goal.slice_bounds-idle_place-end
-slice_bounds-idle_place-end c = search (windows, rules)
-
-pub idle_place-p-requires : goal.idle_place-p-requires
-idle_place-p-requires c = search (windows, rules)
-
-pub shape_of-s-then-p-n : goal.shape_of-s-then-p-n
-shape_of-s-then-p-n c = search (windows, rules)
-
-pub returns-then-p-n : goal.returns-then-p-n
-returns-then-p-n c = search (windows, rules)
+pub returns-in_default : goal.returns-in_default
+returns-in_default c = shorten_none _ _ c.requires.within c.in_default.ensures
 
 pub overflow_add-a : goal.overflow_add-a
-overflow_add-a c = search (windows, rules)
+overflow_add-a c = let k = idle_within _ _ c.requires.within c.in-Some.ensures in search rules
 
-pub overflow_sub-n : goal.overflow_sub-n
-overflow_sub-n c = search (windows, rules)
+pub slice_bounds-zeros_at-count : goal.slice_bounds-zeros_at-count
+slice_bounds-zeros_at-count c = omega (arith, idle_within _ _ c.requires.within c.in-Some.ensures)
 
-pub overflow_cast-n : goal.overflow_cast-n
-overflow_cast-n c = search (windows, rules)
-
-pub nulls_at-z-requires : goal.nulls_at-z-requires
-nulls_at-z-requires c = search (windows, rules)
-
-pub overflow_cast-z : goal.overflow_cast-z
-overflow_cast-z c = search (windows, rules)
+pub slice_bounds-zeros_at-start : goal.slice_bounds-zeros_at-start
+slice_bounds-zeros_at-start c = let k = idle_within _ _ c.requires.within c.in-Some.ensures in search rules
 
 pub overflow_sub-m : goal.overflow_sub-m
-overflow_sub-m c = search (windows, rules)
+overflow_sub-m c = omega (arith, idle_within _ _ c.requires.within c.in-Some.ensures)
 
 pub overflow_sub-m-2 : goal.overflow_sub-m-2
-overflow_sub-m-2 c = search (windows, rules)
+overflow_sub-m-2 c = zeros_within _ _ c.requires.within c.in-Some.ensures c.zeros_at-z.ensures
 
 pub overflow_add-a-2 : goal.overflow_add-a-2
-overflow_add-a-2 c = search (windows, rules)
+overflow_add-a-2 c = let k = zeros_within _ _ c.requires.within c.in-Some.ensures c.zeros_at-z.ensures in let h = idle_within _ _ c.requires.within c.in-Some.ensures in search rules
 
-pub overflow_cast-m : goal.overflow_cast-m
-overflow_cast-m c = search (windows, rules)
-
-pub move_down-requires : goal.move_down-requires
-move_down-requires c = search (windows, rules)
+pub move_bytes-requires : goal.move_bytes-requires
+move_bytes-requires c =
+    let k = zeros_within _ _ c.requires.within c.in-Some.ensures c.zeros_at-z.ensures in
+    let h = idle_within _ _ c.requires.within c.in-Some.ensures in
+    record { here_in_bounds = omega (arith, c.requires.within); there_in_bounds = omega (arith, c.requires.within) }
 
 pub overflow_add-result : goal.overflow_add-result
-overflow_add-result c = search (windows, rules)
-
-pub shape_of-s : goal.shape_of-s
-shape_of-s c = search (windows, rules)
+overflow_add-result c =
+    let k = zeros_within _ _ c.requires.within c.in-Some.ensures c.zeros_at-z.ensures in
+    let h = idle_within _ _ c.requires.within c.in-Some.ensures in
+    search rules
 
 pub returns : goal.returns
-returns c = search (windows, rules)
+returns c = shorten_less _ _ c.requires.within c.in-Some.ensures c.zeros_at-z.ensures c.move_bytes.ensures

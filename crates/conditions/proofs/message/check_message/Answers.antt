@@ -3,17 +3,8 @@ use Rattle.conditions.specs.Checks.{checking}
 use borrow.Author.Rules.{rules}
 use Rattle.conditions.proofs.message.check_message.Goals as goal
 
-pub slice_bounds-temporary-count : goal.slice_bounds-temporary-count
-slice_bounds-temporary-count c = search (checking, rules)
-
-pub slice_bounds-temporary-start : goal.slice_bounds-temporary-start
-slice_bounds-temporary-start c = search (checking, rules)
-
 pub slice_bounds-temporary-end : goal.slice_bounds-temporary-end
 slice_bounds-temporary-end c = search (checking, rules)
-
-pub is_framed-requires : goal.is_framed-requires
-is_framed-requires c = search (checking, rules)
 
 pub is_addressed-requires : goal.is_addressed-requires
 is_addressed-requires c = search (checking, rules)
@@ -32,9 +23,6 @@ check_order-requires-clause-in_bounds c = search (checking, rules)
 
 pub check_order-requires-clause-s_len_bound : goal.check_order-requires-clause-s_len_bound
 check_order-requires-clause-s_len_bound c = search (checking, rules)
-
-pub check_order-requires-clause-judging_room : goal.check_order-requires-clause-judging_room
-check_order-requires-clause-judging_room c = search (checking, rules)
 
 pub returns-then-is_addressed : goal.returns-then-is_addressed
 returns-then-is_addressed c = search (checking, rules)

@@ -1,44 +1,29 @@
--- `conditions::message::check_order` meets its contract: each way out is a law of the check.
-use Rattle.conditions.specs.Checks.{order_good, checking}
+-- Each way out is a law of the check.
+use Rattle.std.proofs.Common.{refl}
+use Rattle.std.proofs.lemmas.Result.{err_from_is_err_and}
+use Rattle.conditions.specs.Checks.{checking, order_rowless, order_formless, order_date, order_count, order_stopped, order_good}
 use borrow.Author.Rules.{rules}
 use Rattle.conditions.proofs.message.check_order.Goals as goal
 
-pub read_rows-rows-requires : goal.read_rows-rows-requires
-read_rows-rows-requires c = search (checking, rules)
+pub returns-in_default : goal.returns-in_default
+returns-in_default c = order_rowless _ _ (c.in_default.ensures {u = tt})
 
-pub bounds-rows-0 : goal.bounds-rows-0
-bounds-rows-0 c = search (checking, rules)
+pub returns-in_default-tally_details : goal.returns-in_default-tally_details
+returns-in_default-tally_details c = order_formless _ _ _ (c.in-Some.ensures {u = tt}) c.tally_details.ensures c.in_default-tally_details.is
 
-pub tally_details-t-requires-clause-at_in_bounds : goal.tally_details-t-requires-clause-at_in_bounds
-tally_details-t-requires-clause-at_in_bounds c = search (checking, rules)
+pub order_stop-requires : goal.order_stop-requires
+order_stop-requires c = search (checking, rules)
 
-pub tally_details-t-requires-clause-s_len_bound : goal.tally_details-t-requires-clause-s_len_bound
-tally_details-t-requires-clause-s_len_bound c = search (checking, rules)
+pub returns-in_err-order_stop : goal.returns-in_err-order_stop
+returns-in_err-order_stop c =
+    let p = err_from_is_err_and c.from_residual.result c.from_residual.ensures.1 in
+    rw (p.1, p.2) (order_stopped _ _ _ (c.in-Some.ensures {u = tt}) c.tally_details.ensures _ c.in-Some-tally_details.is _ (c.in_err-order_stop.ensures {u = tt}) _ refl)
 
-pub tally_details-t-requires-clause-judging_room : goal.tally_details-t-requires-clause-judging_room
-tally_details-t-requires-clause-judging_room c = search (checking, rules)
+pub booking_of-requires-clause-date_bound : goal.booking_of-requires-clause-date_bound
+booking_of-requires-clause-date_bound c = order_date _ _ _ (c.in-Some.ensures {u = tt}) c.tally_details.ensures _ c.in-Some-tally_details.is
 
-pub tally_details-t-requires-clause-fields_len : goal.tally_details-t-requires-clause-fields_len
-tally_details-t-requires-clause-fields_len c = search (checking, rules)
-
-pub order_stop-k-requires : goal.order_stop-k-requires
-order_stop-k-requires c = search (checking, rules)
-
-pub behind-reference-requires : goal.behind-reference-requires
-behind-reference-requires c = search (checking, rules)
-
-pub booking_of-requires : goal.booking_of-requires
-booking_of-requires c = search (checking, rules)
-
-pub returns-then-k-eq0 : goal.returns-then-k-eq0
-returns-then-k-eq0 c = order_good _ _ _ c.read_rows-rows.ensures c.if-rows.true _ c.tally_details-t.ensures c.if-t.true _ c.order_stop-k.ensures c.if-k-eq0.true _
-    c.behind-reference.ensures _ c.booking_of.ensures
-
-pub returns-then-t : goal.returns-then-t
-returns-then-t c = search (checking, rules)
-
-pub returns-then-rows : goal.returns-then-rows
-returns-then-rows c = search (checking, rules)
+pub booking_of-requires-clause-count_bound : goal.booking_of-requires-clause-count_bound
+booking_of-requires-clause-count_bound c = order_count _ _ _ (c.in-Some.ensures {u = tt}) c.tally_details.ensures _ c.in-Some-tally_details.is _ (c.in_ok-order_stop.ensures {u = tt}) refl
 
 pub returns : goal.returns
-returns c = search (checking, rules)
+returns c = order_good _ _ _ (c.in-Some.ensures {u = tt}) c.tally_details.ensures _ c.in-Some-tally_details.is _ (c.in_ok-order_stop.ensures {u = tt}) refl _ c.behind-reference.ensures _ c.booking_of.ensures

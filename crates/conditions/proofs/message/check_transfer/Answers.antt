@@ -1,28 +1,19 @@
--- `conditions::message::check_transfer` meets its contract: not in form, a condition that holds, or the parts read.
-use Rattle.conditions.specs.Checks.{checking}
-use borrow.Author.Rules.{rules}
+-- Not in form, a condition that holds, or the parts read.
+use Rattle.std.proofs.Common.{refl}
+use Rattle.std.proofs.lemmas.Result.{err_from_is_err_and}
+use Rattle.conditions.specs.Checks.{transfer_formless, transfer_date, transfer_stopped, transfer_good}
 use Rattle.conditions.proofs.message.check_transfer.Goals as goal
 
-pub read_transfer-t-requires : goal.read_transfer-t-requires
-read_transfer-t-requires c = search (checking, rules)
+pub returns-in_default : goal.returns-in_default
+returns-in_default c = transfer_formless _ _ (c.in_default.ensures {u = tt})
 
-pub transfer_stop-k-requires : goal.transfer_stop-k-requires
-transfer_stop-k-requires c = search (checking, rules)
+pub booking_of-requires-clause-date_bound : goal.booking_of-requires-clause-date_bound
+booking_of-requires-clause-date_bound c = transfer_date _ c.args.temporary.now _ (c.in-Some.ensures {u = tt})
 
-pub bounds-t-0 : goal.bounds-t-0
-bounds-t-0 c = search (checking, rules)
-
-pub behind-reference-requires : goal.behind-reference-requires
-behind-reference-requires c = search (checking, rules)
-
-pub booking_of-requires : goal.booking_of-requires
-booking_of-requires c = search (checking, rules)
-
-pub returns-then-k-eq0 : goal.returns-then-k-eq0
-returns-then-k-eq0 c = search (checking, rules)
-
-pub returns-then-t : goal.returns-then-t
-returns-then-t c = search (checking, rules)
+pub returns-in_err-transfer_stop : goal.returns-in_err-transfer_stop
+returns-in_err-transfer_stop c =
+    let p = err_from_is_err_and c.from_residual.result c.from_residual.ensures.1 in
+    rw (p.1, p.2) (transfer_stopped _ _ _ (c.in-Some.ensures {u = tt}) _ (c.in_err-transfer_stop.ensures {u = tt}) _ refl)
 
 pub returns : goal.returns
-returns c = search (checking, rules)
+returns c = transfer_good _ _ _ (c.in-Some.ensures {u = tt}) _ (c.in_ok-transfer_stop.ensures {u = tt}) refl _ c.behind-reference.ensures _ c.booking_of.ensures

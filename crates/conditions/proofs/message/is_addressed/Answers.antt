@@ -3,17 +3,8 @@ use Rattle.conditions.specs.Checks.{checking}
 use borrow.Author.Rules.{rules}
 use Rattle.conditions.proofs.message.is_addressed.Goals as goal
 
-pub equal_parts-requires : goal.equal_parts-requires
-equal_parts-requires c = search (checking, rules)
-
-pub is_type-requires : goal.is_type-requires
-is_type-requires c = search (checking, rules)
-
 pub returns-then-is_type : goal.returns-then-is_type
 returns-then-is_type c = search (checking, rules)
-
-pub is_type-requires-then-equal_parts : goal.is_type-requires-then-equal_parts
-is_type-requires-then-equal_parts c = search (checking, rules)
 
 pub returns-then-equal_parts : goal.returns-then-equal_parts
 returns-then-equal_parts c = search (checking, rules)

@@ -3,8 +3,5 @@ use Rattle.conditions.specs.Checks.{checking}
 use borrow.Author.Rules.{rules}
 use Rattle.conditions.proofs.message.is_type.Goals as goal
 
-pub equal_parts-requires : goal.equal_parts-requires
-equal_parts-requires c = search (checking, rules)
-
 pub returns : goal.returns
 returns c = search (checking, rules)

@@ -1,14 +1,8 @@
--- `conditions::walk::again` meets its contract. The loop's invariant: what is left of the fields gives the answer.
-use mathlib.Core.Path.{◌≡◌}
-use Prim.Native.Nat.{◌+◌, ◌-◌, ◌≤◌, ◌<◌}
+-- `conditions::walk::again` meets its contract. The loop's invariant: what is left of the others gives the answer.
+use Rattle.std.specs.Prelude.{◌≡◌, map, drop}
 use Rattle.rules.specs.Text.{any, equal}
-use Rattle.forms.specs.Spans.{span_of}
-use Rattle.details.specs.Lines.{line_at}
-use Rattle.conditions.specs.Walk.{fields_from}
+use Rattle.conditions.specs.Walk.{named}
 use Rattle.conditions.proofs.walk.again.Given as goal
 
-abbrev pub invariant-loop-j : goal.invariant-loop-j
-invariant-loop-j l = (l.i < l.j) × (l.j ≤ l.n) × (any (equal (span_of l.s l.p)) (fields_from l.s l.fields l.j (l.n - l.j)) ≡ any (equal (span_of l.s (line_at l.fields l.i))) (fields_from l.s l.fields (l.i + 1) (l.n - (l.i + 1))))
-
-abbrev pub decreases-loop-j : goal.decreases-loop-j
-decreases-loop-j l = l.n - l.j
+abbrev pub invariant-loop-other : goal.invariant-loop-other
+invariant-loop-other l = any (equal (named l.s l.one)) (map (named l.s) (drop l.other-index l.others)) ≡ any (equal (named l.s l.one)) (map (named l.s) l.others)

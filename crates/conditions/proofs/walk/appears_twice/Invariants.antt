@@ -1,12 +1,8 @@
--- `conditions::walk::appears_twice` meets its contract. The loop's invariant: what is left of the fields gives the answer.
-use mathlib.Core.Path.{◌≡◌}
-use Prim.Native.Nat.{◌-◌, ◌≤◌}
+-- `conditions::walk::appears_twice` meets its contract. The loop's invariant: what is left of the details gives the answer.
+use Rattle.std.specs.Prelude.{◌≡◌, map, drop}
 use Rattle.rules.specs.Text.{twice, equal}
-use Rattle.conditions.specs.Walk.{fields_from}
+use Rattle.conditions.specs.Walk.{named}
 use Rattle.conditions.proofs.walk.appears_twice.Given as goal
 
 abbrev pub invariant-loop-i : goal.invariant-loop-i
-invariant-loop-i l = (l.i ≤ l.n) × (twice equal (fields_from l.s l.fields l.i (l.n - l.i)) ≡ twice equal (fields_from l.s l.fields 0 l.n))
-
-abbrev pub decreases-loop-i : goal.decreases-loop-i
-decreases-loop-i l = l.n - l.i
+invariant-loop-i l = twice equal (map (named l.s) (drop l.i l.kept)) ≡ twice equal (map (named l.s) l.kept)

@@ -1,50 +1,17 @@
-use native.Mathlib.Omega.{arith}
-use Rattle.day.specs.Replaying.{replay_starts}
-use borrow.Author.Rules.{rules}
-use Rattle.day.specs.Replaying.{replaying}
+-- From command to command; behind the last nothing is left.
+use Rattle.std.proofs.Common.{arith, sym}
+use Rattle.commands.specs.Pieces.{command_behind}
+use Rattle.day.specs.Replaying.{replay_starts, replay_goes, replay_ends}
 use Rattle.day.proofs.replay.replay_day.Goals as goal
 
-pub loop-k-init : goal.loop-k-init
-loop-k-init c = replay_starts _ _ _ _ c.requires (omega arith)
+pub loop-command-init : goal.loop-command-init
+loop-command-init c = replay_starts _ _ _ _ c.requires (omega arith)
 
-pub carry_out-requires : goal.carry_out-requires
-carry_out-requires c = search (replaying, rules)
+pub loop-command-smaller : goal.loop-command-smaller
+loop-command-smaller c = command_behind _ _ (sym c.in-Some.ensures)
 
-pub enum_known-next : goal.enum_known-next
-enum_known-next c = search (replaying, rules)
-
-pub overflow_sub-k : goal.overflow_sub-k
-overflow_sub-k c = search (replaying, rules)
-
-pub loop-k-smaller : goal.loop-k-smaller
-loop-k-smaller c = search (replaying, rules)
-
-pub loop-k-preserved : goal.loop-k-preserved
-loop-k-preserved c = search (replaying, rules)
-
-pub enum_told-1 : goal.enum_told-1
-enum_told-1 c = search (replaying, rules)
-
-pub shape_of-area-in-Nothing : goal.shape_of-area-in-Nothing
-shape_of-area-in-Nothing c = search (replaying, rules)
-
-pub shape_of-out-in-Nothing : goal.shape_of-out-in-Nothing
-shape_of-out-in-Nothing c = search (replaying, rules)
-
-pub shape_of-printed-in-Nothing : goal.shape_of-printed-in-Nothing
-shape_of-printed-in-Nothing c = search (replaying, rules)
-
-pub returns-in-Nothing : goal.returns-in-Nothing
-returns-in-Nothing c = search (replaying, rules)
-
-pub shape_of-area : goal.shape_of-area
-shape_of-area c = search (replaying, rules)
-
-pub shape_of-out : goal.shape_of-out
-shape_of-out c = search (replaying, rules)
-
-pub shape_of-printed : goal.shape_of-printed
-shape_of-printed c = search (replaying, rules)
+pub loop-command-preserved : goal.loop-command-preserved
+loop-command-preserved c = replay_goes c.loop-command.invariant c.in-Some.ensures c.carry_out-at.ensures
 
 pub returns : goal.returns
-returns c = search (replaying, rules)
+returns c = replay_ends c.loop-command.invariant c.in_default.ensures

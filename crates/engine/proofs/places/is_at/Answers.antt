@@ -1,19 +1,13 @@
--- `engine::places::is_at` meets its contract: the key there is compared with the other.
-use Rattle.engine.specs.Records.{placing}
+-- The key there is compared with the other.
+use Rattle.std.proofs.Common.{◌∙◌, arith}
+use Rattle.std.proofs.lemmas.Bool.{le-ltb}
 use borrow.Author.Rules.{rules}
+use Rattle.engine.specs.Records.{placing, first_none}
+use Rattle.position.proofs.Keys.{comparing}
 use Rattle.engine.proofs.places.is_at.Goals as goal
 
 pub returns-then-i-n : goal.returns-then-i-n
-returns-then-i-n c = search (placing, rules)
+returns-then-i-n c = search (placing, comparing, rules)
 
-pub position_place-requires : goal.position_place-requires
-position_place-requires c = search (placing, rules)
-
-pub key_at-requires : goal.key_at-requires
-key_at-requires c = search (placing, rules)
-
-pub is_same-requires : goal.is_same-requires
-is_same-requires c = search (placing, rules)
-
-pub returns : goal.returns
-returns c = search (placing, rules)
+pub returns-else-i-n : goal.returns-else-i-n
+returns-else-i-n c = le-ltb _ _ (omega arith) ∙ first_none _ _ _ c.requires _ (omega arith)

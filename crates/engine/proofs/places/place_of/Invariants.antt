@@ -1,5 +1,4 @@
--- A walk past the positions that stand before a key. The loop's invariant: what is booked is booked among those left.
-use Prim.Native.Nat.{◌-◌}
+-- A walk past the positions that stand before a key: what is booked is booked among those left.
 use Rattle.rules.specs.Area.{decode}
 use Rattle.position.specs.Values.{key_value}
 use Rattle.engine.specs.Places.{KeysBefore}
@@ -7,6 +6,3 @@ use Rattle.engine.proofs.places.place_of.Given as goal
 
 abbrev pub invariant-loop-i : goal.invariant-loop-i
 invariant-loop-i l = KeysBefore (key_value l.k) (decode l.area).positions l.i
-
-abbrev pub decreases-loop-i : goal.decreases-loop-i
-decreases-loop-i l = l.n - l.i

@@ -1,6 +1,6 @@
 -- The two numbers of a key.
-use Rattle.engine.specs.Positions.{key_read}
 use borrow.Author.Rules.{rules}
+use Rattle.engine.specs.Positions.{key_read}
 use Rattle.engine.proofs.positions.key_at.Goals as goal
 
 pub returns : goal.returns

@@ -1,6 +1,6 @@
 -- The key of a record and its two totals.
-use Rattle.engine.specs.Positions.{position_read}
 use borrow.Author.Rules.{rules}
+use Rattle.engine.specs.Positions.{position_read}
 use Rattle.engine.proofs.positions.position_at.Goals as goal
 
 pub returns : goal.returns

@@ -1,13 +1,7 @@
 -- The register's text begins with it.
-use Rattle.engine.specs.Texts.{lettering}
 use borrow.Author.Rules.{rules}
+use Rattle.engine.specs.Texts.{lettering}
 use Rattle.engine.proofs.texts.temporary.Goals as goal
-
-pub slice_bounds-result-count : goal.slice_bounds-result-count
-slice_bounds-result-count c = search (lettering, rules)
-
-pub slice_bounds-result-start : goal.slice_bounds-result-start
-slice_bounds-result-start c = search (lettering, rules)
 
 pub slice_bounds-result-end : goal.slice_bounds-result-end
 slice_bounds-result-end c = search (lettering, rules)

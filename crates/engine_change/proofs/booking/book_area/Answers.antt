@@ -26,4 +26,4 @@ pub shape_of-area : goal.shape_of-area
 shape_of-area c = search (booking, rules)
 
 pub returns : goal.returns
-returns c = book_done _ _ _ _ _ _ _ _ c.requires.area_value c.header_of-h.ensures c.requires.can_book c.reference_place-i.ensures c.book_position-k.ensures c.requires.b_in_bounds c.requires.a_bound c.file_reference.ensures c.put_numbers.ensures
+returns c = book_done _ _ _ _ _ _ c.requires.holds_engine c.header_of-h.ensures c.requires.can_book c.reference_place-i.ensures c.book_position-k.ensures c.requires.short c.file_reference.ensures c.put_numbers.ensures

@@ -15,12 +15,6 @@ returns-then-bank-x c = search (filing, rules)
 pub overflow_add-at : goal.overflow_add-at
 overflow_add-at c = search (filing, rules)
 
-pub overflow_sub-b : goal.overflow_sub-b
-overflow_sub-b c = search (filing, rules)
-
-pub overflow_cast-b : goal.overflow_cast-b
-overflow_cast-b c = search (filing, rules)
-
 pub is_before-requires : goal.is_before-requires
 is_before-requires c = search (filing, rules)
 

@@ -17,17 +17,11 @@ overflow_cast-i c = search (filing, rules)
 pub is_before-requires : goal.is_before-requires
 is_before-requires c = search (filing, rules)
 
-pub overflow_add-i-then-is_before : goal.overflow_add-i-then-is_before
-overflow_add-i-then-is_before c = search (filing, rules)
-
-pub loop-i-smaller : goal.loop-i-smaller
-loop-i-smaller c = search (filing, rules)
-
 pub loop-i-preserved : goal.loop-i-preserved
 loop-i-preserved c = search (filing, rules)
 
-pub returns-else-is_before : goal.returns-else-is_before
-returns-else-is_before c = search (filing, rules)
+pub returns-then-not-is_before : goal.returns-then-not-is_before
+returns-then-not-is_before c = search (filing, rules)
 
 pub returns : goal.returns
 returns c = search (filing, rules)

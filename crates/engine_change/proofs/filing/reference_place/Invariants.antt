@@ -1,14 +1,9 @@
 -- A walk past the references that precede it. The loop's invariant: it is put among those left.
-use Prim.Native.Nat.{◌-◌}
 use Rattle.rules.specs.Engine.{filed}
 use Rattle.rules.specs.Area.{decode}
-use Rattle.laws.specs.Parts.{cut}
 use Rattle.laws.specs.Putting.{PutBehind}
 use Rattle.engine.specs.References.{of_bank}
 use Rattle.engine_change.proofs.filing.reference_place.Given as goal
 
 abbrev pub invariant-loop-i : goal.invariant-loop-i
-invariant-loop-i l = PutBehind (filed (of_bank l.bank (cut l.s l.a l.b))) (decode l.area).references l.i
-
-abbrev pub decreases-loop-i : goal.decreases-loop-i
-decreases-loop-i l = l.n - l.i
+invariant-loop-i l = PutBehind (filed (of_bank l.bank l.reference)) (decode l.area).references l.i

@@ -1,22 +1,8 @@
 -- A part of a text and the zeros behind it.
 use Rattle.engine_change.specs.Sets.{opening}
+use Rattle.put.specs.Laying.{wrote_cut}
 use borrow.Author.Rules.{rules}
 use Rattle.engine_change.proofs.parts.put_padded.Goals as goal
 
-pub put_part-o-requires : goal.put_part-o-requires
-put_part-o-requires c = search (opening, rules)
-
-pub overflow_sub-b : goal.overflow_sub-b
-overflow_sub-b c = search (opening, rules)
-
-pub overflow_sub-n : goal.overflow_sub-n
-overflow_sub-n c = search (opening, rules)
-
-pub put_zeros-requires : goal.put_zeros-requires
-put_zeros-requires c = search (opening, rules)
-
-pub shape_of-out : goal.shape_of-out
-shape_of-out c = search (opening, rules)
-
 pub returns : goal.returns
-returns c = search (opening, rules)
+returns c = search (opening, wrote_cut, rules)

@@ -1,7 +1,8 @@
-use Rattle.laws.specs.Moving.{keeping_keep, keeping_end}
+use Rattle.laws.specs.Moving.{keeping_keep, keeping_skip, keeping_end}
 use borrow.Author.Rules.{rules}
 use Rattle.engine_change.specs.Sets.{turning}
 use Rattle.engine_change.proofs.turning.remove_detailed.Goals as goal
+use Rattle.engine_change.proofs.turning.remove_detailed.Goals.{then-stays_at, else-stays_at}
 
 pub loop-i-init : goal.loop-i-init
 loop-i-init c = search (turning, rules)
@@ -21,26 +22,14 @@ stays_at-requires c = search (turning, rules)
 pub keep_record-requires : goal.keep_record-requires
 keep_record-requires c = search (turning, rules)
 
-pub overflow_add-i-then-stays_at : goal.overflow_add-i-then-stays_at
-overflow_add-i-then-stays_at c = search (turning, rules)
-
 pub overflow_add-j : goal.overflow_add-j
 overflow_add-j c = search (turning, rules)
 
-pub loop-i-smaller-then-stays_at : goal.loop-i-smaller-then-stays_at
-loop-i-smaller-then-stays_at c = search (turning, rules)
-
-pub loop-i-preserved-then-stays_at : goal.loop-i-preserved-then-stays_at
-loop-i-preserved-then-stays_at c = keeping_keep c.loop-i.invariant (search rules) c.stays_at.ensures (search rules) c.keep_record.ensures
-
-pub overflow_add-i-else-stays_at : goal.overflow_add-i-else-stays_at
-overflow_add-i-else-stays_at c = search (turning, rules)
-
-pub loop-i-smaller : goal.loop-i-smaller
-loop-i-smaller c = search (turning, rules)
-
 pub loop-i-preserved : goal.loop-i-preserved
-loop-i-preserved c = search (turning, rules)
+loop-i-preserved c = elim c.if-stays_at.branch [
+  | then-stays_at w ↦ rw (w.j-is, w.area-is) (keeping_keep c.loop-i.invariant c.loop-i-test.true c.stays_at.ensures w.if-stays_at.true w.keep_record.ensures)
+  | else-stays_at w ↦ rw (w.j-is, w.area-is) (keeping_skip c.loop-i.invariant c.loop-i-test.true c.stays_at.ensures w.if-stays_at.false)
+]
 
 pub overflow_mul-j : goal.overflow_mul-j
 overflow_mul-j c = search (turning, rules)

@@ -2,31 +2,15 @@
 use borrow.Author.Rules.{rules}
 use Rattle.engine_laws.specs.Ways.{limit_holds, limit_failed, calling}
 use Rattle.engine_laws.specs.Texts.{ended_fits}
-use Rattle.engine_laws.specs.Ways.{limiting}
 use Rattle.engine_check.proofs.accepted.ended_fits.Goals as goal
 
 pub returns-then-n-lt1 : goal.returns-then-n-lt1
 unfolding ended_fits
 returns-then-n-lt1 c = search (limit_holds, limit_failed, calling, rules)
 
-pub overflow_add-end : goal.overflow_add-end
-overflow_add-end c = search (limiting, rules)
-
-pub is_slashed-requires : goal.is_slashed-requires
-is_slashed-requires c = search (limiting, rules)
-
 pub returns-then-is_slashed : goal.returns-then-is_slashed
 unfolding ended_fits
 returns-then-is_slashed c = search (limit_holds, limit_failed, calling, rules)
-
-pub overflow_sub-n : goal.overflow_sub-n
-overflow_sub-n c = search (limiting, rules)
-
-pub zeros_at-requires : goal.zeros_at-requires
-zeros_at-requires c = search (limiting, rules)
-
-pub overflow_sub-result : goal.overflow_sub-result
-overflow_sub-result c = search (limiting, rules)
 
 pub returns : goal.returns
 unfolding ended_fits

@@ -1,14 +1,7 @@
 -- `engine_check::accepted::text_fits` meets its contract: the bytes of a text at first tell where the text ends.
 use borrow.Author.Rules.{rules}
 use Rattle.engine_laws.specs.Texts.{ended_text}
-use Rattle.engine_laws.specs.Ways.{limiting}
 use Rattle.engine_check.proofs.accepted.text_fits.Goals as goal
-
-pub texts_at-requires : goal.texts_at-requires
-texts_at-requires c = search (limiting, rules)
-
-pub ended_fits-requires : goal.ended_fits-requires
-ended_fits-requires c = search (limiting, rules)
 
 pub returns : goal.returns
 returns c = search (ended_text, rules)

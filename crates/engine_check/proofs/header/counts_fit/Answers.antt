@@ -12,12 +12,6 @@ pub returns-then-positions-gt32 : goal.returns-then-positions-gt32
 unfolding counts_test
 returns-then-positions-gt32 c = search (limiting, rules)
 
-pub overflow_mul-result : goal.overflow_mul-result
-overflow_mul-result c = search (limiting, rules)
-
-pub overflow_add-result : goal.overflow_add-result
-overflow_add-result c = search (limiting, rules)
-
 pub returns : goal.returns
 unfolding counts_test
 returns c = search (limiting, rules)

@@ -4,9 +4,6 @@ use Rattle.laws.specs.Parts.{cut}
 use Rattle.engine_laws.specs.Ways.{limiting}
 use Rattle.engine_check.proofs.header.mark_stands.Goals as goal
 
-pub equal_parts-requires : goal.equal_parts-requires
-equal_parts-requires c = search (limiting, rules)
-
 pub returns : goal.returns
 unfolding cut
 returns c = search (limiting, rules)

@@ -1,17 +1,13 @@
--- `engine_check::positions::date_fits` meets its contract: the date exists and is no later than the day.
-use borrow.Author.Rules.{rules}
-use Rattle.engine_laws.specs.Ways.{calling}
+-- The date exists and is no later than the day.
+use Rattle.std.proofs.Common.{arith}
+use Rattle.std.proofs.lemmas.Bool.Decides.{nat_tests}
 use Rattle.engine_laws.specs.Tests.{date_test}
-use Rattle.engine_laws.specs.Ways.{limiting}
 use Rattle.engine_check.proofs.positions.date_fits.Goals as goal
 
-pub exists-requires : goal.exists-requires
-exists-requires c = search (limiting, rules)
-
-pub returns-then-not-exists : goal.returns-then-not-exists
+pub returns-then-exists : goal.returns-then-exists
 unfolding date_test
-returns-then-not-exists c = search (calling, rules)
+returns-then-exists c = grind (arith, nat_tests)
 
-pub returns : goal.returns
+pub returns-else-exists : goal.returns-else-exists
 unfolding date_test
-returns c = search (calling, rules)
+returns-else-exists c = grind (arith, nat_tests)

@@ -1,36 +1,15 @@
--- `engine_check::positions::position_fits` meets its contract: the tests of a position in their order.
-use Rattle.engine_laws.specs.Tests.{value_at, position_fits, position_test}
-use Rattle.engine_laws.specs.Ways.{calling, limiting}
-use Rattle.engine_check.specs.Read.{positions}
+-- The bank, the byte for a block, and what was read.
 use borrow.Author.Rules.{rules}
+use Rattle.account.specs.Part.{part_at}
+use Rattle.engine_laws.specs.Tests.{position_test, position_fits, value_at}
+use Rattle.engine_laws.specs.Ways.{calling}
+use Rattle.engine_check.specs.Read.{positions}
 use Rattle.engine_check.proofs.positions.position_fits.Goals as goal
 
-pub is_bic-requires : goal.is_bic-requires
-is_bic-requires c = search (limiting, rules)
-
-pub returns-then-not-is_bic : goal.returns-then-not-is_bic
+pub returns-then-zeros_hold : goal.returns-then-zeros_hold
 unfolding position_test position_fits value_at
-returns-then-not-is_bic c = search (calling, positions, rules)
+returns-then-zeros_hold c = let b = rw (part_at c.args.area.now c.args.p 8) at c.is_bic.ensures in search (calling, positions, rules)
 
-pub overflow_add-p : goal.overflow_add-p
-overflow_add-p c = search (limiting, rules)
-
-pub overflow_add-p-2 : goal.overflow_add-p-2
-overflow_add-p-2 c = search (limiting, rules)
-
-pub zeros_hold-requires : goal.zeros_hold-requires
-zeros_hold-requires c = search (limiting, rules)
-
-pub returns-then-not-zeros_hold : goal.returns-then-not-zeros_hold
+pub returns-else-zeros_hold : goal.returns-else-zeros_hold
 unfolding position_test position_fits value_at
-returns-then-not-zeros_hold c = search (calling, positions, rules)
-
-pub position_at-requires : goal.position_at-requires
-position_at-requires c = search (limiting, rules)
-
-pub values_fit-requires : goal.values_fit-requires
-values_fit-requires c = search (limiting, rules)
-
-pub returns : goal.returns
-unfolding position_test position_fits value_at
-returns c = search (calling, positions, rules)
+returns-else-zeros_hold c = let b = rw (part_at c.args.area.now c.args.p 8) at c.is_bic.ensures in search (calling, positions, rules)

@@ -1,17 +1,13 @@
--- `engine_check::positions::values_fit` meets its contract: the date, then both totals.
+-- The date, then both totals.
+use Rattle.std.proofs.Common.{arith}
+use Rattle.std.proofs.lemmas.Bool.Decides.{nat_tests}
 use Rattle.engine_laws.specs.Tests.{values_test}
-use Rattle.engine_laws.specs.Ways.{calling, limit_holds, limit_failed}
-use borrow.Author.Rules.{rules}
 use Rattle.engine_check.proofs.positions.values_fit.Goals as goal
 
-pub returns-then-not-date_fits : goal.returns-then-not-date_fits
+pub returns-then-q-le-LIMIT : goal.returns-then-q-le-LIMIT
 unfolding values_test
-returns-then-not-date_fits c = search (calling, limit_holds, limit_failed, rules)
+returns-then-q-le-LIMIT c = grind (arith, nat_tests)
 
-pub returns-then-q-gt-LIMIT : goal.returns-then-q-gt-LIMIT
+pub returns-else-q-le-LIMIT : goal.returns-else-q-le-LIMIT
 unfolding values_test
-returns-then-q-gt-LIMIT c = search (calling, limit_holds, limit_failed, rules)
-
-pub returns : goal.returns
-unfolding values_test
-returns c = search (calling, limit_holds, limit_failed, rules)
+returns-else-q-le-LIMIT c = grind (arith, nat_tests)

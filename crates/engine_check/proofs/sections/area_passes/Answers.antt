@@ -1,6 +1,6 @@
 -- The tests of the area in their order; a header that passed bounds the numbers of records.
 use Rattle.engine_laws.specs.Tests.{area_test}
-use Rattle.engine_laws.specs.Ways.{limit_holds, limit_failed, calling, limiting}
+use Rattle.engine_laws.specs.Ways.{limit_holds, limit_failed, calling}
 use Rattle.engine_check.specs.Read.{read}
 use borrow.Author.Rules.{rules}
 use Rattle.engine_check.proofs.sections.area_passes.Goals as goal
@@ -8,12 +8,6 @@ use Rattle.engine_check.proofs.sections.area_passes.Goals as goal
 pub returns-then-area-lt-AREA : goal.returns-then-area-lt-AREA
 unfolding area_test
 returns-then-area-lt-AREA c = search (limit_holds, limit_failed, calling, read, rules)
-
-pub header_at-h-requires : goal.header_at-h-requires
-header_at-h-requires c = search (limiting, rules)
-
-pub header_holds-requires : goal.header_holds-requires
-header_holds-requires c = search (limiting, rules)
 
 pub returns-then-not-header_holds : goal.returns-then-not-header_holds
 unfolding area_test
@@ -32,9 +26,6 @@ positions_hold-requires c = search (read, rules)
 pub returns-then-not-positions_hold : goal.returns-then-not-positions_hold
 unfolding area_test
 returns-then-not-positions_hold c = search (limit_holds, limit_failed, calling, read, rules)
-
-pub texts_hold-requires : goal.texts_hold-requires
-texts_hold-requires c = search (limiting, rules)
 
 pub returns : goal.returns
 unfolding area_test

@@ -1,13 +1,8 @@
 -- `engine_check::sections::limits_hold` meets its contract: an area of bytes holds an engine exactly if it passes.
 use mathlib.Core.Path.{◌∙◌, sym}
 use native.Mathlib.Omega.{arith}
-use borrow.Author.Rules.{rules}
 use Rattle.engine_laws.specs.Holding.{holds_tests}
-use Rattle.engine_laws.specs.Ways.{limiting}
 use Rattle.engine_check.proofs.sections.limits_hold.Goals as goal
-
-pub area_passes-requires : goal.area_passes-requires
-area_passes-requires c = search (limiting, rules)
 
 pub returns : goal.returns
 returns c = c.area_passes.ensures ∙ sym (holds_tests _ (λ i. omega (arith, c.shared_slice_known-1.given i)))

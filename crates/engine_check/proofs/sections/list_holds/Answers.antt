@@ -4,17 +4,8 @@ use Rattle.engine_laws.specs.Ways.{lettering}
 use borrow.Author.Rules.{rules}
 use Rattle.engine_check.proofs.sections.list_holds.Goals as goal
 
-pub length_at-requires : goal.length_at-requires
-length_at-requires c = search (lettering, rules)
-
 pub returns-then-length_at-gt-LONGEST : goal.returns-then-length_at-gt-LONGEST
 returns-then-length_at-gt-LONGEST c = search (lettering, rules)
-
-pub text_at-requires : goal.text_at-requires
-text_at-requires c = search (lettering, rules)
-
-pub list_passes-requires : goal.list_passes-requires
-list_passes-requires c = search (lettering, rules)
 
 pub returns : goal.returns
 unfolding is_list

@@ -18,11 +18,8 @@ list_holds-requires c = search (read, rules)
 pub returns-then-not-list_holds : goal.returns-then-not-list_holds
 returns-then-not-list_holds c = search (read, rules)
 
-pub text_place-requires : goal.text_place-requires
-text_place-requires c = search (lettering, rules)
-
-pub zeros_hold-requires : goal.zeros_hold-requires
-zeros_hold-requires c = search (read, rules)
+pub zeros_hold-requires-clause-a_le_b : goal.zeros_hold-requires-clause-a_le_b
+zeros_hold-requires-clause-a_le_b c = search (read, rules)
 
 pub returns : goal.returns
 returns c = search (read, rules)

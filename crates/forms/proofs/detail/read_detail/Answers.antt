@@ -1,67 +1,25 @@
--- `forms::detail::read_detail` meets its contract: where the rows are matched, the detail is what the amount and the two dates make of them.
-use Rattle.forms.specs.Details.{detail_three}
-use Rattle.forms.specs.Details.{detailing}
-use borrow.Author.Rules.{rules}
+-- Where the rows are matched, the detail is what the amount and the two dates make of them.
+use Rattle.std.proofs.Common.{rules}
+use Rattle.forms.specs.Details.{no_detail_rows, detail_three, detailing}
 use Rattle.forms.proofs.detail.read_detail.Goals as goal
 
-pub read_rows-rows-requires : goal.read_rows-rows-requires
-read_rows-rows-requires c = search (detailing, rules)
-
-pub bounds-spans-1 : goal.bounds-spans-1
-bounds-spans-1 c = search (detailing, rules)
-
-pub amount_in-requires : goal.amount_in-requires
-amount_in-requires c = search (detailing, rules)
-
-pub enum_known-amount : goal.enum_known-amount
-enum_known-amount c = search (detailing, rules)
-
-pub bounds-spans-13 : goal.bounds-spans-13
-bounds-spans-13 c = search (detailing, rules)
-
-pub date_in-requires : goal.date_in-requires
-date_in-requires c = search (detailing, rules)
-
-pub enum_known-date : goal.enum_known-date
-enum_known-date c = search (detailing, rules)
-
-pub bounds-spans-14 : goal.bounds-spans-14
-bounds-spans-14 c = search (detailing, rules)
-
-pub date_in-requires-in-Value-date_in : goal.date_in-requires-in-Value-date_in
-date_in-requires-in-Value-date_in c = search (detailing, rules)
-
-pub enum_told-1 : goal.enum_told-1
-enum_told-1 c = search (detailing, rules)
-
-pub returns-in-Value-date_in-2 : goal.returns-in-Value-date_in-2
-returns-in-Value-date_in-2 c = let k = (
-    detail_three _ _ _ c.read_rows-rows.ensures c.if-rows.true) in
-    search (detailing, rules)
-
-pub enum_told-in_default-date_in-2 : goal.enum_told-in_default-date_in-2
-enum_told-in_default-date_in-2 c = search (detailing, rules)
-
-pub enum_told-in_default-date_in : goal.enum_told-in_default-date_in
-enum_told-in_default-date_in c = search (detailing, rules)
-
-pub enum_told-in_default : goal.enum_told-in_default
-enum_told-in_default c = search (detailing, rules)
-
-pub returns-in_default-date_in-2 : goal.returns-in_default-date_in-2
-returns-in_default-date_in-2 c = let k = (
-    detail_three _ _ _ c.read_rows-rows.ensures c.if-rows.true) in
-    search (detailing, rules)
-
-pub returns-in_default-date_in : goal.returns-in_default-date_in
-returns-in_default-date_in c = let k = (
-    detail_three _ _ _ c.read_rows-rows.ensures c.if-rows.true) in
-    search (detailing, rules)
+pub returns-in_err-rows : goal.returns-in_err-rows
+returns-in_err-rows c = rw c.from_residual.ensures (no_detail_rows _ _ (c.in_err-rows.ensures {u = tt}))
 
 pub returns-in_default : goal.returns-in_default
-returns-in_default c = let k = (
-    detail_three _ _ _ c.read_rows-rows.ensures c.if-rows.true) in
-    search (detailing, rules)
+returns-in_default c = let k = (detail_three _ _ _ (c.in_ok-rows.ensures {u = tt})) in search (detailing, rules)
 
-pub returns-else-rows : goal.returns-else-rows
-returns-else-rows c = search (detailing, rules)
+pub returns-in_default-date_in : goal.returns-in_default-date_in
+returns-in_default-date_in c = let k = (detail_three _ _ _ (c.in_ok-rows.ensures {u = tt})) in search (detailing, rules)
+
+pub returns-in_default-date_in-2 : goal.returns-in_default-date_in-2
+returns-in_default-date_in-2 c = let k = (detail_three _ _ _ (c.in_ok-rows.ensures {u = tt})) in search (detailing, rules)
+
+pub returns : goal.returns
+returns c = let w = c.in_ok-rows.ensures {u = tt} in let k = (detail_three _ _ _ w) in record {
+  same = search (detailing, rules);
+  next = w.next;
+  within = w.within;
+  small = search (detailing, rules);
+  stand = w.stand;
+}

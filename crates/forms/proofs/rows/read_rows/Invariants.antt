@@ -1,10 +1,7 @@
 -- The rows matched so far stand before what the rows that are left make of the text behind the reader's place.
-use Rattle.std.proofs.Common.{◌≡◌, ◌-◌}
+use Rattle.std.proofs.Common.{◌≡◌}
 use Rattle.forms.specs.Rows.{Rowing}
 use Rattle.forms.proofs.rows.read_rows.Given as goal
 
 abbrev pub invariant-loop-i : goal.invariant-loop-i
-invariant-loop-i l = record { rowing : Rowing l.s l.at l.first l.count l.spans l.r.at l.i; text : l.r.text.now ≡ l.s }
-
-abbrev pub decreases-loop-i : goal.decreases-loop-i
-decreases-loop-i l = l.count - l.i
+invariant-loop-i l = record { rowing : Rowing l.s l.at l.first l.count l.spans l.reader.at l.i; text : l.reader.text.now ≡ l.s }

@@ -1,74 +1,26 @@
--- `forms::transfer::read_transfer` meets its contract: where the rows are matched and the closing line follows, the transfer is what the amount and the two dates make of them.
---
-use Rattle.forms.specs.Transfers.{transfer_three}
-use Rattle.forms.specs.Transfers.{transferring}
-use borrow.Author.Rules.{rules}
+-- Where the rows are matched and the closing line follows, the transfer is what the date, the amount and BAEREF's date make of them.
+use Rattle.std.proofs.Common.{rules}
+use Rattle.forms.specs.Transfers.{no_transfer_rows, transfer_open, transfer_three, transferring}
 use Rattle.forms.proofs.transfer.read_transfer.Goals as goal
 
-pub read_rows-rows-requires : goal.read_rows-rows-requires
-read_rows-rows-requires c = search (transferring, rules)
+pub returns-in_err-rows : goal.returns-in_err-rows
+returns-in_err-rows c = rw c.from_residual.ensures (no_transfer_rows _ (c.in_err-rows.ensures {u = tt}))
 
-pub closes_at-requires : goal.closes_at-requires
-closes_at-requires c = search (transferring, rules)
-
-pub bounds-spans-2 : goal.bounds-spans-2
-bounds-spans-2 c = search (transferring, rules)
-
-pub date_in-requires : goal.date_in-requires
-date_in-requires c = search (transferring, rules)
-
-pub enum_known-date : goal.enum_known-date
-enum_known-date c = search (transferring, rules)
-
-pub bounds-spans-2-in-Value : goal.bounds-spans-2-in-Value
-bounds-spans-2-in-Value c = search (transferring, rules)
-
-pub amount_in-requires : goal.amount_in-requires
-amount_in-requires c = search (transferring, rules)
-
-pub enum_known-amount : goal.enum_known-amount
-enum_known-amount c = search (transferring, rules)
-
-pub bounds-spans-21 : goal.bounds-spans-21
-bounds-spans-21 c = search (transferring, rules)
-
-pub date_in-requires-in-Value-amount_in : goal.date_in-requires-in-Value-amount_in
-date_in-requires-in-Value-amount_in c = search (transferring, rules)
-
-pub enum_told-1 : goal.enum_told-1
-enum_told-1 c = search (transferring, rules)
-
-pub returns-in-Value-date_in : goal.returns-in-Value-date_in
-returns-in-Value-date_in c = let k = (
-    transfer_three _ _ c.read_rows-rows.ensures c.if-rows.true _ c.closes_at.ensures c.if-closes_at.true) in
-    search (transferring, rules)
-
-pub enum_told-in_default-date_in : goal.enum_told-in_default-date_in
-enum_told-in_default-date_in c = search (transferring, rules)
-
-pub enum_told-in_default-amount_in : goal.enum_told-in_default-amount_in
-enum_told-in_default-amount_in c = search (transferring, rules)
-
-pub enum_told-in_default : goal.enum_told-in_default
-enum_told-in_default c = search (transferring, rules)
-
-pub returns-in_default-date_in : goal.returns-in_default-date_in
-returns-in_default-date_in c = let k = (
-    transfer_three _ _ c.read_rows-rows.ensures c.if-rows.true _ c.closes_at.ensures c.if-closes_at.true) in
-    search (transferring, rules)
-
-pub returns-in_default-amount_in : goal.returns-in_default-amount_in
-returns-in_default-amount_in c = let k = (
-    transfer_three _ _ c.read_rows-rows.ensures c.if-rows.true _ c.closes_at.ensures c.if-closes_at.true) in
-    search (transferring, rules)
+pub returns-then-not-closes_at : goal.returns-then-not-closes_at
+returns-then-not-closes_at c = transfer_open _ _ (c.in_ok-rows.ensures {u = tt}) _ c.closes_at.ensures c.if-not-closes_at.true
 
 pub returns-in_default : goal.returns-in_default
-returns-in_default c = let k = (
-    transfer_three _ _ c.read_rows-rows.ensures c.if-rows.true _ c.closes_at.ensures c.if-closes_at.true) in
-    search (transferring, rules)
+returns-in_default c = let k = (transfer_three _ _ (c.in_ok-rows.ensures {u = tt}) _ c.closes_at.ensures c.if-not-closes_at.false) in search (transferring, rules)
 
-pub returns-else-closes_at : goal.returns-else-closes_at
-returns-else-closes_at c = search (transferring, rules)
+pub returns-in_default-amount_in : goal.returns-in_default-amount_in
+returns-in_default-amount_in c = let k = (transfer_three _ _ (c.in_ok-rows.ensures {u = tt}) _ c.closes_at.ensures c.if-not-closes_at.false) in search (transferring, rules)
 
-pub returns-else-rows : goal.returns-else-rows
-returns-else-rows c = search (transferring, rules)
+pub returns-in_default-date_in : goal.returns-in_default-date_in
+returns-in_default-date_in c = let k = (transfer_three _ _ (c.in_ok-rows.ensures {u = tt}) _ c.closes_at.ensures c.if-not-closes_at.false) in search (transferring, rules)
+
+pub returns : goal.returns
+returns c = let w = c.in_ok-rows.ensures {u = tt} in let k = (transfer_three _ _ w _ c.closes_at.ensures c.if-not-closes_at.false) in record {
+  same = search (transferring, rules);
+  within = w.within;
+  small = search (transferring, rules);
+}

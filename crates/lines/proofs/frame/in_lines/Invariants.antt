@@ -1,10 +1,10 @@
--- The reader stands where the next line begins, over the whole text; what is left to see grows less.
-use Rattle.std.proofs.Common.{◌≡◌}
-use Rattle.lines.specs.Seen.{Seeing, ahead}
+-- The reader stands behind the lines seen; what is left grows less.
+use Rattle.std.proofs.Common.{◌-◌, length}
+use Rattle.lines.specs.Seen.{Sees}
 use Rattle.lines.proofs.frame.in_lines.Given as goal
 
-abbrev pub invariant-loop-seen : goal.invariant-loop-seen
-invariant-loop-seen l = record { seeing : Seeing l.s l.seen; text : l.r.text.now ≡ l.s; place : l.r.at ≡ l.seen.at }
+abbrev pub invariant-loop-reader : goal.invariant-loop-reader
+invariant-loop-reader l = Sees l.s l.last l.reader
 
-abbrev pub decreases-loop-seen : goal.decreases-loop-seen
-decreases-loop-seen l = ahead l.s l.seen
+abbrev pub decreases-loop-reader : goal.decreases-loop-reader
+decreases-loop-reader l = length l.s - l.reader.at

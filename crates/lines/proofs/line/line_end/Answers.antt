@@ -1,50 +1,29 @@
--- `lines::line::line_end` meets its contract: the bytes before the first CR or LF are the line where CR LF stands behind them.
-use native.Mathlib.Omega.{arith}
-use borrow.Author.Rules.{rules}
-use Rattle.lines.specs.Laws.{framing, plain_bad}
+-- A law for each way out of the loop over the bytes.
+use Rattle.std.proofs.Common.{arith}
+use Rattle.lines.specs.Laws.{line_starts_at, none_behind, found, cr_alone, lf_alone, passed}
 use Rattle.lines.proofs.line.line_end.Goals as goal
+use Rattle.lines.proofs.line.line_end.Goals.{else-i-s-via-then-i-s+else-s-i-eq10, else-i-s-via-else-i-s, then-c-lt14+else-c-eq13+else-c-eq10, else-c-lt14}
 
-pub overflow_sub-n : goal.overflow_sub-n
-overflow_sub-n c = search (framing, rules)
+pub loop-k-init : goal.loop-k-init
+loop-k-init c = line_starts_at _ _
 
-pub far_end-requires : goal.far_end-requires
-far_end-requires c = search (framing, rules)
+pub returns-then-s-i-eq10 : goal.returns-then-s-i-eq10
+returns-then-s-i-eq10 c = found _ _ _ c.loop-k.invariant c.loop-k-test.true c.if-c-eq13.true c.if-i-s.true c.if-s-i-eq10.true
 
-pub returns-then-n-ge65536 : goal.returns-then-n-ge65536
-returns-then-n-ge65536 c = search (framing, rules)
+pub returns-then-c-eq13 : goal.returns-then-c-eq13
+returns-then-c-eq13 c = cr_alone _ _ _ c.loop-k.invariant c.loop-k-test.true c.if-c-eq13.true (elim c.else-i-s.branch [
+  | else-i-s-via-then-i-s+else-s-i-eq10 w ↦ λ l d. w.if-s-i-eq10.false d
+  | else-i-s-via-else-i-s w ↦ λ l d. omega (arith, w.if-i-s.false)
+])
 
-pub overflow_cast-n : goal.overflow_cast-n
-overflow_cast-n c = search (framing, rules)
+pub returns-then-c-eq10 : goal.returns-then-c-eq10
+returns-then-c-eq10 c = lf_alone _ _ _ c.loop-k.invariant c.loop-k-test.true c.if-c-eq13.false c.if-c-eq10.true
 
-pub plain_at-k-requires : goal.plain_at-k-requires
-plain_at-k-requires c = search (framing, rules)
-
-pub overflow_cast-i : goal.overflow_cast-i
-overflow_cast-i c = search (framing, rules)
-
-pub overflow_add-i : goal.overflow_add-i
-overflow_add-i c = search (framing, rules)
-
-pub overflow_add-i-2 : goal.overflow_add-i-2
-overflow_add-i-2 c = search (framing, rules)
-
-pub returns-then-i-s : goal.returns-then-i-s
-returns-then-i-s c = search (framing, rules)
-
-pub bounds-s-i : goal.bounds-s-i
-bounds-s-i c = search (framing, rules)
-
-pub returns-then-s-i-ne13 : goal.returns-then-s-i-ne13
-returns-then-s-i-ne13 c = record { told = record { same = plain_bad _ _ _ _ c.plain_at-k.ensures (omega arith) (omega arith) (search rules) } }
-
-pub overflow_add-i-3 : goal.overflow_add-i-3
-overflow_add-i-3 c = search (framing, rules)
-
-pub bounds-s-i-2 : goal.bounds-s-i-2
-bounds-s-i-2 c = search (framing, rules)
-
-pub returns-then-s-i-ne10 : goal.returns-then-s-i-ne10
-returns-then-s-i-ne10 c = search (framing, rules)
+pub loop-k-preserved : goal.loop-k-preserved
+loop-k-preserved c = elim c.if-c-lt14.branch [
+  | then-c-lt14+else-c-eq13+else-c-eq10 w ↦ passed _ _ _ c.loop-k.invariant c.loop-k-test.true w.if-c-eq13.false w.if-c-eq10.false
+  | else-c-lt14 w ↦ passed _ _ _ c.loop-k.invariant c.loop-k-test.true (λ e. omega (arith, w.if-c-lt14.false)) (λ e. omega (arith, w.if-c-lt14.false))
+]
 
 pub returns : goal.returns
-returns c = search (framing, rules)
+returns c = none_behind _ _ _ c.loop-k.invariant (omega arith) c.requires

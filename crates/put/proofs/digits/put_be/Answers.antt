@@ -1,17 +1,8 @@
 -- The bytes of a number are the last of its eight.
-use borrow.Author.Rules.{rules}
-use Rattle.laws.specs.Sets.{writing}
-use Rattle.put.specs.Groups.{grouping}
+use native.Mathlib.Omega.{arith}
+use mathlib.Core.Path.{◌∙◌}
+use Rattle.put.specs.Groups.{last_wrote, be_bytes}
 use Rattle.put.proofs.digits.put_be.Goals as goal
 
-pub eight_bytes-d-requires : goal.eight_bytes-d-requires
-eight_bytes-d-requires c = search (writing, grouping, rules)
-
-pub put_last-requires : goal.put_last-requires
-put_last-requires c = search (writing, grouping, rules)
-
-pub shape_of-out : goal.shape_of-out
-shape_of-out c = search (writing, grouping, rules)
-
 pub returns : goal.returns
-returns c = search (writing, grouping, rules)
+returns c = last_wrote 256 0 c.args.k c.args.v c.to_be_bytes.result (c.to_be_bytes.ensures ∙ be_bytes _ (omega arith)) (omega arith) c.put_last.ensures

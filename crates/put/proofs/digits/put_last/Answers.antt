@@ -1,20 +1,12 @@
--- Places behind the nulls that stand in front of them.
-use borrow.Author.Rules.{rules}
-use Rattle.laws.specs.Sets.{writing}
-use Rattle.put.specs.Groups.{grouping}
+-- The last of the eight, or all of them behind the nulls.
+use native.Mathlib.Omega.{arith}
+use Rattle.std.proofs.Common.{rules}
+use Rattle.put.specs.Groups.{last_few, last_more}
+use Rattle.put.specs.Laying.{wrote_cut}
 use Rattle.put.proofs.digits.put_last.Goals as goal
 
-pub put_nulls-a-requires : goal.put_nulls-a-requires
-put_nulls-a-requires c = search (writing, grouping, rules)
-
-pub first_of-requires : goal.first_of-requires
-first_of-requires c = search (writing, grouping, rules)
-
-pub put_part-requires : goal.put_part-requires
-put_part-requires c = search (writing, grouping, rules)
-
-pub shape_of-out : goal.shape_of-out
-shape_of-out c = search (writing, grouping, rules)
+pub returns-then-k-le8 : goal.returns-then-k-le8
+returns-then-k-le8 c = last_few _ _ _ (omega arith) (wrote_cut _ _ _ c.put_bytes.ensures)
 
 pub returns : goal.returns
-returns c = search (writing, grouping, rules)
+returns c = last_more _ _ _ (omega arith) (search rules) c.put_same-a.ensures c.put_bytes-2.ensures

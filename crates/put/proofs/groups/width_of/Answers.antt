@@ -1,41 +1,11 @@
--- How many digits a number has, by the powers of ten that it lies between.
+-- A number between two powers of ten has one digit more than the lower one's exponent.
 use mathlib.Core.Path.{refl}
 use native.Mathlib.Omega.{arith}
-use Rattle.laws.specs.Digits.{width_is}
+use Rattle.laws.specs.Digits.{width_is, width_first}
 use Rattle.put.proofs.groups.width_of.Goals as goal
 
-pub returns-then-v-lt1000000000 : goal.returns-then-v-lt1000000000
-returns-then-v-lt1000000000 c = width_is 8 _ _ (omega arith) (omega arith) (omega arith) refl
-
-pub returns-then-v-lt10000000000 : goal.returns-then-v-lt10000000000
-returns-then-v-lt10000000000 c = width_is 9 _ _ (omega arith) (omega arith) (omega arith) refl
-
-pub returns-then-v-lt100000000000 : goal.returns-then-v-lt100000000000
-returns-then-v-lt100000000000 c = width_is 10 _ _ (omega arith) (omega arith) (omega arith) refl
-
-pub returns-then-v-lt1000000000000 : goal.returns-then-v-lt1000000000000
-returns-then-v-lt1000000000000 c = width_is 11 _ _ (omega arith) (omega arith) (omega arith) refl
-
-pub returns-then-v-lt10000000000000 : goal.returns-then-v-lt10000000000000
-returns-then-v-lt10000000000000 c = width_is 12 _ _ (omega arith) (omega arith) (omega arith) refl
-
-pub returns-then-v-lt100000000000000 : goal.returns-then-v-lt100000000000000
-returns-then-v-lt100000000000000 c = width_is 13 _ _ (omega arith) (omega arith) (omega arith) refl
-
-pub returns-then-v-lt1000000000000000 : goal.returns-then-v-lt1000000000000000
-returns-then-v-lt1000000000000000 c = width_is 14 _ _ (omega arith) (omega arith) (omega arith) refl
-
-pub returns-then-v-lt10000000000000000 : goal.returns-then-v-lt10000000000000000
-returns-then-v-lt10000000000000000 c = width_is 15 _ _ (omega arith) (omega arith) (omega arith) refl
-
-pub returns-then-v-lt100000000000000000 : goal.returns-then-v-lt100000000000000000
-returns-then-v-lt100000000000000000 c = width_is 16 _ _ (omega arith) (omega arith) (omega arith) refl
-
-pub returns-then-v-lt1000000000000000000 : goal.returns-then-v-lt1000000000000000000
-returns-then-v-lt1000000000000000000 c = width_is 17 _ _ (omega arith) (omega arith) (omega arith) refl
-
-pub returns-then-v-lt10000000000000000000 : goal.returns-then-v-lt10000000000000000000
-returns-then-v-lt10000000000000000000 c = width_is 18 _ _ (omega arith) (omega arith) (omega arith) refl
+pub returns-then-v-eq0 : goal.returns-then-v-eq0
+returns-then-v-eq0 c = width_first _ _ (omega arith) refl
 
 pub returns : goal.returns
-returns c = width_is 19 _ _ (omega arith) (omega arith) (omega arith) refl
+returns c = width_is c.ilog10.result _ _ (omega arith) c.ilog10.ensures.power_le (omega arith) (omega arith)

@@ -1,14 +1,12 @@
--- All of a slice is its part from the first index to its length.
-use borrow.Author.Rules.{rules}
-use Rattle.laws.specs.Parts.{cut_all}
-use Rattle.laws.specs.Sets.{writing}
+-- As much of the bytes as the output has room for.
+use native.Mathlib.Omega.{arith}
+use Rattle.put.specs.Laying.{part_wrote, wrote_behind}
 use Rattle.put.proofs.parts.put_bytes.Goals as goal
-
-pub put_part-requires : goal.put_part-requires
-put_part-requires c = search (writing, rules)
-
-pub shape_of-out : goal.shape_of-out
-shape_of-out c = search (writing, rules)
+use Rattle.put.proofs.parts.put_bytes.Goals.{then-at-out, else-at-out}
 
 pub returns : goal.returns
-returns c = rw cut_all at (c.put_part.ensures)
+returns c =
+    elim c.if-at-out.branch [
+      | then-at-out w ↦ part_wrote _ _ w.min-n.ensures (omega arith) (omega arith) w.out-is (omega arith) w.copy_from_slice.ensures.after c.step.ensures
+      | else-at-out w ↦ wrote_behind _ w.if-at-out.false (omega arith) w.out-is c.step.ensures
+    ]

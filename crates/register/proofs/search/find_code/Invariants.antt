@@ -1,11 +1,6 @@
 -- `register::search::find_code` meets its contract. The loop's invariant: the code stands beside the same IBAN among the lines that are left as among all.
-use Prim.Native.Nat.{◌+◌, ◌-◌}
-use Rattle.laws.specs.Parts.{cut}
 use Rattle.register.specs.Searching.{Seeking}
 use Rattle.register.proofs.search.find_code.Given as goal
 
 abbrev pub invariant-loop-j : goal.invariant-loop-j
-invariant-loop-j l = Seeking l.text (cut l.s l.a (l.a + 10)) l.codes.at l.codes.lines l.j
-
-abbrev pub decreases-loop-j : goal.decreases-loop-j
-decreases-loop-j l = l.codes.lines - l.j
+invariant-loop-j l = Seeking l.text l.code l.codes.at l.codes.lines l.j

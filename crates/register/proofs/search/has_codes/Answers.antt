@@ -3,8 +3,5 @@ use Rattle.register.specs.Sets.{seeking}
 use borrow.Author.Rules.{rules}
 use Rattle.register.proofs.search.has_codes.Goals as goal
 
-pub codes_of-codes-requires : goal.codes_of-codes-requires
-codes_of-codes-requires c = search (seeking, rules)
-
 pub returns : goal.returns
 returns c = search (seeking, rules)

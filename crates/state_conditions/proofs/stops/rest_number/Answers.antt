@@ -9,8 +9,8 @@ is_over-over-requires c = search (stops, rules)
 pub returns-then-over : goal.returns-then-over
 returns-then-over c = search (stops, rules)
 
-pub returns-then-t : goal.returns-then-t
-returns-then-t c = search (stops, rules)
+pub returns-then-is_some : goal.returns-then-is_some
+returns-then-is_some c = search (stops, rules)
 
 pub returns-then-n-ge32 : goal.returns-then-n-ge32
 returns-then-n-ge32 c = search (stops, rules)

@@ -1,30 +1,20 @@
--- `text::against::fits_sign` meets its contract: the tests on the sign are those of the definition, in its order.
-use borrow.Author.Rules.{rules}
+use Rattle.std.proofs.Common.{rules}
 use Rattle.rules.specs.Text.{fits_sign}
 use Rattle.laws.specs.Tests.{tests}
 use Rattle.text.proofs.against.fits_sign.Goals as goal
 
-pub is_digit-requires : goal.is_digit-requires
-is_digit-requires c = search (tests, rules)
-
-pub returns-then-p-eq110 : goal.returns-then-p-eq110
+pub returns-in-110 : goal.returns-in-110
 unfolding fits_sign
-returns-then-p-eq110 c = search (tests, rules)
+returns-in-110 c = search (tests, rules)
 
-pub is_letter-requires : goal.is_letter-requires
-is_letter-requires c = search (tests, rules)
-
-pub returns-then-p-eq97 : goal.returns-then-p-eq97
+pub returns-in-97 : goal.returns-in-97
 unfolding fits_sign
-returns-then-p-eq97 c = search (tests, rules)
+returns-in-97 c = search (tests, rules)
 
-pub is_alnum-requires : goal.is_alnum-requires
-is_alnum-requires c = search (tests, rules)
-
-pub returns-then-p-eq99 : goal.returns-then-p-eq99
+pub returns-in-99 : goal.returns-in-99
 unfolding fits_sign
-returns-then-p-eq99 c = search (tests, rules)
+returns-in-99 c = search (tests, rules)
 
-pub returns : goal.returns
+pub returns-in_default : goal.returns-in_default
 unfolding fits_sign
-returns c = search (tests, rules)
+returns-in_default c = search (tests, rules)

@@ -8,6 +8,3 @@ use Rattle.text.proofs.numbers.read_be.Given as goal
 
 abbrev pub invariant-loop-i : goal.invariant-loop-i
 invariant-loop-i l = (l.a ≤ l.i) × (l.i ≤ l.b) × (l.v < power 256 (l.i - l.a)) × (number_from l.v (cut l.s l.i l.b) ≡ big_endian (cut l.s l.a l.b))
-
-abbrev pub decreases-loop-i : goal.decreases-loop-i
-decreases-loop-i l = l.b - l.i

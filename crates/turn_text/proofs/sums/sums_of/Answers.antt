@@ -1,27 +1,9 @@
-use borrow.Author.Rules.{rules}
-use Rattle.turn_text.specs.Sums.{summing}
+use native.Mathlib.Omega.{arith}
+use Rattle.turn_text.specs.Sums.{sums_turn, sums_end}
 use Rattle.turn_text.proofs.sums.sums_of.Goals as goal
 
-pub loop-k-init : goal.loop-k-init
-loop-k-init c = search (summing, rules)
-
-pub nth_position-requires : goal.nth_position-requires
-nth_position-requires c = search (summing, rules)
-
-pub with_position-s-requires : goal.with_position-s-requires
-with_position-s-requires c = search (summing, rules)
-
-pub overflow_add-i : goal.overflow_add-i
-overflow_add-i c = search (summing, rules)
-
-pub overflow_sub-k : goal.overflow_sub-k
-overflow_sub-k c = search (summing, rules)
-
-pub loop-k-smaller : goal.loop-k-smaller
-loop-k-smaller c = search (summing, rules)
-
-pub loop-k-preserved : goal.loop-k-preserved
-loop-k-preserved c = search (summing, rules)
+pub loop-i-preserved : goal.loop-i-preserved
+loop-i-preserved c = sums_turn _ _ _ _ c.loop-i.invariant (omega arith) c.nth_position.ensures c.with_position-s.ensures
 
 pub returns : goal.returns
-returns c = search (summing, rules)
+returns c = sums_end _ _ _ _ _ c.loop-i.invariant (omega arith) (omega arith)

@@ -5,4 +5,4 @@ use Rattle.written.proofs.corrections.put_field72.Goals as goal
 
 pub returns : goal.returns
 unfolding field72
-returns c = wrote_5 c.put_baeref_row-a.ensures c.put_date_field-b.ensures c.put_bytes-c.ensures c.put_amount_field-d.ensures c.put_detailed_row.ensures
+returns c = wrote_5 c.put_baeref_row-a.ensures c.put_field-b.ensures c.put_bytes-c.ensures c.put_field-d.ensures c.put_detailed_row.ensures

@@ -3,4 +3,4 @@ use Rattle.laws.specs.Pieces.{wrote_4}
 use Rattle.written.proofs.postings.put_debit.Goals as goal
 
 pub returns : goal.returns
-returns c = search wrote_4
+returns g c = search wrote_4

@@ -5,4 +5,4 @@ use Rattle.written.proofs.postings.put_posting.Goals as goal
 
 pub returns : goal.returns
 unfolding posting
-returns c = search wrote_3
+returns g c = search wrote_3

@@ -3,4 +3,4 @@ use Rattle.laws.specs.Pieces.{wrote_4}
 use Rattle.written.proofs.returns.put_opened103.Goals as goal
 
 pub returns : goal.returns
-returns c = wrote_4 c.put_opened-a.ensures c.put_reference_field-b.ensures c.put_bytes-c.ensures c.put_field32a.ensures
+returns c = wrote_4 c.put_opened-a.ensures c.put_field-b.ensures c.put_bytes-c.ensures c.put_field32a.ensures

@@ -8,4 +8,4 @@ pub returns-then-part-lt2 : goal.returns-then-part-lt2
 returns-then-part-lt2 c = linked_first _ _ _ (omega arith) (search rules)
 
 pub returns : goal.returns
-returns c = linked_later _ _ _ (search rules) (omega arith) c.put_reference_field.ensures
+returns c = linked_later _ _ _ (search rules) (omega arith) c.put_field.ensures

@@ -1,0 +1,35 @@
+-- A walk over records, whatever tests them: it answers for every test that says what the calls answer.
+use Rattle.std.specs.Prelude.{◌≡◌, refl, Bool, true, false, ℕ, ◌+◌, ◌-◌, ◌*◌, ◌≤◌, ◌<◌}
+use Rattle.std.proofs.Common.{arith}
+use Rattle.rules.specs.Area.{record_size}
+use Rattle.engine_laws.specs.Walk.{walk, always, walk_more, walk_bad, walk_end}
+
+-- the answers of n calls are those of a test
+abbrev pub Tells : (ℕ → Bool → Type 0) → ℕ → ℕ → (ℕ → Bool) → Type 0
+Tells post n first test = (k : ℕ) (q : Bool) → k < n → post (first + record_size * k) q → q ≡ test (first + record_size * k)
+
+abbrev pub Walks : (ℕ → Bool → Type 0) → ℕ → ℕ → Bool → Type 0
+Walks post n first r = (test : ℕ → Bool) → Tells post n first test → r ≡ walk (always test) n first
+
+-- the records from the k-th on answer for all
+pub record Left (post : ℕ → Bool → Type 0) (n first k : ℕ) : Type 0 where
+  pub same : (test : ℕ → Bool) → Tells post n first test → walk (always test) (n - k) (first + record_size * k) ≡ walk (always test) n first
+
+pub left_all : (post : ℕ → Bool → Type 0) (n first : ℕ) → Left post n first 0
+left_all post n first = record { same = λ test t. let e : n - 0 ≡ n = omega arith in let f : first + record_size * 0 ≡ first = omega arith in rw (e, f) refl }
+
+module _ {post : ℕ → Bool → Type 0} {n first k : ℕ} (l : Left post n first k) where
+  pub left_none : n ≤ k → Walks post n first true
+  left_none h test t = walk_end (always test) (n - k) (first + record_size * k) _ (l.same test t) (omega arith)
+
+  module _ (h : k < n) (q : Bool) (p : post (first + record_size * k) q) where
+    pub left_more : q ≡ true → Left post n first (k + 1)
+    left_more d = record {
+      same = λ test t.
+          let e : n - k - 1 ≡ n - (k + 1) = omega arith in
+          let f : first + record_size * k + record_size ≡ first + record_size * (k + 1) = omega arith in
+          rw (e, f) at (walk_more (always test) (n - k) (first + record_size * k) _ (l.same test t) (omega arith) q (t k q h p) d);
+    }
+
+    pub left_bad : q ≡ false → Walks post n first false
+    left_bad d test t = walk_bad (always test) (n - k) (first + record_size * k) _ (l.same test t) (omega arith) q (t k q h p) d

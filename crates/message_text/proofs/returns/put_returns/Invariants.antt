@@ -1,0 +1,6 @@
+-- `message_text::returns::put_returns` meets its contract. The loop's invariant: the returns from detail j on are left to write.
+use Rattle.message_text.specs.Returns.{ReturnsLeft}
+use Rattle.message_text.proofs.returns.put_returns.Given as goal
+
+abbrev pub invariant-loop-j : goal.invariant-loop-j
+invariant-loop-j l = ReturnsLeft l.initial.o l.book l.text l.s l.kept l.at l.initial.out l.j-index l.o l.a l.out

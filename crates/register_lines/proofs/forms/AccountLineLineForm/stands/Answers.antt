@@ -1,0 +1,16 @@
+-- `AccountLine::stands` meets its contract: an IBAN that passes, both bounds, the end and their order.
+use Rattle.register_lines.specs.Sets.{lining}
+use borrow.Author.Rules.{rules}
+use Rattle.register_lines.proofs.forms.AccountLineLineForm.stands.Goals as goal
+
+pub returns-then-not-iban_passes : goal.returns-then-not-iban_passes
+returns-then-not-iban_passes c = search (lining, rules)
+
+pub returns-then-not-bounds_at : goal.returns-then-not-bounds_at
+returns-then-not-bounds_at c = search (lining, rules)
+
+pub returns-then-not-ends_at : goal.returns-then-not-ends_at
+returns-then-not-ends_at c = search (lining, rules)
+
+pub returns : goal.returns
+returns c = search (lining, rules)

@@ -1,8 +1,0 @@
--- A list of so many zeros has that length.
-use mathlib.Core.Path.{sym}
-use Prim.Native.Nat.{ℕ}
-use lib.ListN.{length-replicate}
-use Rattle.replay_vectors.proofs.input_room.Goals as goal
-
-pub returns : goal.returns
-returns c = sym (length-replicate {0} {A = ℕ} 131072 0)

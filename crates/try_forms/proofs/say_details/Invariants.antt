@@ -1,9 +1,0 @@
--- Each turn leaves one detail fewer.
-use Rattle.std.proofs.Common.{◌-◌, ◌≤◌}
-use Rattle.try_forms.proofs.say_details.Given as goal
-
-abbrev pub invariant-loop-i : goal.invariant-loop-i
-invariant-loop-i g l = l.i ≤ l.count
-
-abbrev pub decreases-loop-i : goal.decreases-loop-i
-decreases-loop-i g l = l.count - l.i
