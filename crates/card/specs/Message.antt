@@ -16,7 +16,7 @@ use Rattle.laws.specs.Writing.{wrote_over, furthest}
 use Rattle.rule_laws.specs.Conditions.{numbered, first_later, first_earlier}
 use Rattle.rule_laws.specs.Clear.{LimitClear, limit_clear}
 use Rattle.engine_laws.specs.Decoded.{decoded, holds_decode}
-use Rattle.engine.specs.Totals.{TotalsOf, begun}
+use Rattle.engine.specs.Totals.{LookedUp, begun}
 use Rattle.engine.specs.Texts.{RegisterOf}
 use Rattle.engine_change.specs.Booking.{CanBook, booking_clear, booked_with, booked_after}
 use Rattle.engine.specs.References.{of_bank, part_is}
@@ -113,11 +113,11 @@ pub record Ready (s a : List ℕ) (b : Booking) (p : P.Position) (kept : List Ju
   pub judged : JudgedIn (decode a).register s kept
   pub leaves : Leaves a s p
 
-pub leaves_told : (a s : List ℕ) (b : Booking) → Books s (message_in s) b → (x : Option P.Position) → TotalsOf (decode a).positions b.key x → (p : P.Position) → AfterOf b (begun b.key x) p → Leaves a s p
+pub leaves_told : (a s : List ℕ) (b : Booking) → Books s (message_in s) b → (x : Option P.Position) → LookedUp (decode a).positions b.key x → (p : P.Position) → AfterOf b (begun b.key x) p → Leaves a s p
 leaves_told a s b k x y p q = record {
   same = after_is a s b k x y p q;
-  transferred_small = omega (arith, q.transferred, y.transferred_small, amount_part b.transfer b.amount, k.small);
-  detailed_small = omega (arith, q.detailed, y.detailed_small, amount_part (not b.transfer) b.amount, k.small);
+  transferred_small = omega (arith, q.transferred, y.totals.transferred_small, amount_part b.transfer b.amount, k.small);
+  detailed_small = omega (arith, q.detailed, y.totals.detailed_small, amount_part (not b.transfer) b.amount, k.small);
 }
 
 module _ (s area : List ℕ) (h : is_some (holds area) ≡ true) (b : Booking) {kept : List Judged} (k : Passes s (decode area).register b kept) (p : P.Position) (q : Leaves area s p)

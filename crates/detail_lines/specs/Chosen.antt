@@ -11,7 +11,7 @@ use Rattle.rules.specs.Verdict as paper
 use Rattle.rules.specs.Calls.{verdict_is, judged_to}
 use Rattle.details.specs.Message.{details_in, no_detail, detail_at}
 use Rattle.verdict.specs.Answers.{verdict_of}
-use Rattle.verdict.specs.Details.{judged_at, KeptIn, JudgedIn}
+use Rattle.verdict.specs.Details.{judged_at, JudgedIn}
 use Rattle.verdict.specs.declared.detail.Judged.{Judged}
 
 -- does the verdict that is kept pass a test?
@@ -41,9 +41,9 @@ chosen_from test s kept i = chosen test (drop i (details_in s)) (drop i kept)
 
 -- ---- one detail on, i being passed
 
-module _ (test : paper.Verdict → Bool) (s : List ℕ) (kept : List Judged) (k : KeptIn s kept) (i : ℕ) where
+module _ (test : paper.Verdict → Bool) (s : List ℕ) (kept : List Judged) (c : length kept ≡ length (details_in s)) (i : ℕ) where
   pub details_end : length kept ≤ i → drop i (details_in s) ≡ []
-  details_end h = drop_of_length-le (details_in s) {i = i} (omega (arith, k.count))
+  details_end h = drop_of_length-le (details_in s) {i = i} (omega (arith, c))
 
   pub chosen_end : length kept ≤ i → chosen_from test s kept i ≡ []
   unfolding chosen
@@ -51,7 +51,7 @@ module _ (test : paper.Verdict → Bool) (s : List ℕ) (kept : List Judged) (k 
 
   module _ (h : i < length kept) where
     pub details_next : drop i (details_in s) ≡ detail_at (details_in s) i ∷ drop (i + 1) (details_in s)
-    details_next = rw (add-one i) (drop-cons (details_in s) i no_detail (omega (arith, k.count)))
+    details_next = rw (add-one i) (drop-cons (details_in s) i no_detail (omega (arith, c)))
 
     module _ (j : Judged) (b : Bool) (u : b ≡ tells test (get_or kept i j)) where
       kept_next : drop i kept ≡ get_or kept i j ∷ drop (i + 1) kept

@@ -2,19 +2,45 @@
 use Rattle.std.specs.Prelude.{◌≡◌, refl, Bool, true, false, List, [], ◌∷◌, ◌++◌, ℕ, zero, suc, ◌+◌, ◌-◌, ◌≤◌, ◌<◌, length, get_or, take, drop}
 use Rattle.std.proofs.Common.{sym, ap, ◌∙◌, arith}
 use Rattle.std.proofs.Math.Seq.{take-nil}
+use Rattle.std.proofs.lemmas.List.{get_or_default}
 use Rattle.rules.specs.Messages.{Detail}
+use Rattle.rules.specs.Forms.{detail52d, detail59, detail_baeref}
+use Rattle.rule_laws.specs.Messages.{DetailRead}
 use Rattle.rules.specs.Verdict.{is_listed199}
 use Rattle.rules.specs.Written.{listed_rows, all_listed}
 use Rattle.laws.specs.Writing.{Wrote, Left, left_turn, left_none, left_length, furthest}
 use Rattle.laws.specs.Pieces.{left_all}
 use Rattle.details.specs.Message.{details_in, detail_at}
-use Rattle.details.specs.Kept.{KeptOf}
-use Rattle.verdict.specs.Details.{KeptIn, kept_at}
+use Rattle.details.specs.Kept.{LineOf, RowsOf}
+use Rattle.details.specs.declared.kept.Kept.{Kept}
+use Rattle.verdict.specs.Details.{KeptIn, no_judged, judged_at}
 use Rattle.verdict.specs.declared.detail.Judged.{Judged}
 use Rattle.forms.specs.Spans.{SpanIn}
 use Rattle.detail_lines.specs.declared.listed.Place.{Place}
 use Rattle.detail_lines.specs.Rows.{rows_of, rows_kept}
 use Rattle.detail_lines.specs.Chosen.{tells, chosen_from, chosen_end, chosen_one, chosen_none}
+
+-- the lines of a detail that its rows show are kept
+pub record LinesOf (s : List ℕ) (d : Detail) (k : Kept) : Type 0 where
+  pub read : DetailRead d
+  pub branch : RowsOf s d detail52d 2 k.branch
+  pub account : LineOf s d detail59 k.account
+  pub baeref : LineOf s d detail_baeref k.baeref
+
+-- those of each detail of a message are
+pub record LinesIn (s : List ℕ) (kept : List Judged) : Type 0 where
+  pub count : length kept ≡ length (details_in s)
+  pub each : (i : ℕ) → i < length kept → LinesOf s (detail_at (details_in s) i) (judged_at kept i).detail
+
+pub lines_kept : (s : List ℕ) (kept : List Judged) → KeptIn s kept → LinesIn s kept
+lines_kept s kept k = record {
+  count = k.count;
+  each = λ i h. let o = k.each i h in record { read = o.read; branch = o.branch; account = o.account; baeref = o.baeref };
+}
+
+-- each, read with any value behind the last
+lines_at : (s : List ℕ) (kept : List Judged) → LinesIn s kept → (i : ℕ) → i < length kept → (other : Judged) → LinesOf s (detail_at (details_in s) i) (get_or kept i other).detail
+lines_at s kept k i h other = rw (get_or_default kept i no_judged other h) at (k.each i h)
 
 -- ---- the rows of the first `most` of them, and what is behind those
 
@@ -44,7 +70,7 @@ take_one : {A : Type 0} (x : A) (xs : List A) (m : ℕ) → (m ≡ 0 → ⊥) �
 take_one x xs zero h = absurd (h refl)
 take_one x xs (suc m) h = let e : suc m - 1 ≡ m = omega arith in rw e
 
-module _ (s : List ℕ) (kept : List Judged) (k : KeptIn s kept) {first most at : ℕ} {start : List ℕ} {i m o : ℕ} {out : List ℕ} (l : RowsLeft s kept first most at start i m o out) where
+module _ (s : List ℕ) (kept : List Judged) (k : LinesIn s kept) {first most at : ℕ} {start : List ℕ} {i m o : ℕ} {out : List ℕ} (l : RowsLeft s kept first most at start i m o out) where
   pub rows_long : length out ≡ length start
   rows_long = left_length l.unwritten
 
@@ -57,18 +83,18 @@ module _ (s : List ℕ) (kept : List Judged) (k : KeptIn s kept) {first most at 
   pub rows_end : length kept ≤ i → RowsPut s kept first most at start (record { out = o; at = length kept }) out
   unfolding all_listed
   rows_end h =
-      let n : chosen_from is_listed199 s kept i ≡ [] = chosen_end is_listed199 s kept k i h in record {
+      let n : chosen_from is_listed199 s kept i ≡ [] = chosen_end is_listed199 s kept k.count i h in record {
         wrote = left_none (rw (n, take-nil m) at l.unwritten);
         within = omega arith;
-        skipped = chosen_end is_listed199 s kept k (length kept) (omega arith) ∙ sym (drop_none m) ∙ (rw n at l.behind);
+        skipped = chosen_end is_listed199 s kept k.count (length kept) (omega arith) ∙ sym (drop_none m) ∙ (rw n at l.behind);
       }
 
   module _ (h : i < length kept) (j : Judged) (b : Bool) (u : b ≡ tells is_listed199 (get_or kept i j)) where
-    its : KeptOf s (detail_at (details_in s) i) (get_or kept i j).detail
-    its = kept_at s kept k i h j
+    its : LinesOf s (detail_at (details_in s) i) (get_or kept i j).detail
+    its = lines_at s kept k i h j
 
     one : b ≡ true → chosen_from is_listed199 s kept i ≡ detail_at (details_in s) i ∷ chosen_from is_listed199 s kept (i + 1)
-    one d = chosen_one is_listed199 s kept k i h j b u d
+    one d = chosen_one is_listed199 s kept k.count i h j b u d
 
     rows_step : b ≡ true → (m ≡ 0 → ⊥) → all_listed (take m (chosen_from is_listed199 s kept i)) ≡ listed_rows (detail_at (details_in s) i) ++ all_listed (take (m - 1) (chosen_from is_listed199 s kept (i + 1)))
     unfolding all_listed
@@ -82,21 +108,18 @@ module _ (s : List ℕ) (kept : List Judged) (k : KeptIn s kept) {first most at 
 
     pub rows_pass : b ≡ false → RowsLeft s kept first most at start (i + 1) m o out
     rows_pass d =
-        let n : chosen_from is_listed199 s kept i ≡ chosen_from is_listed199 s kept (i + 1) = chosen_none is_listed199 s kept k i h j b u d in
+        let n : chosen_from is_listed199 s kept i ≡ chosen_from is_listed199 s kept (i + 1) = chosen_none is_listed199 s kept k.count i h j b u d in
         record { unwritten = rw n at l.unwritten; behind = rw n at l.behind }
 
 -- the lines of a detail that is kept lie within the message
-module _ (s : List ℕ) (kept : List Judged) (k : KeptIn s kept) (i : ℕ) (h : i < length kept) (j : Judged) where
-  pub payer_in : SpanIn s (get_or kept i j).detail.payer
-  payer_in = (kept_at s kept k i h j).payer.inside
-
+module _ (s : List ℕ) (kept : List Judged) (k : LinesIn s kept) (i : ℕ) (h : i < length kept) (j : Judged) where
   pub branch_in : SpanIn s (get_or kept i j).detail.branch
-  branch_in = (kept_at s kept k i h j).branch.inside
+  branch_in = (lines_at s kept k i h j).branch.inside
 
   pub account_in_lem : SpanIn s (get_or kept i j).detail.account
-  account_in_lem = (kept_at s kept k i h j).account.inside
+  account_in_lem = (lines_at s kept k i h j).account.inside
 
   pub baeref_in : SpanIn s (get_or kept i j).detail.baeref
-  baeref_in = (kept_at s kept k i h j).baeref.inside
+  baeref_in = (lines_at s kept k i h j).baeref.inside
 
-pub ruleset listing = (payer_in, branch_in, account_in_lem, baeref_in, rows_start, rows_long, rows_full, rows_end, rows_more, rows_pass)
+pub ruleset listing = (lines_kept, branch_in, account_in_lem, baeref_in, rows_start, rows_long, rows_full, rows_end, rows_more, rows_pass)

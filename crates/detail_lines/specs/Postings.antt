@@ -75,7 +75,7 @@ module _ (text s : List ℕ) (kept : List Judged) (v : JudgedIn text s kept) (i 
       credits_step : detail_postings (register_of text) b (drop i (details_in s)) ≡ verdict_posting (register_of text) b (get_or kept i j).detail.amount (verdict_of (get_or kept i j).verdict) ++ detail_postings (register_of text) b (drop (i + 1) (details_in s))
       unfolding detail_postings
       credits_step =
-          rw (details_next is_returned s kept v.kept_in i h, verdict_is, (kept_at s kept v.kept_in i h j).amount)
+          rw (details_next is_returned s kept v.kept_in.count i h, verdict_is, (kept_at s kept v.kept_in i h j).amount)
           (ap (λ (l : List ℕ). l ++ detail_postings (register_of text) b (drop (i + 1) (details_in s))) (detail_amount (register_of text) b (detail_at (details_in s) i) (C.verdict_of (register_of text) (detail_at (details_in s) i))))
 
       pub credits_more : {o' : ℕ} {out' : List ℕ} → Wrote (verdict_posting (register_of text) b (get_or kept i j).detail.amount (verdict_of (get_or kept i j).verdict)) o out o' out' → Left (detail_postings (register_of text) b (drop (i + 1) (details_in s))) o' out' whole at start
@@ -83,6 +83,6 @@ module _ (text s : List ℕ) (kept : List Judged) (v : JudgedIn text s kept) (i 
 
   pub credits_end : (b : Book) {o at : ℕ} {out whole start : List ℕ} → Left (detail_postings (register_of text) b (drop i (details_in s))) o out whole at start → length kept ≤ i → Wrote whole at start o out
   unfolding detail_postings
-  credits_end b l h = left_none (rw (details_end is_returned s kept v.kept_in i h) at l)
+  credits_end b l h = left_none (rw (details_end is_returned s kept v.kept_in.count i h) at l)
 
 pub ruleset crediting = (left_length, line_credited, line_coded, credit_wrote, posting_credited, posting_coded, posting_returned, judged_known, credits_more, credits_end)

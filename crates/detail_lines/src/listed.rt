@@ -1,7 +1,6 @@
 // The rows of the details that the MT199 lists.
 ghost use Rattle.std.specs.Prelude.{◌≤◌, length};
-ghost use Rattle.verdict.specs.Details.{KeptIn};
-ghost use Rattle.detail_lines.specs.Listed.{RowsPut};
+ghost use Rattle.detail_lines.specs.Listed.{LinesIn, RowsPut};
 
 use crate::rows::put_listed_rows;
 use verdict::Judged;
@@ -24,7 +23,7 @@ pub fn put_listed(
     first: usize,
     most: u32,
 ) -> Place
-    requires kept_in { KeptIn s.now kept.now }
+    requires lines_in { LinesIn s.now kept.now }
     requires first_within { first ≤ length kept.now }
     ensures { RowsPut s.now kept.now first most at out.old result out.new }
 {

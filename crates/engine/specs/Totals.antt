@@ -24,19 +24,24 @@ use Rattle.engine.specs.Records.{Many, many, positions_from_lem}
 abbrev pub begun : K.Key → Option P.Position → P.Position
 begun k r = unwrap_or r (empty k)
 
--- r is the position of a key, if it is open; each total of six bytes
+-- r has the totals of the position of a key, if it is open; each of six bytes
 pub record TotalsOf (ps : List Position) (k : K.Key) (r : Option P.Position) : Type 0 where
   pub opens : is_some r ≡ is_open (key_value k) ps
-  pub same : position_value (begun k r) ≡ position_of (key_value k) ps
+  pub transferred : (begun k r).transferred ≡ (position_of (key_value k) ps).transferred
+  pub detailed : (begun k r).detailed ≡ (position_of (key_value k) ps).detailed
   pub transferred_small : (begun k r).transferred < 2 ^ 48
   pub detailed_small : (begun k r).detailed < 2 ^ 48
 
-module _ {ps : List Position} {k : K.Key} {r : Option P.Position} (w : TotalsOf ps k r) where
-  pub total_transferred : (begun k r).transferred ≡ (position_of (key_value k) ps).transferred
-  total_transferred = ap (λ (y : Position). y.transferred) w.same
+-- r is that position
+pub record LookedUp (ps : List Position) (k : K.Key) (r : Option P.Position) : Type 0 where
+  pub totals : TotalsOf ps k r
+  pub same : position_value (begun k r) ≡ position_of (key_value k) ps
 
-  pub total_detailed : (begun k r).detailed ≡ (position_of (key_value k) ps).detailed
-  total_detailed = ap (λ (y : Position). y.detailed) w.same
+looked_up : {ps : List Position} {k : K.Key} {r : Option P.Position} → is_some r ≡ is_open (key_value k) ps → position_value (begun k r) ≡ position_of (key_value k) ps → (begun k r).transferred < 2 ^ 48 → (begun k r).detailed < 2 ^ 48 → LookedUp ps k r
+looked_up o e t d = record {
+  totals = record { opens = o; transferred = ap (λ (y : Position). y.transferred) e; detailed = ap (λ (y : Position). y.detailed) e; transferred_small = t; detailed_small = d };
+  same = e;
+}
 
 -- an open position stands at its place
 pub record PositionFound (a : List ℕ) (n i : ℕ) (k : Key) : Type 0 where
@@ -65,8 +70,8 @@ module _ (a : List ℕ) (x : Header) (i : ℕ) (k : K.Key) (s : is_some_of (hold
     pub found_place : i < 32
     found_place = omega (arith, here.inside, n.positions_few)
 
-    pub totals_found : (q : P.Position) → PositionAt a (positions_place + record_size * i) q → TotalsOf (decode a).positions k (Some q)
-    totals_found q v = record { opens = sym (p.opens ∙ sym e ∙ h); same = v.value ∙ sym here.is; transferred_small = v.transferred; detailed_small = v.detailed }
+    pub totals_found : (q : P.Position) → PositionAt a (positions_place + record_size * i) q → LookedUp (decode a).positions k (Some q)
+    totals_found q v = looked_up (sym (p.opens ∙ sym e ∙ h)) (v.value ∙ sym here.is) v.transferred v.detailed
 
-  pub totals_missing : t ≡ false → TotalsOf (decode a).positions k None
-  totals_missing h = record { opens = sym (p.opens ∙ sym e ∙ h); same = sym (p.missing (sym e ∙ h)); transferred_small = lit< tt; detailed_small = lit< tt }
+  pub totals_missing : t ≡ false → LookedUp (decode a).positions k None
+  totals_missing h = looked_up (sym (p.opens ∙ sym e ∙ h)) (sym (p.missing (sym e ∙ h))) (lit< tt) (lit< tt)

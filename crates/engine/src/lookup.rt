@@ -3,7 +3,7 @@ ghost use Rattle.std.specs.Prelude.{◌≡◌, true, ◌≤◌, length};
 ghost use Rattle.rules.specs.Text.{is_text, every, is_some, any};
 ghost use Rattle.rules.specs.Engine.{same_reference};
 ghost use Rattle.rules.specs.Area.{decode, holds};
-ghost use Rattle.engine.specs.Totals.{TotalsOf};
+ghost use Rattle.engine.specs.Totals.{LookedUp};
 ghost use Rattle.engine.specs.References.{of_bank};
 
 use crate::header::header_of;
@@ -15,7 +15,7 @@ use position::{Key, Position};
 // The position of a key, if it is open.
 pub fn totals_of(area: &[u8], k: Key) -> Option<Position>
     requires { is_some (holds area.now) ≡ true }
-    ensures { TotalsOf (decode area.now).positions k result }
+    ensures { LookedUp (decode area.now).positions k result }
 {
     let n = header_of(area).positions;
     let i = place_of(area, n, k);

@@ -49,12 +49,12 @@ module _ {was : Outgoing} {b : W.Book} {text s : List ℕ} {kept : List Judged} 
 
   pub returns_end : length kept ≤ i → ReturnsPut was o b text s kept at start a out
   unfolding returns
-  returns_end h = let n : chosen_from is_returned s kept i ≡ [] = chosen_end is_returned s kept k i h in record { wrote = left_none (rw n at l.unwritten); count = omega (arith, rw n at l.count) }
+  returns_end h = let n : chosen_from is_returned s kept i ≡ [] = chosen_end is_returned s kept k.count i h in record { wrote = left_none (rw n at l.unwritten); count = omega (arith, rw n at l.count) }
 
   module _ (h : i < length kept) (j : Judged) (t : Bool) (u : t ≡ tells is_returned (get_or kept i j)) where
     pub returns_pass : t ≡ false → ReturnsLeft was b text s kept at start (i + 1) o a out
     returns_pass d =
-        let n : chosen_from is_returned s kept i ≡ chosen_from is_returned s kept (i + 1) = chosen_none is_returned s kept k i h j t u d in
+        let n : chosen_from is_returned s kept i ≡ chosen_from is_returned s kept (i + 1) = chosen_none is_returned s kept k.count i h j t u d in
         record { count = rw n at l.count; few = omega (arith, l.few); unwritten = rw n at l.unwritten }
 
     module _ (d : t ≡ true) (g : is_some (register text) ≡ true) {r : Reference} {o' : Outgoing} (e : Steps o r o') where
@@ -62,7 +62,7 @@ module _ {was : Outgoing} {b : W.Book} {text s : List ℕ} {kept : List Judged} 
       its = kept_at s kept k i h j
 
       one : chosen_from is_returned s kept i ≡ detail_at (details_in s) i ∷ chosen_from is_returned s kept (i + 1)
-      one = chosen_one is_returned s kept k i h j t u d
+      one = chosen_one is_returned s kept k.count i h j t u d
 
       number_is : r.number ≡ o.count + 1
       number_is = ap (λ (x : Reference). x.number) e.reference

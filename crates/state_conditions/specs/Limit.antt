@@ -13,7 +13,7 @@ use Rattle.rule_laws.specs.Options.{some_is}
 use Rattle.engine_laws.specs.Limits.{limits}
 use Rattle.engine_laws.specs.Positions.{Good, all_good}
 use Rattle.position.specs.declared.Position as P
-use Rattle.engine.specs.Totals.{TotalsOf, begun, total_transferred, total_detailed}
+use Rattle.engine.specs.Totals.{TotalsOf, begun}
 use Rattle.details.specs.Message.{message_in}
 use Rattle.conditions.specs.Books.{Books, amount_if}
 use Rattle.conditions.specs.Tally.{TallyAt, DetailsTallied}
@@ -27,7 +27,7 @@ over_by t b = not (leb (t.transferred + amount_if b.transfer b.amount) limit) ||
 -- it is the message's 15
 pub over_is : (s area : List ℕ) (b : Booking) → Books s (message_in s) b → (o : Option P.Position) → TotalsOf (decode area).positions b.key o → over_by (begun b.key o) b ≡ over_limit (decode area) (message_in s)
 unfolding over_by over_limit position_after
-over_is s area b k o g = rw (← k.key, ← total_transferred g, ← total_detailed g, k.transferred, k.detailed) refl
+over_is s area b k o g = rw (← k.key, ← g.transferred, ← g.detailed, k.transferred, k.detailed) refl
 
 -- ---- of an MT101
 

@@ -4,13 +4,13 @@ use Rattle.detail_lines.proofs.listed.put_listed.Goals as goal
 use Rattle.detail_lines.proofs.listed.put_listed.Goals.{then-is_listed, else-is_listed}
 
 pub returns-then-left-eq0 : goal.returns-then-left-eq0
-returns-then-left-eq0 c = rows_full _ _ c.requires.kept_in c.loop-i.invariant c.if-left-eq0.true (omega arith)
+returns-then-left-eq0 c = rows_full _ _ c.requires.lines_in c.loop-i.invariant c.if-left-eq0.true (omega arith)
 
 pub loop-i-preserved : goal.loop-i-preserved
 loop-i-preserved c = elim c.if-is_listed.branch [
-  | then-is_listed w ↦ rw (w.left-is, w.o-is, w.out-is) (rows_more _ _ c.requires.kept_in c.loop-i.invariant c.loop-i-test.true _ _ c.is_listed.ensures w.if-is_listed.true c.if-left-eq0.false w.put_listed_rows-o.ensures)
-  | else-is_listed w ↦ rw (w.left-is, w.o-is, w.out-is) (rows_pass _ _ c.requires.kept_in c.loop-i.invariant c.loop-i-test.true _ _ c.is_listed.ensures w.if-is_listed.false)
+  | then-is_listed w ↦ rw (w.left-is, w.o-is, w.out-is) (rows_more _ _ c.requires.lines_in c.loop-i.invariant c.loop-i-test.true _ _ c.is_listed.ensures w.if-is_listed.true c.if-left-eq0.false w.put_listed_rows-o.ensures)
+  | else-is_listed w ↦ rw (w.left-is, w.o-is, w.out-is) (rows_pass _ _ c.requires.lines_in c.loop-i.invariant c.loop-i-test.true _ _ c.is_listed.ensures w.if-is_listed.false)
 ]
 
 pub returns : goal.returns
-returns c = rows_end _ _ c.requires.kept_in c.loop-i.invariant c.loop-i-test.false
+returns c = rows_end _ _ c.requires.lines_in c.loop-i.invariant c.loop-i-test.false
