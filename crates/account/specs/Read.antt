@@ -9,7 +9,6 @@ use Rattle.std.proofs.lemmas.List.{drop-take}
 use Rattle.rules.specs.Text.{ascii, fits, given, otherwise}
 use Rattle.rules.specs.Accounts as paper
 use Rattle.rules.specs.Accounts.{iban_shape, joined_groups, compact, grouped_shape, read_compact, read_grouped, read_account}
-use Rattle.laws.specs.Parts.{cut}
 use Rattle.laws.specs.Tests.{not_holds}
 use Rattle.laws.specs.Told.{told}
 use Rattle.rule_laws.specs.Groups.{joined_length, joined_at, iban_length, grouped_length, shape_compact}
@@ -38,9 +37,9 @@ module _ (cs : List ℕ) where
   pub other_shape : (t : Bool) → t ≡ iban_shape (take 22 cs) → t ≡ false → Other
   other_shape t u d = record { other = sym u ∙ d }
 
-  module _ (o : Other) (v : Bool) (w : v ≡ fits (ascii "BGnn aaaa nnnn nncc cccc cc") (cut cs 0 27)) where
+  module _ (o : Other) (v : Bool) (w : v ≡ fits (ascii "BGnn aaaa nnnn nncc cccc cc") (take 27 cs)) where
     groups : grouped_shape (take 27 cs) ≡ v
-    unfolding grouped_shape cut
+    unfolding grouped_shape
     groups = sym w
 
     pub read_groups : v ≡ true → some record { iban = compact cs; used = 27 } ≡ read_account cs
@@ -91,9 +90,6 @@ module _ (cs : List ℕ) (q : Option AccountForm) (e : map (account_of cs) (told
     unfolding used_by
     compact_shape = used_compact _ _ cs (rw w at used)
 
-    pub compact_room : 22 ≤ length cs
-    compact_room = omega (arith, iban_length _ compact_shape, length-take 22 cs)
-
   module _ (w : q ≡ Some Grouped) where
     in_groups : grouped_shape (take 27 cs) ≡ true
     unfolding used_by
@@ -106,9 +102,6 @@ module _ (cs : List ℕ) (q : Option AccountForm) (e : map (account_of cs) (told
     module _ (iban : List ℕ) (i : iban ≡ compact cs) where
       pub iban_room : length iban ≡ 22
       iban_room = ap length i ∙ joined_length 5 cs grouped_room
-
-      pub iban_shape_lem : iban_shape iban ≡ true
-      iban_shape_lem = rw i (rw (joined_front 5 cs) at (shape_compact (take 27 cs) in_groups))
 
 -- ---- the compact form
 

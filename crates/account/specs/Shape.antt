@@ -1,16 +1,17 @@
 -- The shapes of a BIC and an IBAN in runs of one class, and what a right shape tells of the first four signs.
-use Rattle.std.specs.Prelude.{◌≡◌, Bool, true, false, ◌&&◌, cond, List, [], ◌∷◌, ℕ, eqb, length, get_or, take}
+use Rattle.std.specs.Prelude.{◌≡◌, Bool, true, false, ◌&&◌, not, cond, List, [], ◌∷◌, ℕ, eqb, length, get_or, take, drop}
 use Rattle.std.proofs.Math.Path.{refl, sym}
 use Rattle.std.proofs.Common.{◌∙◌, eq-eqb, ne_eqb, eqb-true}
 use native.Mathlib.Omega.{arith}
+use borrow.Author.Tests.{not-true}
 use Rattle.rules.specs.Text.{ascii, is_digit, is_letter, is_alnum, every, fits, fits_sign}
 use Rattle.rules.specs.Accounts.{is_bic, iban_shape}
 use Rattle.laws.specs.Parts.{cut, cut_all}
-use Rattle.laws.specs.Tests.{and_left, cond_left, cond_right, and_holds, and_failed, not_holds}
+use Rattle.laws.specs.Tests.{and_left, cond_left, cond_right, and_holds, and_failed, and_off, not_holds}
 use Rattle.laws.specs.Reading.{fits_length}
 use Rattle.laws.specs.Every.{every_within, every_first}
-use Rattle.laws.specs.Places.{Passed}
-use Rattle.laws.specs.Patterns.{cond_and, digit_sign, letter_sign, alnum_sign, fits_sign_lem, fits_run, fits_last, run_on, run_off}
+use Rattle.laws.specs.Slices.{part_cut}
+use Rattle.laws.specs.Patterns.{cond_and, digit_sign, letter_sign, alnum_sign, fits_sign_lem, fits_run, fits_last}
 use Rattle.rule_laws.specs.Groups.{Four, Four.four, four_of, iban_length}
 
 -- a pattern from the first byte on
@@ -24,29 +25,29 @@ module _ (s : List ℕ) where
   unfolding is_bic
   bic_long h = not_holds _ (λ q. h (sym (fits_length (ascii "aaaaaacc") s q)))
 
-  bic_runs : length s ≡ 8 → is_bic s ≡ (every is_letter (cut s 0 6) && every is_alnum (cut s 6 8))
-  unfolding is_bic
+  bic_runs : length s ≡ 8 → is_bic s ≡ (every is_letter (take 6 s) && every is_alnum (take 2 (drop 6 s)))
+  unfolding is_bic cut
   bic_runs e =
       whole (ascii "aaaaaacc") s 8 e
       ∙ fits_run 97 is_letter letter_sign (ascii "cc") s 6 0 8 (omega arith) (omega arith)
-      ∙ rw (fits_last 99 is_alnum alnum_sign s 2 6 8 (omega arith) (omega arith))
+      ∙ rw (fits_last 99 is_alnum alnum_sign s 2 6 8 (omega arith) (omega arith), part_cut s 6 8 (omega arith))
 
-  module _ (e : length s ≡ 8) (l : ℕ) (v : Passed is_letter s 0 6 l) where
-    pub bic_letters : eqb l 6 ≡ true → (r : ℕ) → Passed is_alnum s 6 2 r → eqb r 2 ≡ is_bic s
-    bic_letters h r w = and_holds _ _ (eqb l 6) (eqb r 2) v.whole h w.whole ∙ sym (bic_runs e)
+  module _ (e : length s ≡ 8) (t : Bool) (u : t ≡ every is_letter (take 6 s)) where
+    pub bic_letters : t ≡ true → (r : Bool) → r ≡ every is_alnum (take 2 (drop 6 s)) → r ≡ is_bic s
+    bic_letters h r w = and_holds _ _ t r u h w ∙ sym (bic_runs e)
 
-    pub bic_none : eqb l 6 ≡ false → eqb l 6 ≡ is_bic s
-    bic_none h = and_failed _ _ (eqb l 6) v.whole h ∙ sym (bic_runs e)
+    pub bic_none : t ≡ false → t ≡ is_bic s
+    bic_none h = and_failed _ _ t u h ∙ sym (bic_runs e)
 
 -- ---- an IBAN
 
 -- `BG` and two control digits
 unfoldable pub iban_head : List ℕ → Bool
-iban_head s = cond (eqb 66 (get_or s 0 0)) (cond (eqb 71 (get_or s 1 0)) (every is_digit (cut s 2 4)) false) false
+iban_head s = cond (eqb 66 (get_or s 0 0)) (cond (eqb 71 (get_or s 1 0)) (every is_digit (take 2 (drop 2 s))) false) false
 
 -- the runs behind them
 abbrev pub iban_tail : List ℕ → Bool
-iban_tail s = every is_letter (cut s 4 8) && (every is_digit (cut s 8 14) && every is_alnum (cut s 14 22))
+iban_tail s = every is_letter (take 4 (drop 4 s)) && (every is_digit (take 6 (drop 8 s)) && every is_alnum (take 8 (drop 14 s)))
 
 module _ (s : List ℕ) where
   pub head_first : (get_or s 0 0 ≡ 66 → ⊥) → false ≡ iban_head s
@@ -58,9 +59,9 @@ module _ (s : List ℕ) where
     unfolding iban_head
     head_second h = rw (eq-eqb 66 (get_or s 0 0) (sym b), ne_eqb 71 (get_or s 1 0) (λ e. h (sym e)))
 
-    pub head_digits : get_or s 1 0 ≡ 71 → (r : ℕ) → Passed is_digit s 2 2 r → eqb r 2 ≡ iban_head s
+    pub head_digits : get_or s 1 0 ≡ 71 → (r : Bool) → r ≡ every is_digit (take 2 (drop 2 s)) → r ≡ iban_head s
     unfolding iban_head
-    head_digits g r w = rw (eq-eqb 66 (get_or s 0 0) (sym b), eq-eqb 71 (get_or s 1 0) (sym g)) w.whole
+    head_digits g r w = rw (eq-eqb 66 (get_or s 0 0) (sym b), eq-eqb 71 (get_or s 1 0) (sym g)) w
 
   pub shape_long : (length s ≡ 22 → ⊥) → false ≡ iban_shape s
   shape_long h = not_holds _ (λ q. h (iban_length s q))
@@ -70,13 +71,20 @@ module _ (s : List ℕ) where
   runs l =
       let behind : fits (ascii "aaaannnnnncccccccc") (cut s 4 22) ≡ iban_tail s =
       fits_run 97 is_letter letter_sign (ascii "nnnnnncccccccc") s 4 4 22 (omega arith) (omega arith)
-      ∙ rw (fits_run 110 is_digit digit_sign (ascii "cccccccc") s 6 8 22 (omega arith) (omega arith), fits_last 99 is_alnum alnum_sign s 8 14 22 (omega arith) (omega arith)) in
+      ∙ rw (
+        fits_run 110 is_digit digit_sign (ascii "cccccccc") s 6 8 22 (omega arith) (omega arith),
+        fits_last 99 is_alnum alnum_sign s 8 14 22 (omega arith) (omega arith),
+        part_cut s 4 8 (omega arith),
+        part_cut s 8 14 (omega arith),
+        part_cut s 14 22 (omega arith),
+      ) in
       whole (ascii "BGnnaaaannnnnncccccccc") s 22 l
       ∙ fits_sign_lem 66 (ascii "Gnnaaaannnnnncccccccc") s 0 22 (omega arith) (omega arith)
       ∙ rw (
         fits_sign_lem 71 (ascii "nnaaaannnnnncccccccc") s 1 22 (omega arith) (omega arith),
         fits_run 110 is_digit digit_sign (ascii "aaaannnnnncccccccc") s 2 2 22 (omega arith) (omega arith),
         behind,
+        part_cut s 2 4 (omega arith),
         cond_and,
         cond_and,
       )
@@ -87,6 +95,10 @@ module _ (s : List ℕ) where
 
     pub shape_unheaded : t ≡ false → t ≡ iban_shape s
     shape_unheaded h = and_failed _ _ t u h ∙ sym (runs l)
+
+-- a test that failed
+pub not_told : (a b t : Bool) → t ≡ a → not t ≡ true → false ≡ (a && b)
+not_told a b t u h = and_off a b t u (not-true t h)
 
 -- what a right shape tells
 pub record Shaped (s : List ℕ) : Type 0 where
@@ -102,15 +114,15 @@ shape_told s h =
     let l : length s ≡ 22 = iban_length s h in
     let head : iban_head s ≡ true = and_left _ _ (sym (runs s l) ∙ h) in
     let two = cond_right (eqb 66 (get_or s 0 0)) _ head in
-    let digits = cond_right (eqb 71 (get_or s 1 0)) _ two in record {
+    let both : every is_digit (cut s 2 4) ≡ true = rw (← part_cut s 2 4 (omega arith)) (cond_right (eqb 71 (get_or s 1 0)) _ two) in record {
       first = sym (eqb-true 66 (get_or s 0 0) (cond_left _ _ head));
       second = sym (eqb-true 71 (get_or s 1 0) (cond_left _ _ two));
-      third = every_first is_digit s 2 4 digits (omega arith) (omega arith);
-      fourth = every_first is_digit s 3 4 (every_within is_digit s 2 4 3 4 digits (omega arith) (omega arith) (omega arith)) (omega arith) (omega arith);
+      third = every_first is_digit s 2 4 both (omega arith) (omega arith);
+      fourth = every_first is_digit s 3 4 (every_within is_digit s 2 4 3 4 both (omega arith) (omega arith) (omega arith)) (omega arith) (omega arith);
       front = go (four_of s (omega arith));
     }
   where
     go : {xs : List ℕ} → Four xs → take 4 xs ≡ get_or xs 0 0 ∷ get_or xs 1 0 ∷ get_or xs 2 0 ∷ get_or xs 3 0 ∷ []
     go (four a b c d more) = refl
 
-pub ruleset shapes = (bic_long, bic_letters, bic_none, head_first, head_second, head_digits, shape_long, shape_headed, shape_unheaded, run_on, run_off)
+pub ruleset shapes = (bic_long, bic_letters, bic_none, head_first, head_second, head_digits, shape_long, shape_headed, shape_unheaded, and_holds, and_failed, and_off, not_told)

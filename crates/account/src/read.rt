@@ -23,7 +23,7 @@ pub fn read_account(part: &[u8]) -> Option<AccountForm>
     if part.len() >= 22 && iban_shape(&part[0..22]) {
         return Some(AccountForm::Compact);
     }
-    if text::fits_pattern(b"BGnn aaaa nnnn nncc cccc cc", part, 0) {
+    if text::begins_as(b"BGnn aaaa nnnn nncc cccc cc", part) {
         return Some(AccountForm::Grouped);
     }
     None

@@ -3,7 +3,7 @@ ghost use Rattle.std.specs.Prelude.{◌≡◌, length};
 ghost use Rattle.rules.specs.Accounts.{is_bic, iban_shape};
 ghost use Rattle.account.specs.Shape.{iban_head, iban_tail};
 
-use text::{Alnum, Digit, Letter, leading_at};
+use text::{Alnum, Digit, Letter, is_all};
 
 // Is the text a BIC: six letters, then two letters or digits?
 pub fn is_bic(s: &[u8]) -> bool
@@ -12,7 +12,7 @@ pub fn is_bic(s: &[u8]) -> bool
     if s.len() != 8 {
         return false;
     }
-    leading_at::<Letter>(s, 0, 6) == 6 && leading_at::<Alnum>(s, 6, 2) == 2
+    is_all::<Letter>(&s[..6]) && is_all::<Alnum>(&s[6..8])
 }
 
 // Do the 22 characters begin as an IBAN: `BG` and two control digits?
@@ -26,7 +26,7 @@ fn iban_head(s: &[u8]) -> bool
     if s[1] != b'G' {
         return false;
     }
-    leading_at::<Digit>(s, 2, 2) == 2
+    is_all::<Digit>(&s[2..4])
 }
 
 // Do they go on as one: four letters, six digits, eight letters or digits?
@@ -34,13 +34,10 @@ fn iban_tail(s: &[u8]) -> bool
     requires { length s.now ≡ 22 }
     ensures { result ≡ iban_tail s.now }
 {
-    if leading_at::<Letter>(s, 4, 4) < 4 {
+    if !is_all::<Letter>(&s[4..8]) {
         return false;
     }
-    if leading_at::<Digit>(s, 8, 6) < 6 {
-        return false;
-    }
-    leading_at::<Alnum>(s, 14, 8) == 8
+    is_all::<Digit>(&s[8..14]) && is_all::<Alnum>(&s[14..22])
 }
 
 // Is the text of the shape of an IBAN?

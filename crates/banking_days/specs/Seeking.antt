@@ -8,7 +8,7 @@ use Rattle.rules.specs.Text.{equal, fixed, over, then, given, is_some, read_each
 use Rattle.rules.specs.Dates.{exists, date}
 use Rattle.rules.specs.Lines.{parted}
 use Rattle.rules.specs.BankingDays.{earlier_date, holidays, holidays_of, is_weekend, is_listed, is_banking_day}
-use Rattle.laws.specs.Parts.{cut, from, cut_all, from_all, from_take, from_drop}
+use Rattle.laws.specs.Parts.{from, from_all, from_drop}
 use Rattle.laws.specs.Tests.{never}
 use Rattle.laws.specs.Digits.{places_length}
 use Rattle.laws.specs.Writing.{Wrote, wrote_over}
@@ -25,13 +25,13 @@ module _ (six list : List ℕ) (at : ℕ) (x : Bool) (inv : stands_from six list
   unfolding stands_from among
   stands_end h = let e : (length list + 1 - at) / 7 ≡ 0 = omega arith in rw e at inv
 
-  module _ (h : at + 6 ≤ length list) (l : length six ≡ 6) (t : Bool) (u : t ≡ equal (cut list at (at + 6)) (cut six 0 6)) where
+  module _ (h : at + 6 ≤ length list) (t : Bool) (u : t ≡ equal (take (at + 6 - at) (drop at list)) six) where
     step : cond t true (stands_from six list (at + 7)) ≡ x
-    unfolding stands_from among
+    unfolding stands_from among from
     step =
         let e : (length list + 1 - at) / 7 ≡ suc ((length list + 1 - (at + 7)) / 7) = omega arith in
-        let a : cut six 0 6 ≡ six = rw l at (cut_all six) in
-        let b : t ≡ equal (take 6 (from list at)) six = u ∙ rw (a, from_take list at 6) in
+        let n : at + 6 - at ≡ 6 = omega arith in
+        let b : t ≡ equal (take 6 (from list at)) six = rw n at u in
         rw (b, ← from_drop list at 7) (rw e at inv)
 
     pub stands_found : t ≡ true → true ≡ x

@@ -1,4 +1,4 @@
-// Banking days: neither a Saturday nor a Sunday nor a listed holiday.
+// Banking days: neither a Saturday nor a Sunday nor a listed holiday. That the day exists is a clause: the calls have it as a number, and a type of it would be made of that at each of the three calls.
 #![tactic(auto)]
 
 mod banking;

@@ -5,6 +5,8 @@ ghost use Rattle.rules.specs.Dates.{exists};
 ghost use Rattle.rules.specs.BankingDays.{holidays};
 ghost use Rattle.banking_days.specs.Lists.{rising, stands_from, Listed};
 
+use put::Writer;
+
 // The bytes of the longest list: 60 dates of six digits, and a comma between two.
 pub const LONGEST: usize = 419;
 
@@ -59,7 +61,8 @@ fn stands_in(list: &[u8], six: &[u8; 6]) -> bool
 {
     let dates = (list.len() as u32 + 1) / 7;
     for k in 0..dates {
-        if text::equal_parts(list, (7 * k) as usize, six, 0, 6) {
+        let at = (7 * k) as usize;
+        if text::equal(&list[at..at + 6], six) {
             return true;
         }
     }
@@ -75,6 +78,7 @@ pub fn is_listed(list: &[u8], day: u32) -> bool
         return false;
     }
     let mut six = [0u8; 6];
-    put::put_fixed(&mut six, 0, 6, day as u64);
+    let mut w = Writer::new(&mut six);
+    w.put_fixed(6, day as u64);
     stands_in(list, &six)
 }

@@ -1,5 +1,5 @@
 -- Which dates exist, and the date that six digits are, one law for each way that the code goes.
-use Rattle.std.specs.Prelude.{◌≡◌, refl, Bool, true, false, ◌&&◌, cond, List, [], ◌∷◌, ℕ, ◌+◌, ◌-◌, ◌*◌, ◌/◌, ◌%◌, ◌^◌, ◌≤◌, ◌<◌, leb, length, get_or}
+use Rattle.std.specs.Prelude.{◌≡◌, refl, Bool, true, false, ◌&&◌, cond, List, [], ◌∷◌, ℕ, ◌+◌, ◌-◌, ◌*◌, ◌/◌, ◌%◌, ◌≤◌, ◌<◌, leb, length, get_or, take, drop}
 use Rattle.std.proofs.Common.{sym, ap, ◌∙◌}
 use Rattle.std.proofs.Math.Option.{none, some}
 use native.Mathlib.Omega.{arith}
@@ -9,7 +9,8 @@ use Rattle.rules.specs.Dates.{month_lengths, leap_row, month_length, exists, dat
 use Rattle.laws.specs.Parts.{cut, cut_all, cut_two}
 use Rattle.laws.specs.Tests.{none_some, and_left, between_low}
 use Rattle.laws.specs.Reading.{digit_low, digit_small}
-use Rattle.laws.specs.Every.{every_front, every_piece, every_head, every_at}
+use Rattle.laws.specs.Every.{every_take, every_drop, every_head, every_at}
+use Rattle.laws.specs.Slices.{part_cut}
 use Rattle.laws.specs.Values.{Valued, valued, digits_take, behind_digits, every_none}
 
 -- a year, a month and a day make an existing date
@@ -66,11 +67,6 @@ module _ (year month day : ℕ) where
       let c : n % 100 ≡ day = omega arith in
       rw (a, b, c, le-leb year 99 (omega arith))
 
-  -- the month of a date is not 0
-  month_above : is_date year month day ≡ true → 1 ≤ month
-  unfolding is_date
-  month_above h = between_low 1 12 month (and_left _ _ h)
-
 pub no_year : (n : ℕ) → 999999 < n → false ≡ exists n
 unfolding exists
 no_year n h = rw (lt-leb (n / 10000) 99 (omega arith))
@@ -82,26 +78,22 @@ by_parts n year rest t y r l u = u ∙ exists_parts year (rest / 100) (rest - re
 -- ---- digits
 
 -- two bytes that are digits
-module _ (s : List ℕ) (a : ℕ) (w : every is_digit (cut s a (a + 2)) ≡ true) (l : a + 2 ≤ length s) where
-  pub first_digit : is_digit (get_or s a 0) ≡ true
-  first_digit = every_head is_digit s a 2 w l refl
+module _ (s : List ℕ) (l : length s ≡ 2) (w : every is_digit s ≡ true) where
+  pair : cut s 0 (0 + 2) ≡ s
+  pair = rw l at (cut_all s)
 
-  pub second_digit : is_digit (get_or s (a + 1) 0) ≡ true
-  second_digit = every_at is_digit s a 2 w l 1 refl
+  pub first_digit : is_digit (get_or s 0 0) ≡ true
+  first_digit = every_head is_digit s 0 2 (rw pair w) (omega arith) refl
 
-  pub two_digits : Valued s a 2 ((get_or s a 0 - 48) * 10 + (get_or s (a + 1) 0 - 48))
+  pub second_digit : is_digit (get_or s 1 0) ≡ true
+  second_digit = every_at is_digit s 0 2 (rw pair w) (omega arith) 1 refl
+
+  pub two_value : some ((get_or s 0 0 - 48) * 10 + (get_or s 1 0 - 48)) ≡ digits s
   unfolding digits_from
-  two_digits = valued s a 2 _ l (rw (cut_two s a l, first_digit, second_digit) (ap some (omega arith)))
+  two_value = rw (← pair) (rw (cut_two s 0 (omega arith), first_digit, second_digit) (ap some (omega arith)))
 
--- the room for one digit, for the tens, for both
-pub digit_fits : (c : ℕ) → is_digit c ≡ true → c - 48 < 2 ^ 16
-digit_fits c h = omega (arith, digit_small c h)
-
-pub tens_fit : (c : ℕ) → is_digit c ≡ true → (c - 48) * 10 < 2 ^ 16
-tens_fit c h = omega (arith, digit_small c h)
-
-pub two_fit : (c d : ℕ) → is_digit c ≡ true → is_digit d ≡ true → (c - 48) * 10 + (d - 48) < 2 ^ 16
-two_fit c d h k = omega (arith, digit_small c h, digit_small d k)
+  pub two_small : (get_or s 0 0 - 48) * 10 + (get_or s 1 0 - 48) < 100
+  two_small = omega (arith, digit_small _ first_digit, digit_small _ second_digit)
 
 -- behind a number
 two_behind : (c d x y : ℕ) → digits_from 0 (c ∷ d ∷ []) ≡ some y → digits_from x (c ∷ d ∷ []) ≡ some (x * 100 + y)
@@ -132,19 +124,26 @@ module _ (s : List ℕ) (h : length s ≡ 6) where
     date_none k = rw (eq-eqb _ _ h, ← every_none s (sym u ∙ k))
 
     module _ (k : t ≡ true) where
-      six : every is_digit (cut s 0 (0 + 6)) ≡ true
-      six = rw whole (sym u ∙ k)
+      pub year_digits : every is_digit (take 2 s) ≡ true
+      year_digits = every_take is_digit 2 s (sym u ∙ k)
 
-      pub year_digits : every is_digit (cut s 0 2) ≡ true
-      year_digits = every_front is_digit s 0 6 six 2 refl
+      pub month_digits : every is_digit (take 2 (drop 2 s)) ≡ true
+      month_digits = every_take is_digit 2 (drop 2 s) (every_drop is_digit 2 s (sym u ∙ k))
 
-      pub month_digits : every is_digit (cut s 2 4) ≡ true
-      month_digits = every_piece is_digit s 0 6 six 2 2 refl
+      pub day_digits : every is_digit (take 2 (drop 4 s)) ≡ true
+      day_digits = every_take is_digit 2 (drop 4 s) (every_drop is_digit 4 s (sym u ∙ k))
 
-      pub day_digits : every is_digit (cut s 4 6) ≡ true
-      day_digits = every_piece is_digit s 0 6 six 4 2 refl
+  module _ (y m d : ℕ) (e : some y ≡ digits (take 2 s)) (f : some m ≡ digits (take 2 (drop 2 s))) (g : some d ≡ digits (take 2 (drop 4 s))) (t : Bool) (u : t ≡ is_date y m d) where
+    p : Valued s 0 2 y
+    unfolding cut
+    p = valued s 0 2 y (omega arith) e
 
-  module _ (y m d : ℕ) (p : Valued s 0 2 y) (q : Valued s 2 2 m) (r : Valued s 4 2 d) (t : Bool) (u : t ≡ is_date y m d) where
+    q : Valued s 2 2 m
+    q = valued s 2 2 m (omega arith) (rw (part_cut s 2 4 (omega arith)) at f)
+
+    r : Valued s 4 2 d
+    r = valued s 4 2 d (omega arith) (rw (part_cut s 4 6 (omega arith)) at g)
+
     abbrev number : ℕ
     number = y * 10000 + (m * 100 + d)
 
@@ -169,4 +168,4 @@ pub date_other : (s : List ℕ) → (length s ≡ 6 → ⊥) → none ≡ date s
 unfolding date
 date_other s n = rw (ne_eqb _ _ n)
 
-pub ruleset days = (row_leap, row_common, length_at, no_month, late_month, no_day, by_length, no_year, by_parts, digit_low, first_digit, second_digit, two_digits, digit_fits, tens_fit, two_fit, year_digits, month_digits, day_digits, date_none, date_there, date_absent, date_other)
+pub ruleset days = (row_leap, row_common, length_at, no_month, late_month, no_day, by_length, no_year, by_parts, digit_low, first_digit, second_digit, two_value, two_small, year_digits, month_digits, day_digits, date_none, date_there, date_absent, date_other)

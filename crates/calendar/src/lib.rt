@@ -1,11 +1,10 @@
 // Dates: six digits, year, month, day, in 2000 to 2099.
 #![tactic(auto)]
 
-ghost use Rattle.std.specs.Prelude.{◌≡◌, true, ◌+◌, ◌/◌, ◌%◌, ◌≤◌, length};
-ghost use Rattle.laws.specs.Parts.{cut};
-ghost use Rattle.laws.specs.Values.{Valued};
+ghost use Rattle.std.specs.Prelude.{◌≡◌, true, ◌/◌, ◌%◌, ◌<◌, ◌≤◌, length};
+ghost use Rattle.std.proofs.Math.Option.{some};
 ghost use Rattle.laws.specs.Told.{told};
-ghost use Rattle.rules.specs.Text.{is_digit, every};
+ghost use Rattle.rules.specs.Text.{digits, every, is_digit};
 ghost use Rattle.rules.specs.Dates.{month_length, date};
 ghost use Rattle.rules.specs.Dates as D;
 ghost use Rattle.calendar.specs.Days.{RowOf, is_date};
@@ -79,12 +78,13 @@ pub fn exists(n: u32) -> bool
 }
 
 // The number of two digits.
-fn two_at(s: &[u8], at: usize) -> u16
-    requires at_in_bounds { at + 2 ≤ length s.now }
-    requires at_value { every is_digit (cut s.now at (at + 2)) ≡ true }
-    ensures { Valued s.now at 2 result }
+fn two_digits(pair: &[u8]) -> u16
+    requires two { length pair.now ≡ 2 }
+    requires each { every is_digit pair.now ≡ true }
+    ensures value { some result ≡ digits pair.now }
+    ensures small { result < 100 }
 {
-    (s[at] - 48) as u16 * 10 + (s[at + 1] - 48) as u16
+    (pair[0] - 48) as u16 * 10 + (pair[1] - 48) as u16
 }
 
 // The date that six digits are: their number, where it exists.
@@ -94,9 +94,9 @@ pub fn read_date(s: &[u8]) -> Option<u32>
     if s.len() != 6 || !is_all::<Digit>(s) {
         return None;
     }
-    let year = two_at(s, 0);
-    let month = two_at(s, 2);
-    let day = two_at(s, 4);
+    let year = two_digits(&s[..2]);
+    let month = two_digits(&s[2..4]);
+    let day = two_digits(&s[4..6]);
     if is_date(year, month, day) {
         return Some(year as u32 * 10000 + (month * 100 + day) as u32);
     }

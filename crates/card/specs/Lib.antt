@@ -1,4 +1,5 @@
 pub mod Answers
+pub mod Accepted
 pub mod Minus
 pub mod Measured
 pub mod Opening

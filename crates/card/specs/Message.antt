@@ -19,10 +19,12 @@ use Rattle.engine_laws.specs.Decoded.{decoded, holds_decode}
 use Rattle.engine.specs.Totals.{LookedUp, begun}
 use Rattle.engine.specs.Texts.{RegisterOf}
 use Rattle.engine_change.specs.Booking.{CanBook, booking_clear, booked_with, booked_after}
-use Rattle.engine.specs.References.{of_bank, part_is}
-use Rattle.outgoing_number.specs.declared.Numbered.{Numbered}
+use Rattle.engine.specs.References.{of_bank}
+use Rattle.laws.specs.Slices.{part_cut}
+use Rattle.put.specs.declared.parts.Writer.{Writer}
+use Rattle.put.specs.Writes.{wrote_at}
 use Rattle.details.specs.Message.{message_in}
-use Rattle.conditions.specs.Books.{Books}
+use Rattle.conditions.specs.Books.{Books, is_transfer}
 use Rattle.conditions.specs.Answers.{Checked, temporary_in, CheckedAs, Passes, refused_told, refused_some, passed_told, passed_room}
 use Rattle.conditions.specs.declared.booking.Booking.{Booking}
 use Rattle.refusal.specs.Numbers.{number_of}
@@ -116,8 +118,8 @@ pub record Ready (s a : List ℕ) (b : Booking) (p : P.Position) (kept : List Ju
 pub leaves_told : (a s : List ℕ) (b : Booking) → Books s (message_in s) b → (x : Option P.Position) → LookedUp (decode a).positions b.key x → (p : P.Position) → AfterOf b (begun b.key x) p → Leaves a s p
 leaves_told a s b k x y p q = record {
   same = after_is a s b k x y p q;
-  transferred_small = omega (arith, q.transferred, y.totals.transferred_small, amount_part b.transfer b.amount, k.small);
-  detailed_small = omega (arith, q.detailed, y.totals.detailed_small, amount_part (not b.transfer) b.amount, k.small);
+  transferred_small = omega (arith, q.transferred, y.totals.transferred_small, amount_part (is_transfer b.kind) b.amount, k.small);
+  detailed_small = omega (arith, q.detailed, y.totals.detailed_small, amount_part (not (is_transfer b.kind)) b.amount, k.small);
 }
 
 module _ (s area : List ℕ) (h : is_some (holds area) ≡ true) (b : Booking) {kept : List Judged} (k : Passes s (decode area).register b kept) (p : P.Position) (q : Leaves area s p)
@@ -138,6 +140,9 @@ module _ (s area : List ℕ) (h : is_some (holds area) ≡ true) where
       bank_is : p.key.bank ≡ bank_of (message_in s)
       bank_is = ap (λ (x : Position). x.key.bank) position_is
 
+      own_bank : b.key.bank ≡ bank_of (message_in s)
+      own_bank = rw u at bank_is
+
       -- where none of 11 to 15 holds it can be booked
       pub booking_of_lem : 0 ≡ first_of (limit_stops (decode area) (some (message_in s))) → CanBook (decode area) (position_value p)
       booking_of_lem z =
@@ -146,16 +151,16 @@ module _ (s area : List ℕ) (h : is_some (holds area) ≡ true) where
 
       -- the area with the message
       pub booked_done : {a' : List ℕ} {w : ℕ} → w ≡ (decode area).count + messages_written (decode area) (message_in s)
-          → a' ≡ encode (booked_with (decode area) (position_value p) (of_bank p.key.bank (take (b.reference.end - b.reference.start) (drop b.reference.start s))) w) ++ drop area_size area → AreaBooked s area a'
-      booked_done f c = record { area = c ∙ rw (part_is s b.reference.start b.reference.end k.order, position_is, bank_is, k.reference, f, booked_after) refl }
+          → a' ≡ encode (booked_with (decode area) (position_value p) (of_bank b.key.bank (take (b.reference.end - b.reference.start) (drop b.reference.start s))) w) ++ drop area_size area → AreaBooked s area a'
+      booked_done f c = record { area = c ∙ rw (part_cut s b.reference.start b.reference.end k.order, position_is, own_bank, k.reference, f, booked_after) refl }
 
-pub sent_done : {s area : List ℕ} {b : Booking} {p : P.Position} {kept : List Judged} → Ready s area b p kept → {out out' a' : List ℕ} {r : Numbered} {z : ℤ} → length (message_text (decode area) (message_in s)) ≤ length out
-    → TextPut (decode area) (message_in s) 0 out r out' → z ≡ sub_ℕ p.transferred p.detailed → AreaBooked s area a' → Sent s area out r.at z a' out'
-sent_done {s} {area} {b} {p} m l w e c = record {
-  written = wrote_exact w.wrote l;
+pub sent_done : {s area : List ℕ} {b : Booking} {p : P.Position} {kept : List Judged} → Ready s area b p kept → {out out' a' : List ℕ} {w₀ w₁ : Writer} {count : ℕ} {z : ℤ} → length (message_text (decode area) (message_in s)) ≤ length out
+    → TextPut (decode area) (message_in s) w₀ count w₁ → w₀.out.now ≡ out → w₀.at ≡ 0 → out' ≡ w₁.out.now → z ≡ sub_ℕ p.transferred p.detailed → AreaBooked s area a' → Sent s area out w₁.at z a' out'
+sent_done {s} {area} {b} {p} m l w f g o e c = record {
+  written = wrote_exact (wrote_at w.writes f g o) l;
   difference = e ∙ ap (λ (x : Position). sub_ℕ x.transferred x.detailed) m.leaves.same;
   area = c.area;
-  output = wrote_over w.wrote l;
+  output = wrote_over (wrote_at w.writes f g o) l;
   small = rw e (difference_small p.transferred p.detailed m.leaves.transferred_small m.leaves.detailed_small);
 }
 

@@ -43,5 +43,3 @@ module _ (text out : List ℕ) (k : ℕ) where
     pub older_done : k ≡ 0 → {r : ℕ} {out' : List ℕ} → Wrote (without_end text) 0 out r out' → Answers (card_older text out) 0 r (pos 0) [] out'
     unfolding card_older older_call
     older_done n = done (older_stops (length out) text) (without_end text) out k e n (older_clear (length out) text (rw (← e) n)).fits
-
-pub ruleset moving = (newer_stopped, newer_done, older_stopped, older_last, older_done)

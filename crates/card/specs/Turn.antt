@@ -3,7 +3,7 @@ use Rattle.std.specs.Prelude.{◌≡◌, Bool, true, false, not, List, [], ◌�
 use Rattle.std.proofs.Math.Path.{refl}
 use Rattle.std.proofs.Common.{sym, ◌∙◌, arith}
 use Rattle.std.proofs.Math.Option.{some}
-use borrow.Author.Tests.{le-leb, lt-leb, not-true, not-false, ne_eqb}
+use borrow.Author.Tests.{le-leb, lt-leb, ne_eqb}
 use Rattle.std.proofs.Math.IntN.{sub_ℕ}
 use Rattle.std.specs.Int.Signed.{mag}
 use Rattle.rules.specs.Text.{is_some, over}
@@ -16,7 +16,8 @@ use Rattle.laws.specs.Tests.{holds_told, passed_told}
 use Rattle.laws.specs.Writing.{wrote_over, furthest}
 use Rattle.rule_laws.specs.Conditions.{numbered, first_earlier, first_later}
 use Rattle.engine_laws.specs.Decoded.{holds_decode}
-use Rattle.outgoing_number.specs.declared.Numbered.{Numbered}
+use Rattle.put.specs.declared.parts.Writer.{Writer}
+use Rattle.put.specs.Writes.{wrote_at}
 use Rattle.turn_text.specs.Area.{TurnPut}
 use Rattle.turn_text.specs.Sums.{SumsOf}
 use Rattle.turn_text.specs.declared.sums.Sums.{Sums}
@@ -108,27 +109,27 @@ pub record Turned (day : ℕ) (a out : List ℕ) (n : ℕ) (z : ℤ) (a' out' : 
   pub small : mag z < 2 ^ 63
 
 -- its text written, its sums, and the area turned
-pub turned_done : (day : ℕ) {a out out' a' : List ℕ} {r : Numbered} {z : ℤ} (x : Sums) → length (turn_text (decode a) day) ≤ length out → TurnPut a day 0 out r out'
-    → SumsOf (decode a).positions x → z ≡ sub_ℕ x.refunded x.collected → a' ≡ encode (turned (decode a) day r.count) ++ drop area_size a → Turned day a out r.at z a' out'
-turned_done day {a} x l w t d c = record {
-  written = wrote_exact w.wrote l;
+pub turned_done : (day : ℕ) {a out out' a' : List ℕ} {w₀ w₁ : Writer} {count : ℕ} {z : ℤ} (x : Sums) → length (turn_text (decode a) day) ≤ length out → TurnPut a day w₀ count w₁ → w₀.out.now ≡ out → w₀.at ≡ 0 → out' ≡ w₁.out.now
+    → SumsOf (decode a).positions x → z ≡ sub_ℕ x.refunded x.collected → a' ≡ encode (turned (decode a) day count) ++ drop area_size a → Turned day a out w₁.at z a' out'
+turned_done day {a} x l w f g o t d c = record {
+  written = wrote_exact (wrote_at w.writes f g o) l;
   difference = d ∙ rw (t.refunded, t.collected) refl;
-  area = c ∙ rw (w.count, turned_after (decode a) day) refl;
-  output = wrote_over w.wrote l;
+  area = c ∙ rw (w.counted, turned_after (decode a) day) refl;
+  output = wrote_over (wrote_at w.writes f g o) l;
   small = rw d (difference_small x.refunded x.collected (omega (arith, t.refunded_small)) (omega (arith, t.collected_small)));
 }
 
 -- the number of the day's conditions, in their order
 module _ (day : ℕ) (area : List ℕ) (h : is_some (holds area) ≡ true) (t : Bool) (u : t ≡ exists day) where
-  pub stop_date : not t ≡ true → 3 ≡ first_of (day_stops (decode area) day)
+  pub stop_date : t ≡ false → 3 ≡ first_of (day_stops (decode area) day)
   unfolding first_of day_stops
-  stop_date d = rw (← u, not-true t d)
+  stop_date d = rw (← u, d)
 
-  pub stop_later : not t ≡ false → (x : Header) → HeaderOf area x → {l : List ℕ} → ListOf area l → (b : Bool) → Banking l day b → {k : ℕ} → k ≡ first_of (later_stops (leb day x.day) b) → k ≡ first_of (day_stops (decode area) day)
+  pub stop_later : t ≡ true → (x : Header) → HeaderOf area x → {l : List ℕ} → ListOf area l → (b : Bool) → Banking l day b → {k : ℕ} → k ≡ first_of (later_stops (leb day x.day) b) → k ≡ first_of (day_stops (decode area) day)
   unfolding first_of day_stops later_stops
   stop_later d x n {l} w b c {k} e =
       let f : b ≡ is_banking_day (holidays_of (decode area).holidays) day = c.same w.passes ∙ rw w.same in
-      rw (← u, not-false t d, ← n.day, ← f) e
+      rw (← u, d, ← n.day, ← f) e
 
 module _ (day : ℕ) (area out : List ℕ) (h : is_some (holds area) ≡ true) (k : ℕ) (f : k ≡ first_of (day_stops (decode area) day)) where
   engine : holds area ≡ some (decode area)

@@ -1,4 +1,4 @@
-// A message.
+// A message. That the area holds an engine is a clause over its bytes before, since the calls change them (see `engine_change`).
 ghost use Rattle.std.specs.Prelude.{◌≡◌, true, ◌+◌, ◌≤◌, length};
 ghost use Rattle.std.proofs.Math.Option.{some};
 ghost use Rattle.rules.specs.Text.{is_some};
@@ -8,23 +8,27 @@ ghost use Rattle.details.specs.Message.{message_in};
 ghost use Rattle.conditions.specs.Answers.{Passes};
 ghost use Rattle.conditions.specs.Books.{Books};
 ghost use Rattle.card.specs.Answers.{Answers};
+ghost use Rattle.card.specs.Accepted.{Answered};
 ghost use Rattle.card.specs.Measured.{Measured};
 ghost use Rattle.card.specs.Message.{Sent, AreaBooked, Leaves, Ready};
 
-use crate::difference::minus;
+use crate::answer::{Accepted, answer};
 use conditions::Booking;
+use engine::{BankReference, Engine};
 use position::Position;
+use put::Writer;
 use refusal::Refusal;
-use verdict::{Judged, NO_DETAIL};
+use verdict::{Details, NO_DETAIL};
 
 // How many bytes the message makes the card write.
-fn message_size(message: &[u8], kept: &[Judged], area: &[u8], b: Booking, p: Position) -> usize
-    requires { Ready message.now area.now b p kept.now }
-    ensures { Measured (message_text (decode area.now) (message_in message.now)) result }
+fn message_size(details: Details, engine: Engine, b: Booking, p: Position) -> usize
+    requires { Ready details.message.now engine.area.now b p details.kept.now }
+    ensures { Measured (message_text (decode engine.entry.area.now) (message_in details.entry.message.now)) result }
 {
     let mut nothing = [0u8; 0];
-    let text = message_text::put_message_text(&mut nothing, 0, message, kept, area, b, p);
-    text.at
+    let mut w = Writer::new(&mut nothing);
+    message_text::put_message_text(&mut w, details, engine, b, p);
+    w.at
 }
 
 // The message booked in the area: its reference, its position and the outgoing count behind it.
@@ -35,115 +39,92 @@ fn book_in(message: &[u8], area: &mut [u8], b: Booking, count: u32)
     requires count_value { count ≡ (decode area.old).count + messages_written (decode area.old) (message_in message.now) }
     ensures { AreaBooked message.now area.old area.new }
 {
-    let reference = b.reference;
-    engine_change::book_area(
-        area,
-        &message[reference.start as usize..reference.end as usize],
-        state_conditions::added_by(b),
-        count,
-    );
+    let field = &message[b.reference.start as usize..b.reference.end as usize];
+    let reference = BankReference::new(b.key.bank, field);
+    engine_change::book_area(area, reference, state_conditions::added_by(b), count);
 }
 
 // A message that no condition stops: its text is written, its difference told, and it is booked.
 fn accept_message(
-    message: &[u8],
-    kept: &[Judged],
+    details: Details,
     b: Booking,
     p: Position,
     area: &mut [u8],
     output: &mut [u8],
-    written: &mut usize,
-    difference: &mut i64,
-)
-    requires ready { Ready message.now area.old b p kept.now }
-    requires message_in_bounds { length (message_text (decode area.old) (message_in message.now)) ≤ length output.old }
-    ensures { Sent message.now area.old output.old written.new difference.new area.new output.new }
+) -> Accepted
+    requires ready { Ready details.message.now area.old b p details.kept.now }
+    requires fits { length (message_text (decode area.old) (message_in details.message.now)) ≤ length output.old }
+    ensures { Sent details.entry.message.now area.old output.old result.written result.difference area.new output.new }
 {
-    let text = message_text::put_message_text(output, 0, message, kept, area, b, p);
-    *written = text.at;
-    *difference = minus(p.transferred, p.detailed);
-    book_in(message, area, b, text.count);
+    let engine = Engine::held(area);
+    let mut w = Writer::new(output);
+    let count = message_text::put_message_text(&mut w, details, engine, b, p);
+    book_in(details.message, area, b, count);
+    Accepted {
+        written: w.at,
+        difference: p.transferred as i64 - p.detailed as i64,
+    }
 }
 
 // A message that none of 1 to 15 stops; p is its position as it leaves it.
 fn send_message(
-    message: &[u8],
-    kept: &[Judged],
+    details: Details,
     b: Booking,
     p: Position,
     area: &mut [u8],
     output: &mut [u8],
-    written: &mut usize,
-    difference: &mut i64,
-) -> u32
-    requires area_value { is_some (holds area.old) ≡ true }
-    requires passes { Passes message.now (decode area.old).register b kept.now }
-    requires value { 0 ≡ first_of (limit_stops (decode area.old) (some (message_in message.now))) }
-    requires leaves { Leaves area.old message.now p }
-    ensures { Answers (card_message message.now area.old output.old) result written.new difference.new area.new output.new }
+) -> Result<Accepted, Refusal>
+    requires holds_engine { is_some (holds area.old) ≡ true }
+    requires passes { Passes details.message.now (decode area.old).register b details.kept.now }
+    requires none_holds { 0 ≡ first_of (limit_stops (decode area.old) (some (message_in details.message.now))) }
+    requires leaves { Leaves area.old details.message.now p }
+    ensures { Answered (card_message details.entry.message.now area.old output.old) result area.new output.new }
 {
-    *written = 0;
-    *difference = 0;
-    let size = message_size(message, kept, area, b, p);
+    let size = message_size(details, Engine::held(area), b, p);
     if output.len() < size {
-        return Refusal::OutputTooShort.number();
+        return Err(Refusal::OutputTooShort);
     }
-    accept_message(message, kept, b, p, area, output, written, difference);
-    0
+    Ok(accept_message(details, b, p, area, output))
 }
 
 // A message that passed 1 to 8.
 fn book_message(
-    message: &[u8],
-    kept: &[Judged],
+    details: Details,
     b: Booking,
     area: &mut [u8],
     output: &mut [u8],
-    written: &mut usize,
-    difference: &mut i64,
-) -> u32
-    requires area_value { is_some (holds area.old) ≡ true }
-    requires passes { Passes message.now (decode area.old).register b kept.now }
-    ensures { Answers (card_message message.now area.old output.old) result written.new difference.new area.new output.new }
+) -> Result<Accepted, Refusal>
+    requires holds_engine { is_some (holds area.old) ≡ true }
+    requires passes { Passes details.message.now (decode area.old).register b details.kept.now }
+    ensures { Answered (card_message details.entry.message.now area.old output.old) result area.new output.new }
 {
-    *written = 0;
-    *difference = 0;
-    let x = engine::totals_of(area, b.key);
-    if let Err(refusal) = state_conditions::state_number(message, area, b, x) {
-        return refusal.number();
-    }
-    let p = message_text::position_after(b, x);
-    send_message(message, kept, b, p, area, output, written, difference)
+    let engine = Engine::held(area);
+    let before = engine.totals_of(b.key);
+    state_conditions::state_stop(details.message, engine, b, before)?;
+    let p = message_text::position_after(b, before);
+    send_message(details, b, p, area, output)
 }
 
 // A message to an area that holds an engine.
-fn message_engine(
-    message: &[u8],
-    area: &mut [u8],
-    output: &mut [u8],
-    written: &mut usize,
-    difference: &mut i64,
-) -> u32
+fn message_engine(message: &[u8], area: &mut [u8], output: &mut [u8]) -> Result<Accepted, Refusal>
     requires { is_some (holds area.old) ≡ true }
-    ensures { Answers (card_message message.now area.old output.old) result written.new difference.new area.new output.new }
+    ensures { Answered (card_message message.now area.old output.old) result area.new output.new }
 {
     let mut kept = [NO_DETAIL; 16];
-    match conditions::check_message(message, engine::register_text(area), &mut kept) {
-        Err(refusal) => {
-            *written = 0;
-            *difference = 0;
-            refusal.number()
-        }
-        Ok(b) => book_message(
-            message,
-            &kept[0..b.count as usize],
-            b,
-            area,
-            output,
-            written,
-            difference,
-        ),
+    let register = Engine::held(area).register();
+    let b = conditions::check_message(message, register, &mut kept)?;
+    let details = Details::of(message, &kept[0..b.count() as usize]);
+    book_message(details, b, area, output)
+}
+
+// A message to any area.
+fn take_message(message: &[u8], area: &mut [u8], output: &mut [u8]) -> Result<Accepted, Refusal>
+    ensures { Answered (card_message message.now area.old output.old) result area.new output.new }
+{
+    if !engine_check::limits_hold(area) {
+        return Err(Refusal::NoEngine);
     }
+    message_engine(message, area, output)
 }
 
 // Takes an MT103 or MT101.
@@ -156,10 +137,6 @@ pub fn card_message(
 ) -> u32
     ensures { Answers (card_message message.now area.old output.old) result written.new difference.new area.new output.new }
 {
-    if engine_check::limits_hold(area) {
-        return message_engine(message, area, output, written, difference);
-    }
-    *written = 0;
-    *difference = 0;
-    Refusal::NoEngine.number()
+    let call = take_message(message, area, output);
+    answer(call, written, difference)
 }

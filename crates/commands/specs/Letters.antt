@@ -1,5 +1,5 @@
 -- A command of one text, by the letter that its line begins with.
-use Rattle.std.specs.Prelude.{◌≡◌, Bool, true, false, cond, ◌&&◌, List, [], ◌∷◌, ◌++◌, ℕ, ◌+◌, ◌≤◌, Option, Some, None, length, nat_eq, eqb, take, drop}
+use Rattle.std.specs.Prelude.{◌≡◌, Bool, true, false, cond, List, [], ◌∷◌, ◌++◌, ℕ, ◌+◌, ◌≤◌, Option, Some, None, length, nat_eq, take, drop}
 use Rattle.std.specs.Cmp.Lexicographic.{pointwise}
 use Rattle.std.proofs.Math.Path.{refl}
 use Rattle.std.proofs.Common.{sym, ap, subst, ◌∙◌, take-append-drop, arith}
@@ -9,6 +9,7 @@ use Rattle.std.proofs.lemmas.Bool.Decides.{Decides-eqb}
 use Rattle.rules.specs.Text.{equal}
 use Rattle.rules.specs.Replay.{Commanded, single, texts_behind, command_of}
 use Rattle.laws.specs.Equal.{equal_true, equal_same}
+use Rattle.laws.specs.Tests.{either}
 use Rattle.commands.specs.declared.letter.Handed.{Handed}
 use Rattle.commands.specs.declared.letter.Handed.TheVariants.{Message, Newer, Older}
 use Rattle.commands.specs.Answers.{making}
@@ -28,30 +29,14 @@ begun_with c l e = sym (take-append-drop 2 l) ∙ ap (λ (x : List ℕ). x ++ dr
 
 -- by the bytes that `starts_with` compares
 pub begins_is : (c : ℕ) (l : List ℕ) (r : Bool) → r ≡ pointwise nat_eq (c ∷ 44 ∷ []) (take 2 l) → r ≡ begins_with c l
-begins_is c l r e = go r (begins_with c l) (λ h. ap (begins_with c) (starts.0 h) ∙ equal_same (c ∷ 44 ∷ [])) (λ h. starts.1 (drop 2 l) (begun_with c l h))
+begins_is c l r e = either r (begins_with c l) (λ h. ap (begins_with c) (starts.0 h) ∙ equal_same (c ∷ 44 ∷ [])) (λ h. starts.1 (drop 2 l) (begun_with c l h))
   where
     starts : (r ≡ true → l ≡ (c ∷ 44 ∷ []) ++ drop 2 l) × ((rest : List ℕ) → l ≡ (c ∷ 44 ∷ []) ++ rest → r ≡ true)
     starts = starts_is Decides-eqb l (c ∷ 44 ∷ []) r e
 
-    go : (a b : Bool) → (a ≡ true → b ≡ true) → (b ≡ true → a ≡ true) → a ≡ b
-    go true b f g = sym (f refl)
-    go false true f g = g refl
-    go false false f g = refl
-
 -- by those that `strip_prefix` compares: ps begin s, and x stands behind them
 abbrev pub Stripped : List ℕ → List ℕ → List ℕ → Type 0
 Stripped ps s x = (pointwise nat_eq (take (length ps) s) ps ≡ true) × (x ≡ drop (length ps) s) × (length x + length ps ≡ length s)
-
-pub stripped_is : (cs ds : List ℕ) → pointwise nat_eq cs ds ≡ equal cs ds
-unfolding equal
-stripped_is [] [] = refl
-stripped_is [] (d ∷ ds) = refl
-stripped_is (c ∷ cs) [] = refl
-stripped_is (c ∷ cs) (d ∷ ds) = rw (stripped_is cs ds) (go (eqb c d))
-  where
-    go : (t : Bool) → (t && equal cs ds) ≡ cond t (equal cs ds) false
-    go true = refl
-    go false = refl
 
 -- what is handed over
 unfoldable pub letter_in : List ℕ → Option Handed

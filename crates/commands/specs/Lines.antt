@@ -19,7 +19,8 @@ use Rattle.laws.specs.Parts.{cut, from, from_all}
 use Rattle.lines.specs.Answers.{LineAt, line_told, no_line_told}
 use Rattle.commands.specs.declared.letter.Handed.{Handed}
 use Rattle.commands.specs.Answers.{making, turn_behind, opening_behind}
-use Rattle.commands.specs.Letters.{letter_in, Stripped, stripped_is, text_letter, other_letter, text_read, other_read}
+use Rattle.laws.specs.Slices.{equal_is}
+use Rattle.commands.specs.Letters.{letter_in, Stripped, text_letter, other_letter, text_read, other_read}
 use Rattle.commands.specs.Numbers.{lengths_last}
 
 -- ---- texts behind a command line
@@ -81,13 +82,13 @@ module _ (parts others : List ℕ) where
   module _ {day behind : List ℕ} (p : IsSplitAt parts 6 day behind) where
     pub open_other : pointwise nat_eq (take 1 behind) (44 ∷ []) ≡ false → none ≡ opening_behind parts others
     unfolding opening_behind
-    open_other e = let z : equal (take 1 (drop 6 parts)) (ascii ",") ≡ false = sym (stripped_is (take 1 (drop 6 parts)) (44 ∷ [])) ∙ rw (← p.2) e in rw z refl
+    open_other e = let z : equal (take 1 (drop 6 parts)) (ascii ",") ≡ false = sym (equal_is (take 1 (drop 6 parts)) (44 ∷ [])) ∙ rw (← p.2) e in rw z refl
 
     module _ {sizes : List ℕ} (e : Stripped (44 ∷ []) behind sizes) where
       line_is : opening_behind parts others ≡ then (six_digits day) (λ d. texts_behind (opening d) 2 sizes others)
       unfolding opening_behind
       line_is =
-          let z : equal (take 1 (drop 6 parts)) (ascii ",") ≡ true = sym (stripped_is (take 1 (drop 6 parts)) (44 ∷ [])) ∙ rw (← p.2) e.0 in
+          let z : equal (take 1 (drop 6 parts)) (ascii ",") ≡ true = sym (equal_is (take 1 (drop 6 parts)) (44 ∷ [])) ∙ rw (← p.2) e.0 in
           let y : sizes ≡ drop 7 parts = e.1 ∙ rw p.2 (drop-drop 1 6 parts) in
           rw (z, y, p.1) refl
 
@@ -129,23 +130,23 @@ module _ (line others : List ℕ) where
     pub by_turn : {x : M.Option Commanded} {day : List ℕ} → Stripped (84 ∷ 44 ∷ []) line day → x ≡ turn_behind day others → x ≡ command_of line others
     unfolding command_of turn_behind
     by_turn f e =
-        let t : equal (take 2 line) (ascii "T,") ≡ true = sym (stripped_is (take 2 line) (84 ∷ 44 ∷ [])) ∙ f.0 in
+        let t : equal (take 2 line) (ascii "T,") ≡ true = sym (equal_is (take 2 line) (84 ∷ 44 ∷ [])) ∙ f.0 in
         e ∙ sym (other_read line (other_letter line (sym d)) _ _ _ _ ∙ rw (t, f.1))
 
     module _ (f : pointwise nat_eq (take 2 line) (84 ∷ 44 ∷ []) ≡ false) where
       no_turn : equal (take 2 line) (ascii "T,") ≡ false
-      no_turn = sym (stripped_is (take 2 line) (84 ∷ 44 ∷ [])) ∙ f
+      no_turn = sym (equal_is (take 2 line) (84 ∷ 44 ∷ [])) ∙ f
 
       pub by_open : {x : M.Option Commanded} {parts : List ℕ} → Stripped (79 ∷ 44 ∷ []) line parts → x ≡ opening_behind parts others → x ≡ command_of line others
       unfolding command_of opening_behind
       by_open g e =
-          let o : equal (take 2 line) (ascii "O,") ≡ true = sym (stripped_is (take 2 line) (79 ∷ 44 ∷ [])) ∙ g.0 in
+          let o : equal (take 2 line) (ascii "O,") ≡ true = sym (equal_is (take 2 line) (79 ∷ 44 ∷ [])) ∙ g.0 in
           e ∙ sym (other_read line (other_letter line (sym d)) _ _ _ _ ∙ rw (no_turn, o, g.1, drop-drop 6 2 line, drop-drop 7 2 line))
 
       pub by_none : pointwise nat_eq (take 2 line) (79 ∷ 44 ∷ []) ≡ false → none ≡ command_of line others
       unfolding command_of
       by_none k =
-          let o : equal (take 2 line) (ascii "O,") ≡ false = sym (stripped_is (take 2 line) (79 ∷ 44 ∷ [])) ∙ k in
+          let o : equal (take 2 line) (ascii "O,") ≡ false = sym (equal_is (take 2 line) (79 ∷ 44 ∷ [])) ∙ k in
           sym (other_read line (other_letter line (sym d)) _ _ _ _ ∙ rw (no_turn, o))
 
 -- ---- by its line

@@ -1,15 +1,14 @@
 -- Laws of days and lengths in command lines: a length is parted from the next by the first comma.
 use Rattle.std.specs.Prelude.{◌≡◌, Bool, ◌&&◌, ◌==◌, not, ℕ, zero, suc, ◌+◌, ◌-◌, ◌*◌, ◌≤◌, ◌<◌, Option, Some, None, leb, eqb, length, get_or, take, drop, replicate, position}
-use Rattle.std.specs.List.{prefix_len, position_or_len}
+use Rattle.std.specs.List.{position_or_len}
 use Rattle.std.proofs.Math.Path.{refl, sym, ap}
-use Rattle.std.proofs.Common.{◌∙◌, lt_of_le_of_lt, lit<, Fits, length-drop, take-append-drop, ltb-true, ltb-false}
+use Rattle.std.proofs.Common.{◌∙◌, Fits, take-append-drop, ltb-true, ltb-false, zero-add}
 use Rattle.std.proofs.Math.Bool.{true, false, cond}
 use mathlib.Core.List.{List, [], ◌∷◌, ◌++◌}
 use Rattle.std.proofs.Math.Option as M
 use Rattle.std.proofs.Math.Option.{none, some, map}
 use native.Mathlib.Omega.{arith}
 use Rattle.std.proofs.Math.Dec.{eqb-suc-suc, ltb}
-use Rattle.std.proofs.Math.Seq.{take-length}
 use Rattle.std.proofs.lemmas.List.{drop_more}
 use borrow.Author.Tests.{le-leb, lt-leb, leb-true, eqb-true, ne_eqb, not-false}
 use borrow.Author.Rules.{Fits-under}
@@ -18,7 +17,9 @@ use Rattle.rules.specs.Text.{ascii, is_digit, digits_from, digits, every, fits, 
 use Rattle.rules.specs.Lines.{parted}
 use Rattle.rules.specs.Replay.{length_of, parted_lengths, six_digits}
 use Rattle.laws.specs.Parts.{cut, cut_all, from, from_all, from_step, from_done}
-use Rattle.laws.specs.Reading.{Placed, power, fits_length}
+use Rattle.laws.specs.Front.{front_passed_all}
+use Rattle.laws.specs.Places.{Passed}
+use Rattle.laws.specs.Reading.{digit_low, fits_length}
 use Rattle.laws.specs.Numbers.{digits_small}
 use Rattle.laws.specs.Values.{digits_each}
 use Rattle.laws.specs.Patterns.{digit_sign, fits_last}
@@ -64,13 +65,13 @@ module _ (part : List ℕ) (k n : ℕ) (x : M.Option ℕ) (inv : limited n (from
     unfolding limited digits_from
     length_bad d = rw (from_step part k h, d) at inv
 
-    module _ (d : is_digit (get_or part k 0) ≡ true) (r : ℕ) (p : Placed 10 n (get_or part k 0 - 48) r) where
-      pub length_more : limited r (from part (k + 1)) ≡ x
+    module _ (d : is_digit (get_or part k 0) ≡ true) where
+      pub length_more : limited (n * 10 + (get_or part k 0 - 48)) (from part (k + 1)) ≡ x
       unfolding limited digits_from
-      length_more = rw p.value (rw (from_step part k h, d) at inv)
+      length_more = rw (from_step part k h, d) at inv
 
-      pub length_large : 8192 < r → none ≡ x
-      length_large l = limited_large r (from part (k + 1)) l ∙ length_more
+      pub length_large : 8192 < n * 10 + (get_or part k 0 - 48) → none ≡ x
+      length_large l = limited_large (n * 10 + (get_or part k 0 - 48)) (from part (k + 1)) l ∙ length_more
 
   pub length_end : length part ≤ k → n ≤ 8192 → some n ≡ x
   unfolding limited digits_from
@@ -83,27 +84,6 @@ abbrev pub lengths_in : Option (ℕ × ℕ) → M.Option (List ℕ)
 lengths_in (Some (m, n)) = some (m ∷ n ∷ [])
 lengths_in None = none
 
--- a slice from a place on
-pub rest_is : (s : List ℕ) (k : ℕ) → take (length s - k) (drop k s) ≡ drop k s
-rest_is s k = rw (← length-drop k s) (take-length (drop k s))
-
--- how far a test holds from the front on
-pub record Front (p : ℕ → Bool) (l : List ℕ) (k : ℕ) : Type 0 where
-  pub within : k ≤ length l
-  pub passes : every p (take k l) ≡ true
-  pub next : k < length l → p (get_or l k 0) ≡ false
-
-pub front_of : (p : ℕ → Bool) (l : List ℕ) → Front p l (prefix_len p l)
-unfolding every
-front_of p [] = record { within = omega arith; passes = refl; next = λ (h : 0 < 0). absurd (omega arith) }
-front_of p (x ∷ l) = go (p x) refl (front_of p l)
-  where
-    go : (t : Bool) → p x ≡ t → Front p l (prefix_len p l) → Front p (x ∷ l) (cond t (1 + prefix_len p l) 0)
-    go true e f =
-        let k : 1 + prefix_len p l ≡ suc (prefix_len p l) = omega arith in
-        rw k record { within = omega (arith, f.within); passes = rw (e, f.passes); next = λ h. f.next (omega arith) }
-    go false e f = record { within = omega arith; passes = refl; next = λ _. e }
-
 -- the first comma stands at k
 record CommaAt (l : List ℕ) (k : ℕ) : Type 0 where
   within : k < length l
@@ -114,27 +94,27 @@ no_comma : (l : List ℕ) → position (λ c. c == 44) l ≡ None → every in_p
 unfolding in_part
 no_comma l e = go (ltb (position_or_len (λ c. c == 44) l) (length l)) refl e
   where
-    f : Front in_part l (position_or_len (λ c. c == 44) l)
-    f = front_of in_part l
+    f : Passed in_part l 0 (length l) (position_or_len (λ c. c == 44) l)
+    f = front_passed_all in_part l (position_or_len (λ c. c == 44) l) refl
 
     go : (t : Bool) → ltb (position_or_len (λ c. c == 44) l) (length l) ≡ t → cond t (Some (position_or_len (λ c. c == 44) l)) None ≡ None → every in_part l ≡ true
     go true h k = absurd (cc)
-    go false h k = let m : position_or_len (λ c. c == 44) l ≡ length l = omega (arith, ltb-false _ _ h, f.within) in rw (m, take-length) at f.passes
+    go false h k = let m : position_or_len (λ c. c == 44) l ≡ length l = omega (arith, ltb-false _ _ h, f.within) in rw (zero-add, m, cut_all) at f.front
 
 first_comma : (l : List ℕ) (k : ℕ) → position (λ c. c == 44) l ≡ Some k → CommaAt l k
-unfolding in_part
+unfolding in_part cut
 first_comma l k e = go (ltb (position_or_len (λ c. c == 44) l) (length l)) refl e
   where
-    f : Front in_part l (position_or_len (λ c. c == 44) l)
-    f = front_of in_part l
+    f : Passed in_part l 0 (length l) (position_or_len (λ c. c == 44) l)
+    f = front_passed_all in_part l (position_or_len (λ c. c == 44) l) refl
 
     made : (k : ℕ) → position_or_len (λ c. c == 44) l ≡ k → k < length l → CommaAt l k
     made k u h =
-        let n : not (eqb (get_or l k 0) 44) ≡ false = rw u at (f.next (omega arith)) in
+        let n : not (eqb (get_or l k 0) 44) ≡ false = rw (zero-add, u) at (f.next (omega arith)) in
         let c : get_or l k 0 ≡ 44 = eqb-true _ _ (not-false _ n) in
         record {
           within = h;
-          front = rw u at f.passes;
+          front = rw (zero-add, u) at f.front;
           apart = sym (take-append-drop k l) ∙ ap (λ (x : List ℕ). take k l ++ x) (drop_more l k 0 h ∙ rw c);
         }
 
@@ -213,9 +193,6 @@ module _ (part : List ℕ) where
   module _ {k : ℕ} (e : Some k ≡ position (λ c. c == 44) part) where
     parting : CommaAt part k
     parting = first_comma part k (sym e)
-
-    pub comma_within : k < length part
-    comma_within = parting.within
 
     lengths_are : parted_lengths 2 part ≡ then (length_of (take k part)) (λ n. map (λ more. n ∷ more) (then (length_of (drop (k + 1) part)) (λ m. some (m ∷ []))))
     lengths_are = ap (parted_lengths 2) parting.apart ∙ rw (lengths_next 1 (take k part) (drop (k + 1) part) parting.front, lengths_last (drop (k + 1) part))
@@ -345,9 +322,4 @@ module _ (part : List ℕ) where
       pub room_read : v ≤ 1048576 → some v ≡ room_of part
       room_read m = sym (room_is ∙ rw (← w, le-leb _ _ m))
 
--- a number that is no larger takes a further digit
-pub length_room : (v : ℕ) → v ≤ 8192 → v < power 10 17
-unfolding power
-length_room v h = lt_of_le_of_lt h (lit< tt)
-
-pub ruleset numbers = (holds_told, length_room, length_empty, length_starts, length_large, length_more, length_bad, length_end, six_other, six_read)
+pub ruleset numbers = (holds_told, digit_low, length_empty, length_starts, length_large, length_more, length_bad, length_end, six_other, six_read)

@@ -1,5 +1,6 @@
 -- The places of a window where lengths begin, from one to the next: two zeros stand at one of them, or the window has no idle zeros.
 use Rattle.std.specs.Prelude.{◌≡◌, Bool, false, ◌&&◌, not, eqb, get_or, drop, Option, Some, None, IfSome, is_some}
+use Rattle.std.specs.List.{prefix_len}
 use Rattle.std.proofs.Math.Path.{refl, sym, ap, subst}
 use Rattle.std.proofs.Common.{◌∙◌, arith, length-take, take-append-drop, length-take-le, drop_at, eqb-true}
 use Rattle.std.proofs.Math.Bool.{true}
@@ -11,6 +12,8 @@ use Rattle.std.proofs.lemmas.Bool.{not-true}
 use Rattle.rules.specs.Text.{ascii, is_digit, every, fits, fits_sign}
 use Rattle.laws.specs.Parts.{cut, from, from_take, from_cut, from_step, cut_join, cut_length, cut_size}
 use Rattle.laws.specs.Places.{Passed}
+use Rattle.laws.specs.Front.{front_passed_at}
+use Rattle.laws.specs.Slices.{rest_whole}
 use Rattle.laws.specs.Tests.{and_left, and_right, cond_left, cond_right, never}
 use Rattle.laws.specs.Equal.{equal_same}
 use Rattle.laws.specs.Every.{every_append}
@@ -100,22 +103,21 @@ module _ (w : List ℕ) where
   first_text (Some h) u e = record { told = seek_start w (letter_of h ∷ 44 ∷ []) 2 (handing h) refl (ap (take 2) (text_letter w h (sym u))) }
   first_text None u e = never e
 
-  module _ (t : Bool) (v : t ≡ fits (ascii "O,nnnnnn,") (cut w 0 9)) where
+  module _ (t : Bool) (v : t ≡ fits (ascii "O,nnnnnn,") (take 9 w)) where
     pub first_opening : t ≡ true → SeekingAt w (Some 9)
-    unfolding cut
     first_opening h =
         let k : fits (ascii "O,nnnnnn,") (take 9 w) ≡ true = sym v ∙ h in
         record { told = seek_start w (take 9 w) 9 (opening_of (take 9 w) k) (sym (fits_length (ascii "O,nnnnnn,") (take 9 w) k)) refl }
 
     pub first_none : (o : Option Handed) → o ≡ letter_in w → is_some o ≡ false → t ≡ false → SeekingAt w None
-    unfolding cut fits fits_sign
+    unfolding fits fits_sign
     first_none (Some h) u f h' = never (sym f)
     first_none None u f h = record { told = record { none = λ q x s e. absurd (no q x s e) } }
       where
         no : (q x : List ℕ) → Starts q → w ≡ q ++ x → ⊥
         no q x (handing g) e = never (sym (other_letter w (sym u) g) ∙ ap (begins_with (letter_of g)) e ∙ equal_same (letter_of g ∷ 44 ∷ []))
         no q x (opening d k) e =
-            never (sym h ∙ v ∙ ap (λ (y : List ℕ). fits (ascii "O,nnnnnn,") (cut y 0 9)) e ∙ ap (fits (ascii "nnnnnn,")) (take_at (d ++ 44 ∷ []) x 7 (day_comma d k)) ∙ fits_join (ascii "nnnnnn") d (ascii ",") (44 ∷ []) k)
+            never (sym h ∙ v ∙ ap (λ (y : List ℕ). fits (ascii "O,nnnnnn,") (take 9 y)) e ∙ ap (fits (ascii "nnnnnn,")) (take_at (d ++ 44 ∷ []) x 7 (day_comma d k)) ∙ fits_join (ascii "nnnnnn") d (ascii ",") (44 ∷ []) k)
 
 -- the place behind p
 pub record NextLength (w : List ℕ) (p : ℕ) (r : Option ℕ) : Type 0 where
@@ -139,16 +141,11 @@ no_idle u z f = record { none = go }
     go ps v nothing e = never (sym z ∙ ap (λ (x : List ℕ). fits (ascii "00") (take 2 x)) e)
     go ps v (lengths es {ps = qs} h l) e = (f es (qs ++ (48 ∷ 48 ∷ v)) h (e ∙ append_assoc es (44 ∷ qs) (48 ∷ 48 ∷ v))).none qs v l refl
 
-idle_end : NoIdleIn []
-unfolding fits
-idle_end = no_idle [] refl (λ es y h e. absurd (no es y e))
-  where
-    no : (es y : List ℕ) → [] ≡ es ++ 44 ∷ y → ⊥
-    no [] y e = nil≢cons e
-    no (c ∷ es) y e = nil≢cons e
-
 -- d digits stand at p
-module _ (w : List ℕ) (p d : ℕ) (b : p ≤ length w) (q : Passed is_digit w p (length w - p) d) where
+module _ (w : List ℕ) (p d : ℕ) (b : p ≤ length w) (v : d ≡ prefix_len is_digit (take (length w - p) (drop p w))) where
+  q : Passed is_digit w p (length w - p) d
+  q = let e : p + (length w - p) ≡ length w = omega arith in front_passed_at is_digit w p (length w - p) d (omega arith) (rw e v)
+
   zeros_none : fits (ascii "00") (cut w p (p + 2)) ≡ false → fits (ascii "00") (take 2 (from w p)) ≡ false
   zeros_none z = ap (fits (ascii "00")) (from_take w p 2) ∙ z
 
@@ -222,7 +219,11 @@ module _ (w : List ℕ) (place : Option ℕ) (s : SeekingAt w place) where
     pub seek_within : p ≤ length w
     seek_within = seeking_here.within
 
-    module _ (t : Bool) (u : t ≡ fits (ascii "00") (cut w p (p + 2))) where
+    module _ (t : Bool) (v : t ≡ fits (ascii "00") (take 2 (take (length w - p) (drop p w)))) where
+      u : t ≡ fits (ascii "00") (cut w p (p + 2))
+      unfolding from
+      u = rw (rest_whole w p, from_take w p 2) at v
+
       pub idle_found : t ≡ true → IdleAt w (Some p)
       unfolding every itself
       idle_found h =

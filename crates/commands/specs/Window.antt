@@ -1,7 +1,7 @@
 -- Room made in a window of the input: what is not yet taken goes to the front, and of a length's leading zeros all but one may go.
 use Rattle.std.specs.Prelude.{◌≡◌, Bool, true, Some, None, take_while}
 use Rattle.std.proofs.Math.Path.{refl, sym, ap}
-use Rattle.std.proofs.Common.{◌∙◌, add-zero, length-append, take-append-drop, length-take-le, take_at, eqb-true, eq-eqb}
+use Rattle.std.proofs.Common.{◌∙◌, add-zero, zero-add, length-append, take-append-drop, length-take-le, take_at, eqb-true, eq-eqb}
 use Rattle.std.proofs.Math.Bool.{false}
 use mathlib.Core.List.{List, [], ◌∷◌, ◌++◌, append_assoc}
 use Rattle.std.proofs.Math.Option as M
@@ -20,7 +20,8 @@ use Rattle.laws.specs.Laid.{laid, laid_fits, laid_length}
 use Rattle.laws.specs.Tests.{cond_left, cond_right, never}
 use Rattle.rule_laws.specs.Commas.{part_digits, parted_next}
 use Rattle.rule_laws.specs.Lines.{in_line, line_goes}
-use Rattle.commands.specs.Numbers.{Front, front_of}
+use Rattle.laws.specs.Front.{front_passed_all}
+use Rattle.laws.specs.Places.{Passed}
 use Rattle.commands.specs.Seeking.{IdleHere, IdleAt}
 use Rattle.commands.specs.Leads.{Earlier, Earlier.nothing, Earlier.lengths, Leads, leads_plain, Bears, starts_bears, NoIdle}
 
@@ -143,8 +144,12 @@ module _ (s : List ℕ) (n : ℕ) (l : n ≤ length s) where
       unfolding from
       behind_is = let a : p + 1 + (n - (p + 1)) ≡ n = omega (arith, idle_within) in rw a at (from_take s (p + 1) (n - (p + 1)))
 
-      nulls_front : Front is_null (cut s (p + 1) n) z
-      nulls_front = rw (q, behind_is, length-prefix_len is_null (cut s (p + 1) n)) (front_of is_null (cut s (p + 1) n))
+      nulls_front : Passed is_null (cut s (p + 1) n) 0 (length (cut s (p + 1) n)) z
+      nulls_front = front_passed_all is_null (cut s (p + 1) n) z (rw (q, behind_is) (length-prefix_len is_null (cut s (p + 1) n)))
+
+      nulls_passed : every is_null (take z (cut s (p + 1) n)) ≡ true
+      unfolding cut
+      nulls_passed = rw zero-add at nulls_front.front
 
       pub zeros_within : z ≤ n - (p + 1)
       zeros_within = rw (cut_length s (p + 1) n l) at nulls_front.within
@@ -155,7 +160,7 @@ module _ (s : List ℕ) (n : ℕ) (l : n ≤ length s) where
       -- the second is one of those behind p
       some_zeros : (k : ℕ) → k ≡ z → 0 < k
       some_zeros zero e =
-          let b : eqb (get_or (cut s (p + 1) n) 0 0) 48 ≡ false = rw (← e) at (nulls_front.next (omega (arith, idle_within, cut_length s (p + 1) n l))) in
+          let b : eqb (get_or (cut s (p + 1) n) 0 0) 48 ≡ false = rw (zero-add, ← e) at (nulls_front.next (omega (arith, idle_within, cut_length s (p + 1) n l))) in
           let d : p + 1 + 0 ≡ p + 1 = omega arith in
           let a : get_or (cut s (p + 1) n) 0 0 ≡ get_or s (p + 1) 0 = cut_get s (p + 1) n 0 (omega (arith, idle_within)) ∙ rw d in
           never (sym b ∙ eq-eqb _ _ (a ∙ sym (zero_at 1 (omega arith))))
@@ -170,7 +175,7 @@ module _ (s : List ℕ) (n : ℕ) (l : n ≤ length s) where
         whole =
             let a : 0 + p ≡ p = omega arith in
             let b : length (cut s (p + 1) (p + 1 + z)) ≡ z = cut_length s (p + 1) (p + 1 + z) (omega (arith, z_within)) ∙ omega arith in
-            let c : cut s (p + 1) (p + 1 + z) ≡ replicate z 48 = nulls (cut s (p + 1) (p + 1 + z)) (rw (cut_take s (p + 1) n z z_within) at nulls_front.passes) ∙ rw b in
+            let c : cut s (p + 1) (p + 1 + z) ≡ replicate z 48 = nulls (cut s (p + 1) (p + 1 + z)) (rw (cut_take s (p + 1) n z z_within) at nulls_passed) ∙ rw b in
             let g : drop p (cut s 0 n) ≡ 48 ∷ (replicate z 48 ++ cut s (p + 1 + z) n) =
             cut_drop s 0 n p ∙ rw a (cut_step s p n (omega (arith, idle_within)) l ∙ rw (first_zero, ← cut_join s (p + 1) z n z_within, c)) in
             sym (take-append-drop p (cut s 0 n)) ∙ ap (λ (x : List ℕ). take p (cut s 0 n) ++ x) g
@@ -208,5 +213,3 @@ room_made s at n r {s₁} h l m w =
       same = λ more. w.same more ∙ ap (λ (x : List ℕ). command (x ++ more)) c;
       idle = λ e. w.idle (omega arith);
     }
-
-pub ruleset windows = (idle_within, zeros_within, shorten_none, shorten_less, room_made)

@@ -18,7 +18,7 @@ pub fn read_length(part: &[u8]) -> Option<u64>
         if !Digit::has(c) {
             return None;
         }
-        n = text::with_digit(n, c);
+        n = n * 10 + (c - 48) as u64;
         if n > 8192 {
             return None;
         }

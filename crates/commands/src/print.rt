@@ -1,14 +1,16 @@
 // Answers printed.
 ghost use Rattle.rules.specs.Replay.{signed};
-ghost use Rattle.laws.specs.Writing.{Wrote};
+ghost use Rattle.put.specs.Writes.{Writes};
+
+use put::Writer;
 
 // A difference, with its sign where it is below 0.
-pub fn put_signed(out: &mut [u8], at: usize, z: i64) -> usize
-    ensures { Wrote (signed z) at out.old result out.new }
+pub fn put_signed(w: &mut Writer, z: i64)
+    ensures { Writes (signed z) w.old w.new }
 {
     if z < 0 {
-        let a = put::put_byte(out, at, b'-');
-        return put::put_decimal(out, a, z.unsigned_abs());
+        w.put_byte(b'-');
+        return w.put_decimal(z.unsigned_abs());
     }
-    put::put_decimal(out, at, z.unsigned_abs())
+    w.put_decimal(z.unsigned_abs());
 }

@@ -12,19 +12,18 @@ fn first_length(w: &[u8]) -> Option<usize>
     if letter_at(w).is_some() {
         return Some(2);
     }
-    if text::fits_pattern(b"O,nnnnnn,", w, 0) {
+    if text::begins_as(b"O,nnnnnn,", w) {
         return Some(9);
     }
     None
 }
 
-// Where the length behind the one at p begins.
+// Where the length behind the one at p begins. (A place of the window, as the answer is.)
 fn next_length(w: &[u8], p: usize) -> Option<usize>
-    requires within { p ≤ length w.now }
-    requires narrow { length w.now ≤ 1048576 }
+    requires { p ≤ length w.now }
     ensures { NextLength w.now p result }
 {
-    let e = p + text::leading_at::<text::Digit>(w, p, (w.len() - p) as u32) as usize;
+    let e = p + text::leading::<text::Digit>(&w[p..]);
     if e < w.len() && w[e] == b',' {
         return Some(e + 1);
     }
@@ -33,12 +32,11 @@ fn next_length(w: &[u8], p: usize) -> Option<usize>
 
 // Where the first length begins that begins with two zeros.
 fn idle_place(w: &[u8]) -> Option<usize>
-    requires { length w.now ≤ 1048576 }
     ensures { IdleAt w.now result }
 {
     let mut place = first_length(w);
     while let Some(p) = place {
-        if text::fits_pattern(b"00", w, p) {
+        if text::begins_as(b"00", &w[p..]) {
             return Some(p);
         }
         place = next_length(w, p);
@@ -56,7 +54,6 @@ fn zeros_at(part: &[u8]) -> usize
 // Takes all zeros but one off the front of a length that the first n bytes have; answers how many bytes are left.
 fn shorten(s: &mut [u8], n: usize) -> usize
     requires within { n ≤ length s.old }
-    requires narrow { n ≤ 1048576 }
     ensures { Roomed s.old 0 n result s.new }
 {
     let Some(p) = idle_place(&s[..n]) else {
@@ -72,7 +69,6 @@ fn shorten(s: &mut [u8], n: usize) -> usize
 // Moves the bytes from at up to n to the front and leaves out zeros that a length begins with; answers how many bytes are left.
 pub fn make_room(s: &mut [u8], at: usize, n: usize) -> usize
     requires within { (at ≤ n) × (n ≤ length s.old) }
-    requires narrow { n ≤ 1048576 }
     ensures { Roomed s.old at n result s.new }
 {
     put::move_bytes(s, at, 0, n - at);

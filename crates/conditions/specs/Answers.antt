@@ -10,7 +10,7 @@ use Rattle.rules.specs.Calls.{form_stops, first_of, input_stops}
 use Rattle.details.specs.Message.{or_none, message_in, detail_at}
 use Rattle.verdict.specs.Details.{no_judged, judged_at, JudgedAs, JudgedIn}
 use Rattle.verdict.specs.declared.detail.Judged.{Judged}
-use Rattle.conditions.specs.Books.{Books}
+use Rattle.conditions.specs.Books.{Books, count_of}
 use Rattle.conditions.specs.declared.booking.Booking.{Booking}
 use Rattle.refusal.specs.Numbers.{number_of, stop_of}
 use Rattle.refusal.specs.declared.Refusal.{Refusal}
@@ -24,10 +24,10 @@ pub record Reads (s text : List ℕ) (o : Option Message) (b : Booking) (kept : 
   pub message : Message
   pub same : o ≡ some message
   pub books : Books s message b
-  pub count : b.count ≡ length (details_of message)
-  pub few : b.count ≤ 16
-  pub room : b.count ≤ length kept
-  pub each : (i : ℕ) → i < b.count → JudgedAs text s (detail_at (details_of message) i) (judged_at kept i)
+  pub count : count_of b.kind ≡ length (details_of message)
+  pub few : count_of b.kind ≤ 16
+  pub room : count_of b.kind ≤ length kept
+  pub each : (i : ℕ) → i < count_of b.kind → JudgedAs text s (detail_at (details_of message) i) (judged_at kept i)
 
 abbrev pub Parts : List ℕ → List ℕ → Option Message → List Judged → Checked → Type 0
 Parts s text o kept (Err r) = 0 < number_of r
@@ -64,16 +64,16 @@ module _ (s text : List ℕ) (b : Booking) (kept : List Judged) (z : first_of (i
   its : message_in s ≡ p.message
   its = message_is s p.message p.same
 
-  many : length (take b.count kept) ≡ b.count
-  many = length-take-le b.count kept p.room
+  many : length (take (count_of b.kind) kept) ≡ count_of b.kind
+  many = length-take-le (count_of b.kind) kept p.room
 
-  here : (i : ℕ) → i < length (take b.count kept) → i < b.count
+  here : (i : ℕ) → i < length (take (count_of b.kind) kept) → i < count_of b.kind
   here i l = omega (arith, many)
 
-  judged_here : (i : ℕ) → i < length (take b.count kept) → JudgedAs text s (detail_at (details_of (message_in s)) i) (judged_at (take b.count kept) i)
-  judged_here i l = rw (its, get_or-take b.count kept i no_judged (here i l)) (p.each i (here i l))
+  judged_here : (i : ℕ) → i < length (take (count_of b.kind) kept) → JudgedAs text s (detail_at (details_of (message_in s)) i) (judged_at (take (count_of b.kind) kept) i)
+  judged_here i l = rw (its, get_or-take (count_of b.kind) kept i no_judged (here i l)) (p.each i (here i l))
 
-  reads_told : Passes s text b (take b.count kept)
+  reads_told : Passes s text b (take (count_of b.kind) kept)
   reads_told = record {
     none_holds = z;
     read = rw its p.same;
@@ -92,8 +92,8 @@ module _ (s text : List ℕ) (r : Checked) (kept : List Judged) (h : CheckedAs s
   refused_some k e = subst (Parts s text (read s) kept) e h.parts
 
   -- the first of what is kept, as a slice
-  pub passed_told : (b : Booking) → r ≡ Ok b → Passes s text b (take (b.count - 0) kept)
-  passed_told b e = rw (sub-zero b.count) (reads_told s text b kept (sym h.number ∙ ap (λ (x : Checked). stop_of x) e) (subst (Parts s text (read s) kept) e h.parts))
+  pub passed_told : (b : Booking) → r ≡ Ok b → Passes s text b (take ((count_of b.kind) - 0) kept)
+  passed_told b e = rw (sub-zero (count_of b.kind)) (reads_told s text b kept (sym h.number ∙ ap (λ (x : Checked). stop_of x) e) (subst (Parts s text (read s) kept) e h.parts))
 
-  pub passed_room : (b : Booking) → r ≡ Ok b → b.count ≤ length kept
+  pub passed_room : (b : Booking) → r ≡ Ok b → count_of b.kind ≤ length kept
   passed_room b e = let p : Reads s text (read s) b kept = subst (Parts s text (read s) kept) e h.parts in p.room

@@ -1,18 +1,30 @@
 -- What booking a message needs of it, read off its bytes.
-use Rattle.std.specs.Prelude.{◌≡◌, refl, Bool, true, false, not, List, ℕ, ◌-◌, ◌*◌, ◌^◌, ◌≤◌, ◌<◌, leb, eqb, length}
-use Rattle.std.proofs.Common.{sym, ap, arith, leb-true}
+use Rattle.std.specs.Prelude.{◌≡◌, refl, Bool, true, false, not, List, ℕ, ◌-◌, ◌*◌, ◌^◌, ◌≤◌, ◌<◌, leb, eqb, length, take, drop}
+use Rattle.std.proofs.Common.{sym, arith, leb-true}
 use Rattle.rules.specs.Text.{between, is_text, every, run, big_endian}
 use Rattle.rules.specs.Lines.{sender}
 use Rattle.rules.specs.Messages.{Message, mt103, mt101, Transfer, Order, reference_of, details_of, date_of, transferred_by, detailed_by, sum_of_amounts, first_date}
 use Rattle.rules.specs.Calls.{misdated, bank_of, key_of}
-use Rattle.laws.specs.Parts.{cut, from, from_take, cut_length}
+use Rattle.laws.specs.Parts.{from, cut_length}
 use Rattle.laws.specs.Tests.{and_left, and_right}
 use Rattle.rule_laws.specs.Dates.{date_small}
 use Rattle.engine_laws.specs.Accepted.{Has}
 use Rattle.forms.specs.Spans.{span_of, SpanIn}
 use Rattle.forms.specs.declared.rows.Span.{Span}
 use Rattle.position.specs.Values.{key_value}
+use Rattle.conditions.specs.declared.booking.Kind.{Kind}
+use Rattle.conditions.specs.declared.booking.Kind.TheVariants.{Transfer as AnMt103, Order as AnMt101}
 use Rattle.conditions.specs.declared.booking.Booking.{Booking}
+
+-- is it an MT103?
+abbrev pub is_transfer : Kind → Bool
+is_transfer AnMt103 = true
+is_transfer (AnMt101 n) = false
+
+-- how many details a message of the kind has
+abbrev pub count_of : Kind → ℕ
+count_of AnMt103 = 0
+count_of (AnMt101 n) = n
 
 -- an amount where the test holds
 abbrev pub amount_if : Bool → ℕ → ℕ
@@ -39,8 +51,8 @@ KindOf m amount true = IsTransfer m amount
 KindOf m amount false = IsOrder m
 
 -- the booking of a message: the sender is the bank of its position's key
-abbrev pub booking_of : List ℕ → Bool → Span → ℕ → ℕ → ℕ → Booking
-booking_of s transfer reference date amount count = record { key = record { bank = big_endian (cut s 4 12); date = date }; amount = amount; reference = reference; transfer = transfer; count = count }
+abbrev pub booking_of : List ℕ → Kind → Span → ℕ → ℕ → Booking
+booking_of s kind reference date amount = record { key = record { bank = big_endian (take 8 (drop 4 s)); date = date }; amount = amount; reference = reference; kind = kind }
 
 pub record Books (s : List ℕ) (m : Message) (b : Booking) : Type 0 where
   pub key : key_value b.key ≡ key_of m
@@ -49,18 +61,18 @@ pub record Books (s : List ℕ) (m : Message) (b : Booking) : Type 0 where
   pub room : b.reference.end ≤ length s
   pub short : b.reference.end - b.reference.start ≤ 16
   pub text : every is_text (span_of s b.reference) ≡ true
-  pub transferred : transferred_by m ≡ amount_if b.transfer b.amount
-  pub detailed : detailed_by m ≡ amount_if (not b.transfer) b.amount
-  pub dated : (day : ℕ) → misdated day m ≡ misdated_by b.transfer b.key.date day
+  pub transferred : transferred_by m ≡ amount_if (is_transfer b.kind) b.amount
+  pub detailed : detailed_by m ≡ amount_if (not (is_transfer b.kind)) b.amount
+  pub dated : (day : ℕ) → misdated day m ≡ misdated_by (is_transfer b.kind) b.key.date day
   pub small : b.amount ≤ 16 * 10 ^ 16
-  pub kind : KindOf m b.amount b.transfer
+  pub kind : KindOf m b.amount (is_transfer b.kind)
 
 -- ---- of any message that was read
 
 module _ (s : List ℕ) (m : Message) (h : Has s m) where
-  bank_is : big_endian (cut s 4 12) ≡ bank_of m
+  bank_is : big_endian (take 8 (drop 4 s)) ≡ bank_of m
   unfolding sender from
-  bank_is = rw h.sent (ap big_endian (sym (from_take s 4 8)))
+  bank_is = rw h.sent refl
 
   pub date_six : date_of m < 1000000
   date_six = date_small (date_of m) h.date
@@ -78,9 +90,9 @@ module _ (s : List ℕ) (m : Message) (h : Has s m) where
     reference_short = rw (cut_length s p.start p.end w.room) at (leb-true (length (span_of s p)) 16 (and_right (leb 1 (length (span_of s p))) _ (and_left _ _ reference_run)))
 
     -- the booking has the message's reference, and of the rest what its kind says
-    books : (t : Bool) (date amount count : ℕ) → date ≡ date_of m → transferred_by m ≡ amount_if t amount → detailed_by m ≡ amount_if (not t) amount → ((day : ℕ) → misdated day m ≡ misdated_by t date day) → amount ≤ 16 * 10 ^ 16 → KindOf m amount t
-        → Books s m (booking_of s t p date amount count)
-    books t date amount count d f g i l k = record {
+    books : (t : Kind) (date amount : ℕ) → date ≡ date_of m → transferred_by m ≡ amount_if (is_transfer t) amount → detailed_by m ≡ amount_if (not (is_transfer t)) amount → ((day : ℕ) → misdated day m ≡ misdated_by (is_transfer t) date day) → amount ≤ 16 * 10 ^ 16 → KindOf m amount (is_transfer t)
+        → Books s m (booking_of s t p date amount)
+    books t date amount d f g i l k = record {
       key = rw (bank_is, d);
       reference = e;
       order = w.order;
@@ -97,11 +109,11 @@ module _ (s : List ℕ) (m : Message) (h : Has s m) where
 -- ---- an MT103, and an MT101
 
 pub transfer_books : (s : List ℕ) (t : Transfer) → Has s (mt103 t) → (p : Span) → SpanIn s p → span_of s p ≡ reference_of (mt103 t) → t.amount < 10 ^ 16
-    → Books s (mt103 t) (booking_of s true p t.date t.amount 0)
+    → Books s (mt103 t) (booking_of s AnMt103 p t.date t.amount)
 unfolding date_of transferred_by detailed_by details_of sum_of_amounts misdated
-transfer_books s t h p w e l = books s (mt103 t) h p w e true t.date t.amount 0 refl refl refl (λ day. refl) (omega arith) (record { transfer = t; same = refl; sum = refl })
+transfer_books s t h p w e l = books s (mt103 t) h p w e AnMt103 t.date t.amount refl refl refl (λ day. refl) (omega arith) (record { transfer = t; same = refl; sum = refl })
 
 pub order_books : (s : List ℕ) (o : Order) → Has s (mt101 o) → (p : Span) → SpanIn s p → span_of s p ≡ reference_of (mt101 o) → {date sum count : ℕ} → date ≡ first_date o.details → sum ≡ sum_of_amounts o.details → sum ≤ 16 * 10 ^ 16
-    → Books s (mt101 o) (booking_of s false p date sum count)
+    → Books s (mt101 o) (booking_of s (AnMt101 count) p date sum)
 unfolding date_of transferred_by detailed_by details_of misdated
-order_books s o h p w e {date} {sum} {count} d f l = books s (mt101 o) h p w e false date sum count d refl (sym f) (λ day. rw d refl) l (record { order = o; same = refl })
+order_books s o h p w e {date} {sum} {count} d f l = books s (mt101 o) h p w e (AnMt101 count) date sum d refl (sym f) (λ day. rw d refl) l (record { order = o; same = refl })

@@ -6,18 +6,15 @@ use Rattle.std.proofs.Common.{ap, ◌∙◌, subst}
 use Rattle.std.proofs.Math.Bool.{and-true, and-false}
 use Rattle.std.proofs.Math.Option.{Option, none, some}
 use native.Mathlib.Omega.{arith}
-use Rattle.std.proofs.Math.ListN.{length, length-take}
-use borrow.Author.Tests.{leb-true}
+use Rattle.std.proofs.Math.ListN.{length}
 use Rattle.rules.specs.Text.{ascii, equal, then, twice}
-use Rattle.rules.specs.Lines.{Line, lines, in_lines, has_first_line, framed, type, sender, receiver, body}
+use Rattle.rules.specs.Lines.{Line, framed, type, sender, receiver, body}
 use Rattle.rules.specs.Forms.{take_rows, order_rows, message20}
 use Rattle.rules.specs.Engine.{slashed}
 use Rattle.rules.specs.Messages as M
 use Rattle.rules.specs.Messages.{Message, mt103, mt101, field20, details_of, reference_of, date_of, first_date, read_transfer, read_order, read, past}
 use Rattle.rules.specs.Calls.{form_stops, first_of, addressed, input_stops}
-use Rattle.laws.specs.Parts.{cut, cut_all, from, from_take}
-use Rattle.laws.specs.Tests.{and_left, and_right}
-use Rattle.laws.specs.Reading.{fits_length}
+use Rattle.laws.specs.Parts.{from}
 use Rattle.engine_laws.specs.Accepted.{Has, transfer_has, order_has}
 use Rattle.forms.specs.Table.{table, part}
 use Rattle.forms.specs.Spans.{span_of, no_span, SpanIn, within_at, within_order, lines_at, span_line}
@@ -25,11 +22,8 @@ use Rattle.forms.specs.Fields.{Behind, behind_in, behind_bytes}
 use Rattle.forms.specs.Rows.{RowsAt}
 use Rattle.forms.specs.Transfers.{TransferIn, transfer_in}
 use Rattle.forms.specs.declared.rows.Span.{Span}
-use Rattle.forms.specs.declared.rows.Rows.{Rows}
 use Rattle.forms.specs.declared.transfer.Transfer as T
 use Rattle.rule_laws.specs.Lines.{body_from}
-use Rattle.register.specs.Passed.{text_first, temporary_at_lem}
-use Rattle.verdict.specs.Details.{JudgingRoom}
 use Rattle.verdict.specs.declared.detail.Judged.{Judged}
 use Rattle.field_conditions.specs.Stops.{transfer_stop, transfer_stops, low_of}
 use Rattle.conditions.specs.Walk.{named, NamedFirst, named_first, alike, named_twice}
@@ -38,6 +32,7 @@ use Rattle.conditions.specs.Tally.{TallyTold, DetailsTallied, TallyAt}
 use Rattle.conditions.specs.Order.{order_stop, order_stops, order_many, order_few}
 use Rattle.conditions.specs.Books.{date_six, transfer_books, order_books, booking_of}
 use Rattle.conditions.specs.Answers.{Checked, Parts, temporary_in, CheckedBy, CheckedAs}
+use Rattle.conditions.specs.declared.booking.Kind.TheVariants.{Transfer as AnMt103, Order as AnMt101}
 use Rattle.conditions.specs.declared.booking.Booking.{Booking}
 use Rattle.conditions.specs.declared.tally.Tally.{Tally}
 use Rattle.refusal.specs.Numbers.{number_of, number_some}
@@ -85,7 +80,7 @@ module _ (s temporary : List ℕ) (t : T.Transfer) (w : TransferIn s t) where
       transfer_stopped r e = record { with = λ text kept v. record { number = e ∙ transfer_number text v; parts = number_some r } }
 
       pub transfer_good : k ≡ 0 → (q : Span) → Behind (get_or t.spans message20 no_span) 4 q → (b : Booking)
-          → b ≡ booking_of s true q t.date t.amount 0 → TransferChecked temporary s (Ok b)
+          → b ≡ booking_of s AnMt103 q t.date t.amount → TransferChecked temporary s (Ok b)
       unfolding reference_of details_of
       transfer_good z q d b e =
           let f : SpanIn s (get_or t.spans message20 no_span) = within_at s t.spans message20 w.within in record {
@@ -118,23 +113,23 @@ pub order_rowless : (s text : List ℕ) {kept : List Judged} → take_rows (part
 unfolding read_order
 order_rowless s text h = let e : take_rows order_rows (body s) ≡ none = rw (order_rows_lem, body_from) at h in formless s text (read_order s) (rw e)
 
-module _ (s text : List ℕ) (rows : Rows) (w : RowsAt s 23 0 1 rows) where
+module _ (s text : List ℕ) (l : List Span) (next : ℕ) (w : RowsAt s 23 0 1 l next) where
   -- the message of some details
   abbrev order : List M.Detail → M.Order
-  order ds = record { sender = sender s; rows = lines_at s rows.spans 1; details = ds }
+  order ds = record { sender = sender s; rows = lines_at s l 1; details = ds }
 
-  module _ {o : R.Option Tally} {kept : List Judged} (v : TallyAt s text rows.next o kept) where
-    order_read : read_order s ≡ then (M.details 4096 (from s rows.next)) (λ ds. some (mt101 (order ds)))
+  module _ {o : R.Option Tally} {kept : List Judged} (v : TallyAt s text next o kept) where
+    order_read : read_order s ≡ then (M.details 4096 (from s next)) (λ ds. some (mt101 (order ds)))
     unfolding read_order
     order_read =
-        let e : take_rows order_rows (body s) ≡ some record { rows = lines_at s rows.spans 1; others = from s rows.next } = rw (order_rows_lem, body_from) at w.same in
+        let e : take_rows order_rows (body s) ≡ some record { rows = lines_at s l 1; others = from s next } = rw (order_rows_lem, body_from) at w.same in
         rw e
 
     pub order_formless : o ≡ R.None → CheckedBy s text (read_order s) (Err NotInForm) kept
     order_formless k = formless s text (read_order s) (order_read ∙ (rw (v.none_there k)))
 
     module _ (t : Tally) (k : o ≡ R.Some t) where
-      abbrev all : DetailsTallied s text rows.next t kept
+      abbrev all : DetailsTallied s text next t kept
       all = v.all_there t k
 
       abbrev its : TallyTold s text all.all t kept
@@ -153,11 +148,11 @@ module _ (s text : List ℕ) (rows : Rows) (w : RowsAt s 23 0 1 rows) where
       unfolding date_of
       order_date = rw its.date (date_six s _ order_its)
 
-      module _ (c : ℕ) (u : c ≡ order_stop t.count (slashed (past ":20:" (span_of s (get_or rows.spans message20 no_span)))) (low_of t.low) (twice equal (map (named s) (take t.count kept)))) where
+      module _ (c : ℕ) (u : c ≡ order_stop t.count (slashed (past ":20:" (span_of s (get_or l message20 no_span)))) (low_of t.low) (twice equal (map (named s) (take t.count kept)))) where
         order_number : c ≡ first_of (form_stops (temporary_in text) (read_order s))
         order_number =
             u
-            ∙ all_stops (temporary_in text) (sender s) (lines_at s rows.spans 1) all.all t.count (low_of t.low) (slashed (past ":20:" (span_of s (get_or rows.spans message20 no_span)))) (twice equal (map (named s) (take t.count kept))) its.count its.low (rw (span_line s rows.spans 1 message20 (omega arith)))
+            ∙ all_stops (temporary_in text) (sender s) (lines_at s l 1) all.all t.count (low_of t.low) (slashed (past ":20:" (span_of s (get_or l message20 no_span)))) (twice equal (map (named s) (take t.count kept))) its.count its.low (rw (span_line s l 1 message20 (omega arith)))
             (λ l. ap (λ (n : ℕ). twice equal (map (named s) (take n kept))) its.count ∙ named_twice text s all.all kept its.room.size its.judged l)
             ∙ ap (λ (o : Option Message). first_of (form_stops (temporary_in text) o)) (sym is_order)
 
@@ -165,19 +160,19 @@ module _ (s text : List ℕ) (rows : Rows) (w : RowsAt s 23 0 1 rows) where
         order_stopped r e = record { number = e ∙ order_number; parts = number_some r }
 
         pub order_count : c ≡ 0 → t.count ≤ 16
-        order_count z = order_few t.count (slashed (past ":20:" (span_of s (get_or rows.spans message20 no_span)))) (low_of t.low) (twice equal (map (named s) (take t.count kept))) (sym u ∙ z)
+        order_count z = order_few t.count (slashed (past ":20:" (span_of s (get_or l message20 no_span)))) (low_of t.low) (twice equal (map (named s) (take t.count kept))) (sym u ∙ z)
 
-        pub order_good : c ≡ 0 → (q : Span) → Behind (get_or rows.spans message20 no_span) 4 q → (b : Booking)
-            → b ≡ booking_of s false q t.date t.sum t.count → CheckedBy s text (read_order s) (Ok b) kept
+        pub order_good : c ≡ 0 → (q : Span) → Behind (get_or l message20 no_span) 4 q → (b : Booking)
+            → b ≡ booking_of s (AnMt101 t.count) q t.date t.sum → CheckedBy s text (read_order s) (Ok b) kept
         unfolding reference_of details_of
         order_good z q d b e =
             let few : t.count ≤ 16 = order_count z in
-            let f : SpanIn s (get_or rows.spans message20 no_span) = within_at s rows.spans message20 w.within in record {
+            let f : SpanIn s (get_or l message20 no_span) = within_at s l message20 w.within in record {
               number = sym z ∙ order_number;
               parts = record {
                 message = mt101 (order all.all);
                 same = is_order;
-                books = rw e (order_books s (order all.all) order_its q (behind_in s _ 4 f q d) (field_20 s rows.spans 1 q (omega arith) f d) its.date its.sum (omega (arith, its.bound)));
+                books = rw e (order_books s (order all.all) order_its q (behind_in s _ 4 f q d) (field_20 s l 1 q (omega arith) f d) its.date its.sum (omega (arith, its.bound)));
                 count = rw e its.count;
                 few = rw e few;
                 room = rw e (omega (arith, few, its.room.size));
@@ -187,35 +182,14 @@ module _ (s text : List ℕ) (rows : Rows) (w : RowsAt s 23 0 1 rows) where
 
 -- ---- the first line
 
-module _ (s : List ℕ) (b : Bool) (u : b ≡ framed s) (h : b ≡ true) where
-  is_framed : framed s ≡ true
-  is_framed = sym u ∙ h
-
-  pub framed_high : length s ≤ 4096
-  unfolding framed
-  framed_high = leb-true (length s) 4096 (and_left _ _ (and_left _ _ is_framed))
-
-  pub framed_low : 23 ≤ length s
-  unfolding framed has_first_line
-  framed_low =
-      let f : length (ascii "nnn,aaaaaacc,aaaaaacc\r\n") ≡ length (take 23 s) = fits_length (ascii "nnn,aaaaaacc,aaaaaacc\r\n") (take 23 s) (and_right (leb (length s) 4096 && in_lines (lines s)) _ is_framed) in
-      omega (arith, length-take 23 s)
-
-head_cut : (s : List ℕ) (n : ℕ) → cut s 0 n ≡ take n s
-unfolding cut
-head_cut s n = refl
-
-pub type_is : (s t : List ℕ) (r : Bool) → length t ≡ 3 → r ≡ equal (cut s 0 3) (cut t 0 3) → r ≡ equal (type s) t
+pub type_is : (s t : List ℕ) (r : Bool) → r ≡ equal (take (3 - 0) (drop 0 s)) t → r ≡ equal (type s) t
 unfolding type
-type_is s t r h e = let f : cut t 0 3 ≡ t = rw h at (cut_all t) in e ∙ (rw (head_cut s 3, f))
+type_is s t r e = e
 
-receiver_cut : (s : List ℕ) → receiver s ≡ cut s 13 21
-unfolding receiver from
-receiver_cut s = from_take s 13 8
-
-module _ (s : List ℕ) (b : Bool) (u : b ≡ equal (cut s 13 21) (cut (ascii "BNBGBGSD") 0 8)) where
+module _ (s : List ℕ) (b : Bool) (u : b ≡ equal (take (21 - 13) (drop 13 s)) (ascii "BNBGBGSD")) where
   received : equal (receiver s) (ascii "BNBGBGSD") ≡ b
-  received = rw (receiver_cut s) (sym (u ∙ ap (equal (cut s 13 21)) (cut_all (ascii "BNBGBGSD"))))
+  unfolding receiver
+  received = sym u
 
   pub addressed_not : b ≡ false → false ≡ addressed s
   unfolding addressed
@@ -231,15 +205,6 @@ module _ (s : List ℕ) (b : Bool) (u : b ≡ equal (cut s 13 21) (cut (ascii "B
     addressed_103 k r e = rw (← v, k, ← e, received, h, and-true)
 
 -- ---- the whole message
-
--- the temporary account stands in front of a register that passes
-module _ (text : List ℕ) {kept : List Judged} (r : JudgingRoom text kept) where
-  pub temporary_room : 22 ≤ length text
-  temporary_room = omega (arith, text_first text r.passes)
-
-  pub temporary_is : (t : List ℕ) → t ≡ take (22 - 0) (drop 0 text) → t ≡ temporary_in text
-  unfolding cut
-  temporary_is t e = e ∙ sym (temporary_at_lem text r.passes)
 
 module _ (s text : List ℕ) (b : Bool) (u : b ≡ framed s) where
   pub message_unframed : b ≡ false → {kept : List Judged} → CheckedAs s text (Err NotFramed) kept
@@ -271,4 +236,4 @@ module _ (s text : List ℕ) (b : Bool) (u : b ≡ framed s) where
         unfolding read
         message_order z j = as_read (read_order s) (rw (← w, z)) j
 
-pub ruleset checking = (within_at, within_order, transfer_formless, transfer_stopped, transfer_date, transfer_good, order_rowless, order_formless, order_named, order_stopped, order_date, order_count, order_good, framed_high, framed_low, type_is, addressed_not, addressed_101, addressed_103, message_unframed, message_unaddressed, temporary_room, temporary_is, message_transfer, message_order)
+pub ruleset checking = (within_at, within_order, transfer_formless, transfer_stopped, transfer_date, transfer_good, order_rowless, order_formless, order_named, order_stopped, order_date, order_count, order_good, type_is, addressed_not, addressed_101, addressed_103, message_unframed, message_unaddressed, message_transfer, message_order)

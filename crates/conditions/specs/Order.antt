@@ -1,6 +1,6 @@
 -- The conditions 4 to 8 of an MT101.
-use Rattle.std.specs.Prelude.{◌≡◌, refl, Bool, true, false, ◌||◌, not, cond, List, ℕ, ◌≤◌, ◌<◌, leb, eqb, length, Result, Ok, Err}
-use Rattle.std.proofs.Common.{ap, arith, le-leb, leb-true}
+use Rattle.std.specs.Prelude.{◌≡◌, refl, Bool, true, false, ◌||◌, not, cond, List, ℕ, ◌≤◌, ◌<◌, leb, eqb, length}
+use Rattle.std.proofs.Common.{ap, arith, leb-true}
 use Rattle.std.proofs.Math.Option.{some}
 use Rattle.std.proofs.lemmas.Bool.{lt-leb}
 use Rattle.rules.specs.Text.{equal, any, twice}
@@ -8,11 +8,7 @@ use Rattle.rules.specs.Engine.{slashed}
 use Rattle.rules.specs.Messages as M
 use Rattle.rules.specs.Messages.{mt101, field20, field21, currency32b, first_date, reference_of, details_of, date_of}
 use Rattle.rules.specs.Calls.{form_stops, first_of, holds_of, bad_reference, bad_sum, bad_amount, foreign_payer, bad_account, many_dates}
-use Rattle.forms.specs.Spans.{within_at}
-use Rattle.field_conditions.specs.Stops.{pick_holds, pick_missed, no_stop, low_of}
-use Rattle.refusal.specs.Numbers.{stop_of}
-use Rattle.refusal.specs.declared.Refusal.{Refusal}
-use Rattle.refusal.specs.declared.Refusal.TheVariants.{NotFramed, NotAddressed, NotInForm, TooManyDetails, BadReference, BadAmount, BadAccount, ManyDates, BadRegister, NoEngine, Misdated, AlreadyAccepted, TooManyMessages, TooManyPositions, OverLimit, OutputTooShort, NotBankingDay, BadHolidays, HasCodes}
+use Rattle.field_conditions.specs.Stops.{no_stop}
 use Rattle.conditions.specs.Walk.{alike}
 use Rattle.conditions.specs.Lowest.{pick, lowest_any}
 
@@ -50,9 +46,6 @@ module _ (a b x y r : ℕ) where
   pub pick_over : b < a → r ≡ x → r ≡ cond (not (leb a b)) x y
   pick_over h e = rw (lt-leb a b h) e
 
-  pub pick_within : a ≤ b → r ≡ y → r ≡ cond (not (leb a b)) x y
-  pick_within h e = rw (le-leb a b h) e
-
 -- one field 21 twice is asked only of 16 details at most
 pub order_many : (n : ℕ) (b : Bool) (low : ℕ) (t t' : Bool) → (n ≤ 16 → t ≡ t') → order_stop n b low t ≡ order_stop n b low t'
 order_many n b low t t' f = go (leb n 16) refl
@@ -68,36 +61,3 @@ order_few n b low t h = go (leb n 16) refl h
     go : (q : Bool) → leb n 16 ≡ q → cond (not q) 4 (cond b 5 (cond (eqb low 5) 5 (cond t 5 (cond (eqb low no_stop) 0 low)))) ≡ 0 → n ≤ 16
     go true e g = leb-true n 16 e
     go false e g = absurd (omega arith)
-
--- what a tally refuses by itself
-pub low_stops : (r : Result Unit Refusal) (t : Bool) → t ≡ false → stop_of r ≡ cond (eqb (low_of r) 5) 5 (cond t 5 (cond (eqb (low_of r) no_stop) 0 (low_of r)))
-low_stops (Ok v) t e = rw e
-low_stops (Err NotFramed) t e = rw e
-low_stops (Err NotAddressed) t e = rw e
-low_stops (Err NotInForm) t e = rw e
-low_stops (Err TooManyDetails) t e = rw e
-low_stops (Err BadReference) t e = refl
-low_stops (Err BadAmount) t e = rw e
-low_stops (Err BadAccount) t e = rw e
-low_stops (Err ManyDates) t e = rw e
-low_stops (Err BadRegister) t e = rw e
-low_stops (Err NoEngine) t e = rw e
-low_stops (Err Misdated) t e = rw e
-low_stops (Err AlreadyAccepted) t e = rw e
-low_stops (Err TooManyMessages) t e = rw e
-low_stops (Err TooManyPositions) t e = rw e
-low_stops (Err OverLimit) t e = rw e
-low_stops (Err OutputTooShort) t e = rw e
-low_stops (Err NotBankingDay) t e = rw e
-low_stops (Err BadHolidays) t e = rw e
-low_stops (Err HasCodes) t e = rw e
-
-pub twice_stops : (low : ℕ) (t : Bool) → t ≡ true → 5 ≡ cond (eqb low 5) 5 (cond t 5 (cond (eqb low no_stop) 0 low))
-twice_stops low false e = cc
-twice_stops low true e = go (eqb low 5)
-  where
-    go : (q : Bool) → ◌≡◌ {A = ℕ} 5 (cond q 5 5)
-    go true = refl
-    go false = refl
-
-pub ruleset ordering = (within_at, pick_holds, pick_missed, pick_over, pick_within, low_stops, twice_stops)

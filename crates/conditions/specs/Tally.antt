@@ -13,57 +13,15 @@ use Rattle.rules.specs.Messages.{details, first_date, sum_of_amounts, take_detai
 use Rattle.laws.specs.Parts.{from}
 use Rattle.rule_laws.specs.Options.{Mapped, mapped}
 use Rattle.forms.specs.Spans.{within_at, within_order}
-use Rattle.forms.specs.Details.{detail_in, DetailAt, detail_long}
+use Rattle.forms.specs.Details.{detail_in, DetailUpTo, DetailAt, detail_there, detail_long}
 use Rattle.forms.specs.declared.detail.Detail.{Detail}
 use Rattle.details.specs.Kept.{kept_of, OfFirst, first_none, first_full, first_more, more_length}
 use Rattle.verdict.specs.Details.{JudgingRoom, VerdictOn, JudgedAs, judged_at, kept_own, kept_other}
 use Rattle.verdict.specs.declared.Verdict.{Verdict}
 use Rattle.verdict.specs.declared.detail.Judged.{Judged}
 use Rattle.field_conditions.specs.Stops.{lowest, detail_stop, detail_lowest, no_stop, low_of}
-use Rattle.refusal.specs.Numbers.{number_of}
-use Rattle.refusal.specs.declared.Refusal.{Refusal}
-use Rattle.refusal.specs.declared.Refusal.TheVariants.{NotFramed, NotAddressed, NotInForm, TooManyDetails, BadReference, BadAmount, BadAccount, ManyDates, BadRegister, NoEngine, Misdated, AlreadyAccepted, TooManyMessages, TooManyPositions, OverLimit, OutputTooShort, NotBankingDay, BadHolidays, HasCodes}
 use Rattle.conditions.specs.Lowest.{lowest_any, any_none, any_last}
 use Rattle.conditions.specs.declared.tally.Tally.{Tally}
-
--- ---- the lower of two refusals
-
-number_low : (r : Refusal) → number_of r < no_stop
-number_low NotFramed = omega arith
-number_low NotAddressed = omega arith
-number_low NotInForm = omega arith
-number_low TooManyDetails = omega arith
-number_low BadReference = omega arith
-number_low BadAmount = omega arith
-number_low BadAccount = omega arith
-number_low ManyDates = omega arith
-number_low BadRegister = omega arith
-number_low NoEngine = omega arith
-number_low Misdated = omega arith
-number_low AlreadyAccepted = omega arith
-number_low TooManyMessages = omega arith
-number_low TooManyPositions = omega arith
-number_low OverLimit = omega arith
-number_low OutputTooShort = omega arith
-number_low NotBankingDay = omega arith
-number_low BadHolidays = omega arith
-number_low HasCodes = omega arith
-
-pub lower_first : (a b : Result Unit Refusal) (x y : Refusal) → a ≡ Err x → b ≡ Err y → number_of x < number_of y → low_of a ≡ min (low_of a) (low_of b)
-lower_first a b x y e f h = rw (e, f) (omega arith)
-
-pub lower_second : (a b : Result Unit Refusal) (x y : Refusal) → a ≡ Err x → b ≡ Err y → number_of y ≤ number_of x → low_of b ≡ min (low_of a) (low_of b)
-lower_second a b x y e f h = rw (e, f) (omega arith)
-
-low_most : (a : Result Unit Refusal) → low_of a ≤ no_stop
-low_most (Ok v) = omega arith
-low_most (Err r) = omega (arith, number_low r)
-
-pub lower_none : (a b : Result Unit Refusal) → low_of a ≡ no_stop → low_of b ≡ min (low_of a) (low_of b)
-lower_none a b e = omega (arith, low_most b)
-
-pub lower_one : (a b : Result Unit Refusal) → low_of b ≡ no_stop → low_of a ≡ min (low_of a) (low_of b)
-lower_one a b e = omega (arith, low_most a)
 
 -- ---- one more detail
 
@@ -147,7 +105,7 @@ module _ (s text : List ℕ) (ds : List M.Detail) (t : Tally) {kept : List Judge
   told_more = record {
     count = a.count ∙ (rw o.count (sym (more_length ds (detail_in s d))));
     sum = a.sum ∙ rw o.sum (sym (sum_more ds (detail_in s d)));
-    bound = omega (arith, a.sum, a.count, o.bound, w.small);
+    bound = omega (arith, a.sum, a.count, o.bound, w.up_to.small);
     date = dated;
     low = a.low ∙ rw (detail_lowest s r.date d, o.low, dated) (low_more (sender s) ds (detail_in s d));
     room = room_more s text ds d w o.room (rw o.count at c);
@@ -203,51 +161,45 @@ module _ (s text : List ℕ) (at pos : ℕ) (t : Tally) {kept : List Judged} (m 
   walk_bound = m.told.bound
 
   -- the bytes of a message hold no more
-  pub walk_few : length s ≤ 4096 → (d : Detail) → DetailAt s pos d → t.count < 1024
-  walk_few l d w = omega (arith, m.long, detail_long s pos d w, w.next)
-
-  pub walk_out : 4096 ≤ t.count → {kept' : List Judged} → TallyAt s text at R.None kept'
-  unfolding details
-  walk_out h = let e : 4096 - t.count ≡ 0 = omega arith in record { none_there = λ _. sym (rw e at m.left); all_there = λ x g. absurd (cc) }
+  pub walk_few : length s ≤ 4096 → (d : Detail) {next : ℕ} → DetailUpTo s pos d next → t.count < 1024
+  walk_few l d w = omega (arith, m.long, detail_long s pos d w, w.place)
 
   pub walk_bad : t.count < 4096 → take_detail (from s pos) ≡ none → {kept' : List Judged} → TallyAt s text at R.None kept'
   unfolding details
   walk_bad h k = let e : 4096 - t.count ≡ suc (4096 - (t.count + 1)) = omega arith in record { none_there = λ _. sym (rw (e, k) at m.left); all_there = λ x g. absurd (cc) }
 
-  module _ (h : t.count < 4096) (d : Detail) (w : DetailAt s pos d) {kept' : List Judged} (c : KeepsFirst s text t.count d kept kept')
-      (r : Tally) (a : After s t d r) (b : Bool) (u : b ≡ is_closing_line (from s d.next)) where
-    next : 4096 - t.count ≡ suc (4096 - (t.count + 1))
-    next = omega arith
+  module _ (h : t.count < 4096) (d : Detail) {next : ℕ} (w : DetailUpTo s pos d next) {kept' : List Judged} (c : KeepsFirst s text t.count d kept kept')
+      (r : Tally) (a : After s t d r) (b : Bool) (u : b ≡ is_closing_line (from s next)) where
+    fewer : 4096 - t.count ≡ suc (4096 - (t.count + 1))
+    fewer = omega arith
 
     more : TallyTold s text (m.done ++ (detail_in s d ∷ [])) r kept'
-    more = told_more s text m.done t m.told d w c r a
+    more = told_more s text m.done t m.told d (detail_there w) c r a
 
     all_told : b ≡ true → DetailsTallied s text at r kept'
     unfolding details
     all_told f = record {
       all = m.done ++ (detail_in s d ∷ []);
-      read = sym (rw (next, w.same, ← u, f) at m.left);
+      read = sym (rw (fewer, w.same, ← u, f) at m.left);
       told = more;
     }
 
     pub walk_last : b ≡ true → TallyAt s text at (R.Some r) kept'
     walk_last f = record { none_there = λ g. absurd (cc); all_there = λ x g. (let e : r ≡ x = cc in rw e at (all_told f)) }
 
-    left_on : b ≡ false → map (λ ds. (m.done ++ (detail_in s d ∷ [])) ++ ds) (details (4096 - r.count) (from s d.next)) ≡ details 4096 (from s at)
+    left_on : b ≡ false → map (λ ds. (m.done ++ (detail_in s d ∷ [])) ++ ds) (details (4096 - r.count) (from s next)) ≡ details 4096 (from s at)
     unfolding details
     left_on f =
         let g : 4096 - r.count ≡ 4096 - (t.count + 1) = omega (arith, a.count) in
-        rw g (sym (map_one m.done (detail_in s d) (details (4096 - (t.count + 1)) (from s d.next))) ∙ (rw (next, w.same, ← u, f) at m.left))
+        rw g (sym (map_one m.done (detail_in s d) (details (4096 - (t.count + 1)) (from s next))) ∙ (rw (fewer, w.same, ← u, f) at m.left))
 
-    pub walk_on : b ≡ false → Walking s text at d.next r kept'
+    pub walk_on : b ≡ false → Walking s text at next r kept'
     walk_on f = record {
       done = m.done ++ (detail_in s d ∷ []);
       told = more;
       left = left_on f;
       long = omega (arith, m.long, a.count, detail_long s pos d w);
-      so_far = λ ds e. more.sum ∙ ap sum_of_amounts (sym (done_first (m.done ++ (detail_in s d ∷ [])) (details (4096 - r.count) (from s d.next)) r.count ds more.count (left_on f ∙ e)));
+      so_far = λ ds e. more.sum ∙ ap sum_of_amounts (sym (done_first (m.done ++ (detail_in s d ∷ [])) (details (4096 - r.count) (from s next)) r.count ds more.count (left_on f ∙ e)));
     }
 
 pub ruleset keeping = (within_at, within_order, KeepsFirst.stays, KeepsFirst.keeps)
-
-pub ruleset tallying = (walk_start, walk_bound, walk_few, walk_out, walk_bad, walk_last, walk_on)

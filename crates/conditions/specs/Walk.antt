@@ -7,8 +7,6 @@ use Rattle.rules.specs.Text.{equal, any, twice}
 use Rattle.rules.specs.Messages as M
 use Rattle.rules.specs.Messages.{field21, past}
 use Rattle.forms.specs.Spans.{span_of, SpanIn}
-use Rattle.forms.specs.Fields.{Behind, behind_in, behind_bytes}
-use Rattle.forms.specs.declared.rows.Span.{Span}
 use Rattle.details.specs.Message.{detail_at}
 use Rattle.details.specs.Kept.{OfFirst}
 use Rattle.verdict.specs.Details.{no_judged, judged_at, JudgedAs}
@@ -27,13 +25,6 @@ pub record NamedFirst (s : List ℕ) (kept : List Judged) (n : ℕ) : Type 0 whe
   pub inside : n ≤ 16 → NamedIn s (take n kept)
 
 -- ---- two of them the same: k are passed
-
-module _ (s : List ℕ) (p q : Span) (w : SpanIn s p) (b : Behind p 4 q) where
-  pub name_in : SpanIn s q
-  name_in = behind_in s p 4 w q b
-
-  pub name_bytes : span_of s q ≡ past ":21:" (span_of s p)
-  name_bytes = behind_bytes s p 4 w q b
 
 module _ (s : List ℕ) (kept : List Judged) (k : ℕ) (x : Bool) where
   none_left : length kept ≤ k → drop k kept ≡ []
@@ -73,7 +64,7 @@ module _ (s : List ℕ) (kept : List Judged) (k : ℕ) (x : Bool) where
       unfolding twice
       twice_on d = rw (one_left other h, ← u, d) at inv
 
-pub ruleset walking = (name_in, name_bytes, again_out, again_hit, again_on, twice_out, twice_hit, twice_on)
+pub ruleset walking = (again_out, again_hit, again_on, twice_out, twice_hit, twice_on)
 
 -- ---- they are the fields 21 of the details
 

@@ -1,11 +1,21 @@
 // What booking a message needs of it.
-ghost use Rattle.std.specs.Prelude.{◌≡◌, ◌≤◌, ◌<◌, length};
-ghost use Rattle.conditions.specs.Books.{booking_of};
+ghost use Rattle.std.specs.Prelude.{◌≡◌, ◌<◌};
+ghost use Rattle.conditions.specs.Books.{count_of, booking_of};
 
 use forms::Span;
+use lines::Message;
 use position::Key;
 
-// A message as it is booked.
+// What a message is.
+#[derive(Clone, Copy)]
+pub enum Kind {
+    // An MT103.
+    Transfer,
+    // An MT101, with how many details it has.
+    Order(u8),
+}
+
+// A message as it is booked. What it says of the message, and that its amount is that of 16 details at most, are clauses: a struct that held the message too would be copied at each call, and it is not booked before 1 to 8 are done.
 #[derive(Clone, Copy)]
 pub struct Booking {
     // The key of its position.
@@ -14,35 +24,34 @@ pub struct Booking {
     pub amount: u64,
     // Its field 20.
     pub reference: Span,
-    // Is it an MT103?
-    pub transfer: bool,
-    // How many details an MT101 has.
-    pub count: u8,
+    // Which of both it is.
+    pub kind: Kind,
 }
 
-// The booking of a message whose sender stands in its first line.
-pub fn booking_of(
-    s: &[u8],
-    transfer: bool,
-    reference: Span,
-    date: u64,
-    amount: u64,
-    count: u32,
-) -> Booking
-    requires in_bounds { 23 ≤ length s.now }
-    requires date_bound { date < 1000000 }
-    requires count_bound { count ≤ 16 }
-    ensures { result ≡ booking_of s.now transfer reference date amount count }
+impl Booking {
+    // How many details the message has.
+    pub fn count(self) -> u8
+        ensures { result ≡ count_of self.kind }
+    {
+        match self.kind {
+            Kind::Transfer => 0,
+            Kind::Order(count) => count,
+        }
+    }
+}
+
+// The booking of a message, whose sender stands in its first line.
+pub fn booking_of(message: Message, kind: Kind, reference: Span, date: u64, amount: u64) -> Booking
+    requires { date < 1000000 }
+    ensures { result ≡ booking_of message.entry.text.now kind reference date amount }
 {
-    let bank = text::read_be(s, 4, 12);
     Booking {
         key: Key {
-            bank,
+            bank: text::big_endian(&message.text[4..12]),
             date: date as u32,
         },
         amount,
         reference,
-        transfer,
-        count: count as u8,
+        kind,
     }
 }

@@ -7,5 +7,5 @@ mod order;
 mod tally;
 mod walk;
 
-pub use booking::Booking;
+pub use booking::{Booking, Kind};
 pub use message::check_message;

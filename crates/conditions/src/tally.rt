@@ -1,16 +1,14 @@
 // The details of an MT101, each read once: judged, kept and summed one by one up to the closing line.
-ghost use Rattle.std.specs.Prelude.{◌≡◌, true, ◌*◌, ◌^◌, ◌<◌, ◌≤◌, min, length};
-ghost use Rattle.rules.specs.Text.{is_some};
-ghost use Rattle.rules.specs.Register.{register};
+ghost use Rattle.std.specs.Prelude.{◌≡◌, ◌*◌, ◌^◌, ◌<◌, ◌≤◌, min};
 ghost use Rattle.forms.specs.Spans.{SpansWithin};
-ghost use Rattle.verdict.specs.Details.{JudgingRoom};
 ghost use Rattle.field_conditions.specs.Stops.{low_of};
 ghost use Rattle.conditions.specs.Tally.{After, KeepsFirst, TallyAt};
 
 use field_conditions::detail_stop;
 use forms::{DETAIL_59, DETAIL_CODE, Detail, read_detail};
-use lines::closes_at;
+use lines::LineReader;
 use refusal::Refusal;
+use register::Register;
 use verdict::{Judged, judge_line, keep};
 
 // What is told of all details together.
@@ -20,7 +18,7 @@ pub struct Tally {
     pub count: u32,
     // The sum of their amounts.
     pub sum: u64,
-    // The centralisation date of the first.
+    // The centralisation date of the first; 0, which is no date, where there is none, as in the definition of a message's date.
     pub date: u64,
     // The lowest of 5 to 8 that one of them breaks.
     pub low: Result<(), Refusal>,
@@ -36,7 +34,7 @@ fn lower(a: Result<(), Refusal>, b: Result<(), Refusal>) -> Result<(), Refusal>
     let Err(y) = b else {
         return a;
     };
-    if x.number() < y.number() {
+    if x < y {
         return a;
     }
     b
@@ -59,38 +57,41 @@ fn after(s: &[u8], t: Tally, d: Detail) -> Tally
     }
 }
 
-// The detail judged by the register's text and kept, where it is one of the first 16; n are before it.
-fn keep_first(s: &[u8], text: &[u8], kept: &mut [Judged; 16], n: u32, d: Detail)
-    requires text_passes { is_some (register text.now) ≡ true }
-    requires spans_within { SpansWithin s.now d.spans }
-    ensures { KeepsFirst s.now text.now n d kept.old kept.new }
+// The detail judged by the register and kept, where it is one of the first 16; n are before it.
+fn keep_first(s: &[u8], register: Register, kept: &mut [Judged; 16], n: u32, d: Detail)
+    requires { SpansWithin s.now d.spans }
+    ensures { KeepsFirst s.now register.entry.text.now n d kept.old kept.new }
 {
     if n < 16 {
-        let verdict = judge_line(text, s, d.spans[DETAIL_59], d.spans[DETAIL_CODE]);
+        let verdict = judge_line(
+            register,
+            d.spans[DETAIL_59].of(s),
+            d.spans[DETAIL_CODE].of(s),
+        );
         keep(kept, n, d, verdict);
     }
 }
 
-// The tally of all details from `at` up to the closing line, the first 16 judged by the register's text and kept; none where one is not in form.
-pub fn tally_details(s: &[u8], at: usize, text: &[u8], kept: &mut [Judged; 16]) -> Option<Tally>
-    requires at_in_bounds { at ≤ length s.now }
-    requires s_len_bound { length s.now ≤ 4096 }
-    requires judging_room { JudgingRoom text.now kept.old }
-    ensures { TallyAt s.now text.now at result kept.new }
+// The tally of all details to come up to the closing line, the first 16 judged by the register and kept; none where one is not in form.
+pub fn tally_details(
+    reader: &mut LineReader,
+    register: Register,
+    kept: &mut [Judged; 16],
+) -> Option<Tally>
+    ensures { TallyAt reader.old.text.now register.entry.text.now reader.old.at result kept.new }
 {
+    let message = reader.text;
     let mut t = Tally {
         count: 0,
         sum: 0,
         date: 0,
         low: Ok(()),
     };
-    let mut pos = at;
     for n in 0..4096 {
-        let d = read_detail(s, pos)?;
-        keep_first(s, text, kept, n, d);
-        t = after(s, t, d);
-        pos = d.next;
-        if closes_at(s, pos) {
+        let d = read_detail(reader)?;
+        keep_first(message, register, kept, n, d);
+        t = after(message, t, d);
+        if reader.closes() {
             return Some(t);
         }
     }

@@ -5,7 +5,6 @@ ghost use Rattle.forms.specs.Spans.{SpanIn};
 ghost use Rattle.conditions.specs.Walk.{NamedIn, named};
 
 use forms::behind;
-use text::same_parts;
 use verdict::Judged;
 
 // Have the two details one field 21?
@@ -14,15 +13,9 @@ fn same_names(s: &[u8], a: &Judged, b: &Judged) -> bool
     requires b_within { SpanIn s.now b.now.detail.reference }
     ensures { result ≡ equal (named s.now a.now) (named s.now b.now) }
 {
-    let p = behind(a.detail.reference, 4);
-    let q = behind(b.detail.reference, 4);
-    same_parts(
-        s,
-        p.start as usize,
-        p.end as usize,
-        s,
-        q.start as usize,
-        q.end as usize,
+    text::equal(
+        behind(a.detail.reference.of(s), 4),
+        behind(b.detail.reference.of(s), 4),
     )
 }
 

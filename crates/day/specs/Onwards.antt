@@ -10,6 +10,8 @@ use Rattle.rules.specs.Replay as R
 use Rattle.rules.specs.Replay.{Commanded, command, called, printed}
 use Rattle.laws.specs.Parts.{cut, from, cut_length, cut_drop, from_take}
 use Rattle.laws.specs.Writing.{Wrote, ahead, wrote_over, wrote_length}
+use Rattle.put.specs.declared.parts.Writer.{Writer}
+use Rattle.put.specs.Writes.{wrote_at}
 use Rattle.commands.specs.Pieces.{longest, none_follows, command_behind, command_rest}
 use Rattle.commands.specs.Window.{Roomed}
 use Rattle.day.specs.declared.onward.Onward.{Onward}
@@ -126,14 +128,15 @@ module _ {s area out shown : List ℕ} {at n : ℕ} (m : WindowReady s at n area
       let k : length (cut s at n) ≡ n - at = cut_length s at n m.within in
       omega (arith, command_behind (cut s at n) _ (ap command (sym window_is) ∙ sym e), k)
 
-  pub onward_answers : {c : R.Command} {rest : List ℕ} → some record { command = c; others = rest } ≡ command (take (n - at) (drop at s)) → {area' out' shown' : List ℕ} {p : ℕ} → CarriedOut c area out shown 0 area' out' shown' p → Onwards s at n area out shown s area' out' shown' (Answered (n - length rest) p)
+  pub onward_answers : {c : R.Command} {rest : List ℕ} → some record { command = c; others = rest } ≡ command (take (n - at) (drop at s)) → {area' out' shown' : List ℕ} {w w' : Writer} → CarriedOut c area out w area' out' w' → w.out.now ≡ shown → w.at ≡ 0 → shown' ≡ w'.out.now → Onwards s at n area out shown s area' out' shown' (Answered (n - length rest) w'.at)
   unfolding ahead
-  onward_answers {c} {rest} e {shown' = shown'} {p = p} t =
+  onward_answers {c} {rest} e {shown' = shown'} {w' = w'} t i g o =
+      let v : Wrote (printed (called (length out) (holds area) c)) 0 shown w'.at shown' = wrote_at t.writes i g o in
       let found : Commanded = record { command = c; others = rest } in
       let y : command (cut s at n) ≡ some found = ap command (sym window_is) ∙ sym e in
       let b : length (printed (called (length out) (holds area) c)) ≤ length shown = omega (arith, t.short, m.print) in
-      let f : length shown' ≡ length shown = wrote_length t.wrote in
-      let x : take p shown' ≡ printed (called (length out) (holds area) c) = shown_text _ shown t.wrote b in
+      let f : length shown' ≡ length shown = wrote_length v in
+      let x : take w'.at shown' ≡ printed (called (length out) (holds area) c) = shown_text _ shown v b in
       let k : length (cut s at n) ≡ n - at = cut_length s at n m.within in
       let d : length rest < length (cut s at n) = command_behind (cut s at n) found y in
       let j : at + (length (cut s at n) - length rest) ≡ n - length rest = omega (arith, m.order) in
@@ -141,7 +144,7 @@ module _ {s area out shown : List ℕ} {at n : ℕ} (m : WindowReady s at n area
         kept = record { window = refl; size = t.size; lent = t.room; shows = f };
         told = record {
           within = omega arith;
-          fits = omega (arith, t.wrote.cursor, b, f);
+          fits = omega (arith, v.cursor, b, f);
           goes = λ ps text h. rw x (performs (holds area) (cut s at n) ps text found y (rw (z, t.leaves) at h));
         };
       }

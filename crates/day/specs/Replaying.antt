@@ -1,12 +1,14 @@
 -- The replay of a day: the commands of the input carried out one after the other.
-use Rattle.std.specs.Prelude.{◌≡◌, List, ◌++◌, ℕ, ◌+◌, ◌-◌, ◌≤◌, ◌<◌, ◌^◌, length}
+use Rattle.std.specs.Prelude.{◌≡◌, List, ◌++◌, ℕ, ◌+◌, ◌-◌, ◌≤◌, ◌<◌, length}
 use Rattle.std.proofs.Math.Path.{refl, sym}
 use Rattle.std.proofs.Common.{◌∙◌, ap, arith}
 use Rattle.std.proofs.Math.Option.{none, some}
 use Rattle.rules.specs.Area.{holds, area_size}
 use Rattle.rules.specs.Replay as R
-use Rattle.rules.specs.Replay.{Commanded, command, called, printed, replay_from}
-use Rattle.laws.specs.Writing.{Wrote, wrote_length, Left, left_turn, left_none}
+use Rattle.rules.specs.Replay.{command, called, printed, replay_from}
+use Rattle.laws.specs.Writing.{furthest}
+use Rattle.put.specs.declared.parts.Writer.{Writer}
+use Rattle.put.specs.Writes.{Writes, Unwritten, unwritten_all, unwritten_turn, unwritten_none}
 use Rattle.commands.specs.Pieces.{command_behind}
 use Rattle.day.specs.declared.call.Outcome.{Outcome}
 use Rattle.day.specs.Runs.{run_ends, run_goes, run_enough}
@@ -14,17 +16,17 @@ use Rattle.day.specs.Told.{CallTold, answer_text, answer_printed, answer_size}
 
 -- ---- one command
 
--- it was carried out and its answer printed at o, up to o'
-pub record CarriedOut (c : R.Command) (area out shown : List ℕ) (o : ℕ) (area' out' shown' : List ℕ) (o' : ℕ) : Type 0 where
-  pub wrote : Wrote (printed (called (length out) (holds area) c)) o shown o' shown'
+-- it was carried out and its answer printed
+pub record CarriedOut (c : R.Command) (area out : List ℕ) (old : Writer) (area' out' : List ℕ) (new : Writer) : Type 0 where
+  pub writes : Writes (printed (called (length out) (holds area) c)) old new
   pub short : length (printed (called (length out) (holds area) c)) ≤ length out + 64
   pub leaves : holds area' ≡ (called (length out) (holds area) c).next
   pub size : length area' ≡ length area
   pub room : length out' ≡ length out
 
-pub carried_out : {c : R.Command} {r : Outcome} {area area' out out' shown shown' : List ℕ} {o o' : ℕ} → CallTold (called (length out) (holds area) c) r area area' out out' → Wrote (answer_text r out') o shown o' shown' → CarriedOut c area out shown o area' out' shown' o'
+pub carried_out : {c : R.Command} {r : Outcome} {area area' out out' : List ℕ} {w w' : Writer} → CallTold (called (length out) (holds area) c) r area area' out out' → Writes (answer_text r out') w w' → CarriedOut c area out w area' out' w'
 carried_out {r = r} {out' = out'} a v = record {
-  wrote = rw (← answer_printed a) v;
+  writes = rw (← answer_printed a) v;
   short = rw (← answer_printed a, ← a.room) (answer_size r out');
   leaves = a.next;
   size = a.size;
@@ -34,21 +36,20 @@ carried_out {r = r} {out' = out'} a v = record {
 -- ---- the loop
 
 -- what is left to carry out and to print are the commands of rest
-pub record Replaying (rest : List ℕ) (o room span : ℕ) (area out shown whole start : List ℕ) : Type 0 where
+pub record Replaying (rest : List ℕ) (w : Writer) (room span : ℕ) (area out whole : List ℕ) (start : Writer) : Type 0 where
   pub long : area_size ≤ length area
   pub lent : length area ≡ span
   pub size : length out ≡ room
-  pub shows : length shown ≡ length start
-  pub left : Left (replay_from (length rest) room (holds area) rest) o shown whole 0 start
+  pub left : Unwritten (replay_from (length rest) room (holds area) rest) w whole start
 
-pub replay_starts : (s area out start : List ℕ) → area_size ≤ length area → length start ≤ 2 ^ 63 → Replaying s 0 (length out) (length area) area out start (replay_from (length s) (length out) (holds area) s) start
-replay_starts s area out start l f = record { long = l; lent = refl; size = refl; shows = refl; left = record { cursor = refl; output = refl; short = f } }
+pub replay_starts : (s area out : List ℕ) (start : Writer) → area_size ≤ length area → length start.out.now ≤ furthest → Replaying s start (length out) (length area) area out (replay_from (length s) (length out) (holds area) s) start
+replay_starts s area out start l f = record { long = l; lent = refl; size = refl; left = unwritten_all _ f }
 
-module _ {rest area out shown whole start : List ℕ} {o room span : ℕ} (m : Replaying rest o room span area out shown whole start) where
-  pub replay_ends : none ≡ command rest → Wrote whole 0 start o shown
-  replay_ends e = left_none (rw (run_ends rest (length rest) room (holds area) (sym e)) at m.left)
+module _ {rest area out whole : List ℕ} {start w : Writer} {room span : ℕ} (m : Replaying rest w room span area out whole start) where
+  pub replay_ends : none ≡ command rest → Writes whole start w
+  replay_ends e = unwritten_none (rw (run_ends rest (length rest) room (holds area) (sym e)) at m.left)
 
-  pub replay_goes : {c : R.Command} {behind : List ℕ} → some record { command = c; others = behind } ≡ command rest → {area' out' shown' : List ℕ} {o' : ℕ} → CarriedOut c area out shown o area' out' shown' o' → Replaying behind o' room span area' out' shown' whole start
+  pub replay_goes : {c : R.Command} {behind : List ℕ} → some record { command = c; others = behind } ≡ command rest → {area' out' : List ℕ} {w' : Writer} → CarriedOut c area out w area' out' w' → Replaying behind w' room span area' out' whole start
   replay_goes {c} {behind} e {area'} t =
       let b : length behind < length rest = command_behind rest _ (sym e) in
       let x : replay_from (length rest) room (holds area) rest ≡ printed (called (length out) (holds area) c) ++ replay_from (length behind) room (holds area') behind =
@@ -57,6 +58,5 @@ module _ {rest area out shown whole start : List ℕ} {o room span : ℕ} (m : R
         long = rw t.size m.long;
         lent = t.size ∙ m.lent;
         size = t.room ∙ m.size;
-        shows = wrote_length t.wrote ∙ m.shows;
-        left = left_turn (rw x at m.left) t.wrote;
+        left = unwritten_turn (rw x at m.left) t.writes;
       }

@@ -11,7 +11,8 @@ use Rattle.rules.specs.Area.{holds, Result, card_open, card_message, card_turn, 
 use Rattle.rules.specs.Services.{beside, service_result}
 use Rattle.laws.specs.Parts.{cut}
 use Rattle.laws.specs.Digits.{places_length}
-use Rattle.laws.specs.Writing.{Wrote, wrote_then}
+use Rattle.put.specs.declared.parts.Writer.{Writer}
+use Rattle.put.specs.Writes.{Writes, writes_then}
 use Rattle.commands.specs.declared.letter.Handed.{Handed}
 use Rattle.commands.specs.declared.letter.Handed.TheVariants.{Message, Newer, Older}
 use Rattle.commands.specs.declared.command.Command.{Command}
@@ -62,10 +63,10 @@ pub answer_size : (o : Outcome) (out : List ℕ) → length (answer_text o out) 
 unfolding answer_text
 answer_size o out = rw (length-append, length-append, length-append, length-append, length-take) (omega (arith, decimal_bound o.number, signed_bound o.difference))
 
-pub answer_wrote : (a : Outcome) (out : List ℕ) → mag a.difference < 2 ^ 63 → {at m₁ m₂ m₃ m₄ r : ℕ} {o o₁ o₂ o₃ o₄ o₅ : List ℕ} → Wrote (decimal a.number) at o m₁ o₁ → Wrote (44 ∷ []) m₁ o₁ m₂ o₂
-    → Wrote (signed (to_z w64 (of_z w64 a.difference))) m₂ o₂ m₃ o₃ → Wrote (ascii "\r\n") m₃ o₃ m₄ o₄ → Wrote (cut out 0 a.written) m₄ o₄ r o₅ → Wrote (answer_text a out) at o r o₅
+pub answer_wrote : (a : Outcome) (out : List ℕ) → mag a.difference < 2 ^ 63 → {w₀ w₁ w₂ w₃ w₄ w₅ : Writer} → Writes (decimal a.number) w₀ w₁ → Writes (44 ∷ []) w₁ w₂
+    → Writes (signed (to_z w64 (of_z w64 a.difference))) w₂ w₃ → Writes (ascii "\r\n") w₃ w₄ → Writes (cut out 0 a.written) w₄ w₅ → Writes (answer_text a out) w₀ w₅
 unfolding answer_text cut
-answer_wrote a out f u v w x y = wrote_then (wrote_then (wrote_then (wrote_then u v) (rw (to_z-of_z {w = w64} record { sfits = f }) at w)) x) y
+answer_wrote a out f u v w x y = writes_then (writes_then (writes_then (writes_then u v) (rw (to_z-of_z {w = w64} record { sfits = f }) at w)) x) y
 
 -- the card's call for a command
 pub told_call : (area : List ℕ) → area_size ≤ length area → (c : Command) {k n : ℕ} {d : ℤ} {area' out out' : List ℕ} → Answers (result_of c area out) k n d area' out'

@@ -9,7 +9,7 @@ ghost use Rattle.day.specs.Told.{CallTold};
 
 use commands::{Command, Handed};
 
-// What a call answered.
+// What a call answered, as the line card's C program has it.
 #[derive(Clone, Copy)]
 pub struct Outcome {
     // 0 for an acceptance, else the number of the refusal.

@@ -3,8 +3,9 @@ ghost use Rattle.day.specs.Onwards.{WindowReady, Unread, Wanted, Onwards};
 
 use crate::replay::carry_out;
 use commands::read_command;
+use put::Writer;
 
-// What came of a turn.
+// What came of a turn. It is no option: there are three ways to go on, each with what it needs.
 #[derive(Clone, Copy)]
 pub enum Onward {
     // An answer was printed: the place behind its command, and its size.
@@ -27,7 +28,7 @@ fn want(input: &mut [u8], at: usize, n: usize) -> Onward
     Onward::Wants(left)
 }
 
-// A turn over the bytes from at up to n, which are read and not yet carried out.
+// A turn over the bytes from at up to n, which are read and not yet carried out. (The window is lent with both places: between two turns the program reads into it.)
 pub fn go_on(
     input: &mut [u8],
     at: usize,
@@ -42,7 +43,9 @@ pub fn go_on(
     match read_command(&input[at..n]) {
         Some((command, rest)) => {
             let next = n - rest.len();
-            Onward::Answered(next, carry_out(command, area, out, printed, 0))
+            let mut w = Writer::new(printed);
+            carry_out(command, area, out, &mut w);
+            Onward::Answered(next, w.at)
         }
         None => want(input, at, n),
     }

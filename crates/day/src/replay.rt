@@ -9,20 +9,15 @@ ghost use Rattle.day.specs.Replaying.{CarriedOut};
 use crate::call::perform;
 use crate::print::put_answer;
 use commands::{Command, read_command};
+use put::Writer;
 
-// Carries out a command and prints its answer at a place; answers the place behind it.
-pub fn carry_out(
-    command: Command,
-    area: &mut [u8],
-    out: &mut [u8],
-    printed: &mut [u8],
-    at: usize,
-) -> usize
+// Carries out a command and prints its answer.
+pub fn carry_out(command: Command, area: &mut [u8], out: &mut [u8], w: &mut Writer)
     requires { area_size ≤ length area.old }
-    ensures { CarriedOut (command_in command.entry) area.old out.old printed.old at area.new out.new printed.new result }
+    ensures { CarriedOut (command_in command.entry) area.old out.old w.old area.new out.new w.new }
 {
     let outcome = perform(command, area, out);
-    put_answer(printed, at, outcome, out)
+    put_answer(w, outcome, out);
 }
 
 // Carries out the commands of the input one after the other and prints their answers, as far as `printed` reaches; answers how many bytes they are.
@@ -30,11 +25,11 @@ pub fn replay_day(input: &[u8], area: &mut [u8], out: &mut [u8], printed: &mut [
     requires { area_size ≤ length area.old }
     ensures { Wrote (replay_from (length input.now) (length out.old) (holds area.old) input.now) 0 printed.old result printed.new }
 {
-    let mut at = 0;
+    let mut w = Writer::new(printed);
     let mut rest = input;
     while let Some((command, behind)) = read_command(rest) {
-        at = carry_out(command, area, out, printed, at);
+        carry_out(command, area, out, &mut w);
         rest = behind;
     }
-    at
+    w.at
 }

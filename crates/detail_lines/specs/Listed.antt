@@ -8,15 +8,15 @@ use Rattle.rules.specs.Forms.{detail52d, detail59, detail_baeref}
 use Rattle.rule_laws.specs.Messages.{DetailRead}
 use Rattle.rules.specs.Verdict.{is_listed199}
 use Rattle.rules.specs.Written.{listed_rows, all_listed}
-use Rattle.laws.specs.Writing.{Wrote, Left, left_turn, left_none, left_length, furthest}
-use Rattle.laws.specs.Pieces.{left_all}
+use Rattle.laws.specs.Writing.{furthest}
+use Rattle.put.specs.declared.parts.Writer.{Writer}
+use Rattle.put.specs.Writes.{Writes, Unwritten, unwritten_all, unwritten_turn, unwritten_none}
 use Rattle.details.specs.Message.{details_in, detail_at}
 use Rattle.details.specs.Kept.{LineOf, RowsOf}
 use Rattle.details.specs.declared.kept.Kept.{Kept}
 use Rattle.verdict.specs.Details.{KeptIn, no_judged, judged_at}
 use Rattle.verdict.specs.declared.detail.Judged.{Judged}
-use Rattle.forms.specs.Spans.{SpanIn}
-use Rattle.detail_lines.specs.declared.listed.Place.{Place}
+use Rattle.forms.specs.Spans.{span_of, SpanIn}
 use Rattle.detail_lines.specs.Rows.{rows_of, rows_kept}
 use Rattle.detail_lines.specs.Chosen.{tells, chosen_from, chosen_end, chosen_one, chosen_none}
 
@@ -44,19 +44,19 @@ lines_at s kept k i h other = rw (get_or_default kept i no_judged other h) at (k
 
 -- ---- the rows of the first `most` of them, and what is behind those
 
--- they were written, and those from r.at on are left
-pub record RowsPut (s : List ℕ) (kept : List Judged) (first most at : ℕ) (out : List ℕ) (r : Place) (out' : List ℕ) : Type 0 where
-  pub wrote : Wrote (all_listed (take most (chosen_from is_listed199 s kept first))) at out r.out out'
-  pub within : r.at ≤ length kept
-  pub skipped : chosen_from is_listed199 s kept r.at ≡ drop most (chosen_from is_listed199 s kept first)
+-- they were written, and those from detail r on are left
+pub record RowsPut (s : List ℕ) (kept : List Judged) (first most : ℕ) (old : Writer) (r : ℕ) (new : Writer) : Type 0 where
+  pub writes : Writes (all_listed (take most (chosen_from is_listed199 s kept first))) old new
+  pub within : r ≤ length kept
+  pub skipped : chosen_from is_listed199 s kept r ≡ drop most (chosen_from is_listed199 s kept first)
 
 -- m of them at most are still to be written, from detail i on
-pub record RowsLeft (s : List ℕ) (kept : List Judged) (first most at : ℕ) (start : List ℕ) (i m o : ℕ) (out : List ℕ) : Type 0 where
-  pub unwritten : Left (all_listed (take m (chosen_from is_listed199 s kept i))) o out (all_listed (take most (chosen_from is_listed199 s kept first))) at start
+pub record RowsLeft (s : List ℕ) (kept : List Judged) (first most : ℕ) (start : Writer) (i m : ℕ) (w : Writer) : Type 0 where
+  pub unwritten : Unwritten (all_listed (take m (chosen_from is_listed199 s kept i))) w (all_listed (take most (chosen_from is_listed199 s kept first))) start
   pub behind : drop m (chosen_from is_listed199 s kept i) ≡ drop most (chosen_from is_listed199 s kept first)
 
-pub rows_start : (s : List ℕ) (kept : List Judged) (first most at : ℕ) (start : List ℕ) → length start ≤ furthest → RowsLeft s kept first most at start first most at start
-rows_start s kept first most at start h = record { unwritten = left_all _ h; behind = refl }
+pub rows_start : (s : List ℕ) (kept : List Judged) (first most : ℕ) (start : Writer) → length start.out.now ≤ furthest → RowsLeft s kept first most start first most start
+rows_start s kept first most start h = record { unwritten = unwritten_all _ h; behind = refl }
 
 drop_none : {A : Type 0} (i : ℕ) → ◌≡◌ {A = List A} (drop i []) []
 drop_none zero = refl
@@ -70,21 +70,18 @@ take_one : {A : Type 0} (x : A) (xs : List A) (m : ℕ) → (m ≡ 0 → ⊥) �
 take_one x xs zero h = absurd (h refl)
 take_one x xs (suc m) h = let e : suc m - 1 ≡ m = omega arith in rw e
 
-module _ (s : List ℕ) (kept : List Judged) (k : LinesIn s kept) {first most at : ℕ} {start : List ℕ} {i m o : ℕ} {out : List ℕ} (l : RowsLeft s kept first most at start i m o out) where
-  pub rows_long : length out ≡ length start
-  rows_long = left_length l.unwritten
-
+module _ (s : List ℕ) (kept : List Judged) (k : LinesIn s kept) {first most : ℕ} {start : Writer} {i m : ℕ} {w : Writer} (l : RowsLeft s kept first most start i m w) where
   -- none is to be written
-  pub rows_full : m ≡ 0 → i ≤ length kept → RowsPut s kept first most at start (record { out = o; at = i }) out
+  pub rows_full : m ≡ 0 → i ≤ length kept → RowsPut s kept first most start i w
   unfolding all_listed
-  rows_full e h = record { wrote = left_none (rw e at l.unwritten); within = h; skipped = rw e at l.behind }
+  rows_full e h = record { writes = unwritten_none (rw e at l.unwritten); within = h; skipped = rw e at l.behind }
 
   -- none is left
-  pub rows_end : length kept ≤ i → RowsPut s kept first most at start (record { out = o; at = length kept }) out
+  pub rows_end : length kept ≤ i → RowsPut s kept first most start (length kept) w
   unfolding all_listed
   rows_end h =
       let n : chosen_from is_listed199 s kept i ≡ [] = chosen_end is_listed199 s kept k.count i h in record {
-        wrote = left_none (rw (n, take-nil m) at l.unwritten);
+        writes = unwritten_none (rw (n, take-nil m) at l.unwritten);
         within = omega arith;
         skipped = chosen_end is_listed199 s kept k.count (length kept) (omega arith) ∙ sym (drop_none m) ∙ (rw n at l.behind);
       }
@@ -100,13 +97,13 @@ module _ (s : List ℕ) (kept : List Judged) (k : LinesIn s kept) {first most at
     unfolding all_listed
     rows_step d z = rw (one d, take_one (detail_at (details_in s) i) (chosen_from is_listed199 s kept (i + 1)) m z)
 
-    pub rows_more : b ≡ true → (m ≡ 0 → ⊥) → {o' : ℕ} {out' : List ℕ} → Wrote (rows_of s (get_or kept i j).detail.branch (get_or kept i j).detail.account (get_or kept i j).detail.baeref) o out o' out' → RowsLeft s kept first most at start (i + 1) (m - 1) o' out'
-    rows_more d z w = record {
-      unwritten = left_turn (rw (rows_step d z) at l.unwritten) (rw (rows_kept s (detail_at (details_in s) i) _ _ _ its.read its.branch its.account its.baeref) at w);
+    pub rows_more : b ≡ true → (m ≡ 0 → ⊥) → {w' : Writer} → Writes (rows_of (span_of s (get_or kept i j).detail.branch) (span_of s (get_or kept i j).detail.account) (span_of s (get_or kept i j).detail.baeref)) w w' → RowsLeft s kept first most start (i + 1) (m - 1) w'
+    rows_more d z v = record {
+      unwritten = unwritten_turn (rw (rows_step d z) at l.unwritten) (rw (rows_kept s (detail_at (details_in s) i) _ _ _ its.read its.branch its.account its.baeref) at v);
       behind = sym (drop_one (detail_at (details_in s) i) (chosen_from is_listed199 s kept (i + 1)) m z) ∙ ap (λ (ds : List Detail). drop m ds) (sym (one d)) ∙ l.behind;
     }
 
-    pub rows_pass : b ≡ false → RowsLeft s kept first most at start (i + 1) m o out
+    pub rows_pass : b ≡ false → RowsLeft s kept first most start (i + 1) m w
     rows_pass d =
         let n : chosen_from is_listed199 s kept i ≡ chosen_from is_listed199 s kept (i + 1) = chosen_none is_listed199 s kept k.count i h j b u d in
         record { unwritten = rw n at l.unwritten; behind = rw n at l.behind }
@@ -122,4 +119,4 @@ module _ (s : List ℕ) (kept : List Judged) (k : LinesIn s kept) (i : ℕ) (h :
   pub baeref_in : SpanIn s (get_or kept i j).detail.baeref
   baeref_in = (lines_at s kept k i h j).baeref.inside
 
-pub ruleset listing = (lines_kept, branch_in, account_in_lem, baeref_in, rows_start, rows_long, rows_full, rows_end, rows_more, rows_pass)
+pub ruleset listing = (lines_kept, branch_in, account_in_lem, baeref_in, rows_start, rows_full, rows_end, rows_more, rows_pass)

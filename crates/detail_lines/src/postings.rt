@@ -1,69 +1,46 @@
 // The posting lines of a message's details.
-ghost use Rattle.std.specs.Prelude.{◌≡◌, true, ◌≤◌, ◌<◌, length};
-ghost use Rattle.rules.specs.Text.{is_some};
-ghost use Rattle.rules.specs.Register.{register, register_of};
+ghost use Rattle.std.specs.Prelude.{◌<◌, length};
+ghost use Rattle.rules.specs.Register.{register_of};
 ghost use Rattle.rules.specs.Verdict.{account_at};
 ghost use Rattle.rules.specs.Written.{to_account};
 ghost use Rattle.rules.specs.Calls.{detail_postings};
-ghost use Rattle.laws.specs.Writing.{Wrote};
+ghost use Rattle.put.specs.Writes.{Writes};
 ghost use Rattle.details.specs.Message.{details_in};
 ghost use Rattle.verdict.specs.Answers.{verdict_of, InRegister};
 ghost use Rattle.verdict.specs.Details.{JudgedIn};
 ghost use Rattle.detail_lines.specs.Postings.{book_by, verdict_posting};
 
-use register::account_place;
-use verdict::{Judged, Verdict};
+use put::Writer;
+use register::Register;
+use verdict::{Details, Verdict};
 use written::{Book, put_to_account, put_to_bank};
 
 // The posting line that credits account line i.
-fn put_credit(out: &mut [u8], at: usize, book: Book, text: &[u8], i: usize, amount: u64) -> usize
-    requires text_passes { is_some (register text.now) ≡ true }
-    requires i_in_bounds { i < length (register_of text.now).accounts }
-    requires in_bounds { 22 ≤ length text.now }
-    ensures { Wrote (to_account (book_by text.now book) (account_at (register_of text.now) i).iban amount) at out.old result out.new }
+fn put_credit(w: &mut Writer, book: Book, register: Register, i: usize, amount: u64)
+    requires { i < length (register_of register.text.now).accounts }
+    ensures { Writes (to_account (book_by register.entry.text.now book) (account_at (register_of register.entry.text.now) i).iban amount) w.old w.new }
 {
-    let a = account_place(text, i);
-    put_to_account(out, at, book, &text[0..22], &text[a..a + 22], amount)
+    put_to_account(w, book, register.temporary(), register.iban(i), amount);
 }
 
 // The posting line of an amount by its verdict: a credit, or a return.
-fn put_verdict_posting(
-    out: &mut [u8],
-    at: usize,
-    book: Book,
-    text: &[u8],
-    v: Verdict,
-    amount: u64,
-) -> usize
-    requires text_passes { is_some (register text.now) ≡ true }
-    requires in_register { InRegister text.now v }
-    requires in_bounds { 22 ≤ length text.now }
-    ensures { Wrote (verdict_posting (register_of text.now) (book_by text.now book) amount (verdict_of v)) at out.old result out.new }
+fn put_verdict_posting(w: &mut Writer, book: Book, register: Register, v: Verdict, amount: u64)
+    requires { InRegister register.text.now v }
+    ensures { Writes (verdict_posting (register_of register.entry.text.now) (book_by register.entry.text.now book) amount (verdict_of v)) w.old w.new }
 {
     match v {
-        Verdict::Credited(i) => put_credit(out, at, book, text, i, amount),
-        Verdict::CreditedByCode(i, _) => put_credit(out, at, book, text, i, amount),
-        Verdict::Returned(_) => put_to_bank(out, at, book, &text[0..22], amount),
+        Verdict::Credited(i) => put_credit(w, book, register, i as usize, amount),
+        Verdict::CreditedByCode(i, _) => put_credit(w, book, register, i as usize, amount),
+        Verdict::Returned(_) => put_to_bank(w, book, register.temporary(), amount),
     }
 }
 
-// The posting lines of the details of the message s, in their order.
-pub fn put_detail_postings(
-    out: &mut [u8],
-    at: usize,
-    book: Book,
-    text: &[u8],
-    s: &[u8],
-    kept: &[Judged],
-) -> usize
-    requires text_passes { is_some (register text.now) ≡ true }
-    requires in_bounds { 22 ≤ length text.now }
-    requires judged_in { JudgedIn text.now s.now kept.now }
-    ensures { Wrote (detail_postings (register_of text.now) (book_by text.now book) (details_in s.now)) at out.old result out.new }
+// The posting lines of a message's details, in their order.
+pub fn put_detail_postings(w: &mut Writer, book: Book, register: Register, details: Details)
+    requires { JudgedIn register.text.now details.message.now details.kept.now }
+    ensures { Writes (detail_postings (register_of register.entry.text.now) (book_by register.entry.text.now book) (details_in details.entry.message.now)) w.old w.new }
 {
-    let mut o = at;
-    for j in kept {
-        o = put_verdict_posting(out, o, book, text, j.verdict, j.detail.amount);
+    for j in details.kept {
+        put_verdict_posting(w, book, register, j.verdict, j.detail.amount);
     }
-    o
 }

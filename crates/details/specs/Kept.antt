@@ -10,7 +10,7 @@ use Rattle.laws.specs.Parts.{from}
 use Rattle.rule_laws.specs.Messages.{DetailRead, detail_read}
 use Rattle.forms.specs.Spans.{span_of, no_span, SpanIn, within_at, lines_at, span_line}
 use Rattle.forms.specs.Stretches.{StretchOf, stretch_of_lem}
-use Rattle.forms.specs.Details.{DetailAt, detail_in}
+use Rattle.forms.specs.Details.{DetailUpTo, DetailAt, detail_in}
 use Rattle.forms.specs.declared.rows.Span.{Span}
 use Rattle.forms.specs.declared.detail.Detail.{Detail}
 use Rattle.details.specs.Message.{no_detail, detail_at}
@@ -53,7 +53,10 @@ kept_of d = record {
   baeref = get_or d.spans detail_baeref no_span;
 }
 
-module _ (s : List ℕ) (d : Detail) {at : ℕ} (w : DetailAt s at d) where
+module _ (s : List ℕ) (d : Detail) {at : ℕ} (v : DetailAt s at d) where
+  w : DetailUpTo s at d v.next
+  w = v.up_to
+
   line_of_lem : (j : ℕ) → j < 17 → LineOf s (detail_in s d) j (get_or d.spans j no_span)
   line_of_lem j l = record { inside = within_at s d.spans j w.within; bytes = sym (span_line s d.spans 17 j l) }
 

@@ -1,13 +1,12 @@
 -- The header of an area: its numbers as they stand, which are those of the engine that the area holds.
-use Rattle.std.specs.Prelude.{◌≡◌, true, List, ℕ, ◌+◌, ◌*◌, ◌≤◌, length}
-use Rattle.std.proofs.Common.{sym, ap, ◌∙◌, arith}
-use Rattle.rules.specs.Text.{big_endian, is_some}
+use Rattle.std.specs.Prelude.{◌≡◌, true, List, ℕ, ◌+◌, ◌*◌, ◌≤◌, ◌<◌, length, get_or}
+use Rattle.std.proofs.Common.{sym, ap, ◌∙◌, arith, drop-cons, zero-add}
+use Rattle.rules.specs.Text.{big_endian, number_from, is_some}
 use Rattle.rules.specs.Area.{number_at, decode, holds, area_size, references_place, day_place, count_place, many_positions_place, many_references_place, currency_place}
 use Rattle.laws.specs.Parts.{cut}
 use Rattle.engine_laws.specs.Limits.{Limits}
 use Rattle.engine_laws.specs.Records.{cut_is}
 use Rattle.engine_laws.specs.Decoded.{decoded, decoded_limits, decoded_positions, decoded_references}
-use Rattle.text.specs.Numbers.{NumberAt}
 use Rattle.engine.specs.declared.header.Header.{Header}
 
 -- the numbers as they stand
@@ -17,9 +16,14 @@ pub record HeaderAt (a : List ℕ) (h : Header) : Type 0 where
   pub positions : h.positions ≡ number_at a many_positions_place 1
   pub references : h.references ≡ number_at a many_references_place 1
 
-pub header_read : (a : List ℕ) (day count positions references : ℕ) → NumberAt a 2 3 day → NumberAt a 5 2 count → NumberAt a 7 1 positions → NumberAt a 8 1 references
-    → HeaderAt a record { day = day; count = count; positions = positions; references = references }
-header_read a day count positions references d c p r = record { day = d.value; count = c.value; positions = p.value; references = r.value }
+-- a number of one byte
+byte_is : (a : List ℕ) (i : ℕ) → i < length a → get_or a i 0 ≡ number_at a i 1
+unfolding number_from
+byte_is a i h = rw (drop-cons a i 0 h) (sym (zero-add (get_or a i 0)))
+
+pub header_read : (a : List ℕ) {day count : ℕ} → references_place ≤ length a → day ≡ number_at a day_place 3 → count ≡ number_at a count_place 2
+    → HeaderAt a record { day = day; count = count; positions = get_or a many_positions_place 0; references = get_or a many_references_place 0 }
+header_read a h d c = record { day = d; count = c; positions = byte_is a many_positions_place (omega arith); references = byte_is a many_references_place (omega arith) }
 
 -- what is asked of a number that was read is asked of the bytes where it stands
 module _ (a : List ℕ) (x : Header) (n : HeaderAt a x) where

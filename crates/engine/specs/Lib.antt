@@ -1,3 +1,4 @@
+pub mod Numbers
 pub mod Header
 pub mod Positions
 pub mod Places

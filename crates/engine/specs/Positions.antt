@@ -9,7 +9,7 @@ use Rattle.rules.specs.Engine.{Position}
 use Rattle.rules.specs.Area.{key_in, position_in, records, positions_place, date_offset, transferred_offset, detailed_offset, record_size, records_of}
 use Rattle.engine_laws.specs.Records.{number_within}
 use Rattle.engine_laws.specs.Tests.{value_at, key_at, position_at}
-use Rattle.text.specs.Numbers.{NumberAt}
+use Rattle.engine.specs.Numbers.{NumberAt}
 use Rattle.position.specs.Values.{key_value, position_value}
 use Rattle.position.specs.declared.Key as K
 use Rattle.position.specs.declared.Position as P
@@ -74,6 +74,3 @@ module _ (area : List ℕ) (p : ℕ) where
     transferred = t.small;
     detailed = d.small;
   }
-
-pub at_place : {area : List ℕ} {p q : ℕ} {r : P.Position} → p ≡ q → PositionAt area p r → PositionAt area q r
-at_place e a = rw (← e) a

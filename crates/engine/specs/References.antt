@@ -1,29 +1,29 @@
 -- A bank's reference compared with those of an area: its bytes against a text that ends at the first zero.
-use Rattle.std.specs.Prelude.{◌≡◌, Bool, cond, ℕ, ◌+◌, ◌-◌, ◌*◌, ◌≤◌, ◌<◌, eqb, length, get_or, take, drop}
+use Rattle.std.specs.Prelude.{◌≡◌, Bool, cond, ℕ, suc, ◌+◌, ◌-◌, ◌*◌, ◌≤◌, ◌<◌, eqb, length, get_or, take, drop}
+use Rattle.std.specs.Prelude.{nat_lt}
+use Rattle.std.proofs.lemmas.Bool.{cases_lt}
+use borrow.Author.Tests.{le-leb, lt-leb}
 use Rattle.std.proofs.Math.Path.{refl, ap}
-use Rattle.std.proofs.Common.{sym, ◌∙◌, arith, eqb-true, lit≤}
+use Rattle.std.proofs.Common.{sym, ◌∙◌, arith, eqb-true, eq-eqb, ne_eqb, inl, inr, lit≤, drop-cons, drop_of_length-le}
 use Rattle.std.proofs.Math.Bool.{true, false, and-true, and-false}
 use mathlib.Core.List.{List, [], ◌∷◌}
-use Rattle.std.proofs.Math.Nat.{add-zero, zero-add, sub-zero}
-use Rattle.rules.specs.Text.{is_text, every, equal, any}
+use Rattle.std.proofs.Math.Nat.{add-zero, sub-zero}
+use Rattle.rules.specs.Text.{is_text, every, equal, any, text_before}
 use Rattle.rules.specs.Engine.{Reference, same_reference}
 use Rattle.rules.specs.Area.{until_zero, reference_in, record_size, number_at, references_place}
-use Rattle.laws.specs.Parts.{cut, cut_step, cut_done, cut_length, cut_drop, cut_take, cut_all}
+use Rattle.laws.specs.Parts.{cut}
+use Rattle.laws.specs.Slices.{part_cut}
 use Rattle.laws.specs.Tests.{cond_left, cond_right}
 use Rattle.engine_laws.specs.Checked.{text_in}
 use Rattle.engine_laws.specs.Layout.{text_byte}
-use Rattle.engine_laws.specs.Records.{number_within, cut_is}
-use Rattle.engine_laws.specs.Tests.{value_at}
-use Rattle.text.specs.Numbers.{NumberAt}
+use Rattle.engine_laws.specs.Records.{number_within}
+use Rattle.engine_laws.specs.Tests.{value_at, precedes_by}
+use Rattle.engine.specs.Numbers.{NumberAt}
 use Rattle.engine.specs.Positions.{values_at, values_next, values_none}
 
 -- a bank's reference
 abbrev pub of_bank : ℕ → List ℕ → Reference
 of_bank bank text = record { sender = bank; text = text }
-
--- the bytes of a text from a up to b, as a slice has them
-pub part_is : (s : List ℕ) (a b : ℕ) → a ≤ b → take (b - a) (drop a s) ≡ cut s a b
-part_is s a b h = let e : a + (b - a) ≡ b = omega arith in sym (rw e at (cut_is s a (b - a)))
 
 -- the reference at a place, and those of an area
 abbrev pub reference_at : List ℕ → ℕ → Reference
@@ -34,18 +34,18 @@ references_at area p k = values_at reference_in area p k
 
 -- ---- where a text ends
 
-module _ (area : List ℕ) (j e : ℕ) where
-  pub ends_byte : j < e → e ≤ length area → eqb (get_or area j 0) 0 ≡ equal [] (until_zero (cut area j e))
+module _ (ys : List ℕ) (n : ℕ) where
+  pub ends_byte : n < length ys → eqb (get_or ys n 0) 0 ≡ equal [] (until_zero (drop n ys))
   unfolding equal until_zero
-  ends_byte h l = rw (cut_step area j e h l) (go (eqb (get_or area j 0) 0))
+  ends_byte h = rw (drop-cons ys n 0 h) (go (eqb (get_or ys n 0) 0))
     where
-      go : (t : Bool) → t ≡ equal [] (cond t [] (get_or area j 0 ∷ until_zero (cut area (j + 1) e)))
+      go : (t : Bool) → t ≡ equal [] (cond t [] (get_or ys n 0 ∷ until_zero (drop (suc n) ys)))
       go true = refl
       go false = refl
 
-  pub ends_room : j ≤ e → e ≤ j → true ≡ equal [] (until_zero (cut area j e))
+  pub ends_room : length ys ≤ n → true ≡ equal [] (until_zero (drop n ys))
   unfolding equal until_zero
-  ends_room h l = rw (cut_done area j e h l)
+  ends_room h = rw (drop_of_length-le ys h)
 
 -- ---- a text against bytes that are a text's, so none of them is zero
 
@@ -65,21 +65,15 @@ until_equal (x ∷ xs) (y ∷ ys) t h = go (eqb y 0) refl (eqb x y) refl (until_
     go false f true g i = rw (f, g) i
     go false f false g i = rw (f, g)
 
-module _ (area xs : List ℕ) (q : ℕ) (h : length xs ≤ 16) (l : q + 16 ≤ length area) (t : every is_text xs ≡ true) where
-  whole : equal xs (until_zero (cut area q (q + 16))) ≡ cond (equal xs (cut area q (q + length xs))) (equal [] (until_zero (cut area (q + length xs) (q + 16)))) false
-  whole =
-      let o : length (cut area q (q + 16)) ≡ 16 = cut_length area q (q + 16) l ∙ omega arith in
-      rw (cut_take area q (q + 16) (length xs) (omega arith), cut_drop area q (q + 16) (length xs)) at (until_equal xs (cut area q (q + 16)) t (omega arith))
+module _ (xs ys : List ℕ) (h : length xs ≤ 16) (l : length ys ≡ 16) (t : every is_text xs ≡ true) (r : Bool) (u : r ≡ equal xs (take (length xs) ys)) where
+  whole : equal xs (until_zero ys) ≡ cond r (equal [] (until_zero (drop (length xs) ys))) false
+  whole = until_equal xs ys t (omega arith) ∙ rw (← u)
 
-  module _ (r : Bool) (u : r ≡ equal (cut xs 0 (0 + length xs)) (cut area q (q + length xs))) where
-    told : r ≡ equal xs (cut area q (q + length xs))
-    told = rw (zero-add (length xs), cut_all xs) at u
+  pub text_other : r ≡ false → false ≡ equal xs (until_zero ys)
+  text_other d = sym (whole ∙ rw d)
 
-    pub text_other : r ≡ false → false ≡ equal xs (until_zero (cut area q (q + 16)))
-    text_other d = sym (whole ∙ rw (← told, d))
-
-    pub text_same : r ≡ true → {x : Bool} → x ≡ equal [] (until_zero (cut area (q + length xs) (q + 16))) → x ≡ equal xs (until_zero (cut area q (q + 16)))
-    text_same d v = v ∙ sym (whole ∙ rw (← told, d))
+  pub text_same : r ≡ true → {x : Bool} → x ≡ equal [] (until_zero (drop (length xs) ys)) → x ≡ equal xs (until_zero ys)
+  text_same d v = v ∙ sym (whole ∙ rw d)
 
 -- ---- one reference
 
@@ -92,14 +86,34 @@ module _ (area : List ℕ) (p : ℕ) where
   unfolding value_at reference_in
   text_at_lem = ap until_zero (sym (text_in area p))
 
-  module _ (bank : ℕ) (cs : List ℕ) (t : Bool) (u : t ≡ equal cs (until_zero (cut area (p + 8) (p + 8 + 16)))) where
+  -- the bytes of its text, as a slice
+  pub text_stands : {t : List ℕ} → t ≡ take (p + record_size - (p + 8)) (drop (p + 8) area) → t ≡ cut area (p + 8) (p + 8 + 16)
+  text_stands g = let e : p + record_size ≡ p + 8 + 16 = omega arith in rw e at (g ∙ part_cut area (p + 8) (p + record_size) (omega arith))
+
+  module _ (bank : ℕ) (cs : List ℕ) (t : Bool) (u : t ≡ equal cs (until_zero (take (p + record_size - (p + 8)) (drop (p + 8) area)))) where
+    told : t ≡ equal cs (reference_at area p).text
+    told = rw (text_stands refl, ← text_at_lem) at u
+
     pub reference_other : t ≡ false → false ≡ same_reference (of_bank bank cs) (reference_at area p)
     unfolding same_reference
-    reference_other d = rw (text_at_lem, ← u, d, and-false)
+    reference_other d = rw (← told, d, and-false)
 
     pub reference_bank : t ≡ true → (v : ℕ) → NumberAt area p 8 v → eqb bank v ≡ same_reference (of_bank bank cs) (reference_at area p)
     unfolding same_reference
-    reference_bank d v n = rw (sender_at, ← n.value, text_at_lem, ← u, d, and-true)
+    reference_bank d v n = rw (sender_at, ← n.value, ← told, d, and-true)
+
+-- a sender with its text before another
+module _ (x y : ℕ) (s t : List ℕ) where
+  pub sender_same : x ≡ y → (r : Bool) → r ≡ text_before s t → r ≡ precedes_by x s y t
+  unfolding precedes_by
+  sender_same e r f = f ∙ rw (le-leb y x (omega arith), eq-eqb x y e) refl
+
+  pub sender_other : (x ≡ y → ⊥) → nat_lt x y ≡ precedes_by x s y t
+  unfolding precedes_by
+  sender_other n = elim (cases_lt x y) [
+    | inl h ↦ rw (le-leb (suc x) y (omega arith), lt-leb y x h) refl
+    | inr h ↦ rw (lt-leb (suc x) y (omega arith), le-leb y x h, ne_eqb x y n) refl
+  ]
 
 -- ---- among those of an area: the records from the i-th of n on answer for all
 

@@ -11,7 +11,7 @@ use Rattle.rules.specs.Area.{length_at, text_place, text_at, decode, holds, leng
 use Rattle.laws.specs.Parts.{cut}
 use Rattle.engine_laws.specs.Several.{TextRoom}
 use Rattle.engine_laws.specs.Decoded.{decoded, decoded_limits, decoded_text}
-use Rattle.text.specs.Numbers.{NumberAt}
+use Rattle.engine.specs.Numbers.{NumberAt}
 use Rattle.register.specs.Passed.{temporary_at_lem, text_first}
 
 -- ---- text k

@@ -1,11 +1,10 @@
 // The header of an area.
-ghost use Rattle.std.specs.Prelude.{◌≡◌, true, ◌≤◌, leb, length};
-ghost use Rattle.rules.specs.Text.{is_some};
-ghost use Rattle.rules.specs.Area.{holds, area_size, references_place};
-ghost use Rattle.engine.specs.Header.{HeaderAt, HeaderOf};
+ghost use Rattle.std.specs.Prelude.{◌≡◌, ◌≤◌, leb, length};
+ghost use Rattle.rules.specs.Area.{area_size, references_place};
+ghost use Rattle.engine.specs.Header.{HeaderAt};
 
 use crate::layout::{AREA, COUNT, DAY, MANY_POSITIONS, MANY_REFERENCES};
-use text::number_at;
+use text::big_endian;
 
 // The numbers of an area's header.
 #[derive(Clone, Copy)]
@@ -27,27 +26,17 @@ pub fn has_room(area: &[u8]) -> bool
     AREA <= area.len()
 }
 
-// The header of any bytes that have room for one.
+// The header of any bytes that have room for one. (Number 10 reads it before an area is known to hold an engine; of an engine it is `Engine::header`.)
 pub fn header_at(area: &[u8]) -> Header
     requires { references_place ≤ length area.now }
     ensures { HeaderAt area.now result }
 {
-    let day = number_at(area, DAY, 3);
-    let count = number_at(area, COUNT, 2);
-    let positions = number_at(area, MANY_POSITIONS, 1);
-    let references = number_at(area, MANY_REFERENCES, 1);
+    let day = big_endian(&area[DAY..COUNT]);
+    let count = big_endian(&area[COUNT..MANY_POSITIONS]);
     Header {
         day: day as u32,
         count: count as u32,
-        positions: positions as u32,
-        references: references as u32,
+        positions: area[MANY_POSITIONS] as u32,
+        references: area[MANY_REFERENCES] as u32,
     }
-}
-
-// The header of an area that holds an engine. Beside `header_at`: its callers know of an engine and of no length, and learn what the numbers count.
-pub fn header_of(area: &[u8]) -> Header
-    requires { is_some (holds area.now) ≡ true }
-    ensures { HeaderOf area.now result }
-{
-    header_at(area)
 }

@@ -8,7 +8,7 @@ ghost use Rattle.engine.specs.Records.{Many};
 use crate::positions::{key_at, position_place};
 use position::Key;
 
-// How many of the n positions stand before a key.
+// How many of the n positions stand before a key. (They stand as bytes in the lent area: there is no slice of positions to be searched.)
 pub fn place_of(area: &[u8], n: u32, k: Key) -> u32
     requires { Many area.now n }
     ensures { PlaceOf (key_value k) (decode area.now).positions result }

@@ -5,9 +5,9 @@ ghost use Rattle.engine_laws.specs.Tests.{key_at};
 ghost use Rattle.position.specs.Values.{key_value};
 ghost use Rattle.engine.specs.Positions.{PositionAt};
 
-use crate::layout::{DATE, DETAILED, POSITIONS, RECORD, TRANSFERRED};
+use crate::layout::{BLOCK, DATE, DETAILED, POSITIONS, RECORD, SIZE, TRANSFERRED};
 use position::{Key, Position};
-use text::number_at;
+use text::big_endian;
 
 // Where the position stands that is the i-th, counted from 0.
 pub fn position_place(i: u32) -> usize
@@ -22,8 +22,8 @@ pub fn key_at(area: &[u8], p: usize) -> Key
     requires { p + record_size ≤ length area.now }
     ensures { key_value result ≡ key_at area.now p }
 {
-    let bank = number_at(area, p, 8);
-    let date = number_at(area, p + DATE, 3);
+    let bank = big_endian(&area[p..p + DATE]);
+    let date = big_endian(&area[p + DATE..p + BLOCK]);
     Key {
         bank,
         date: date as u32,
@@ -36,8 +36,8 @@ pub fn position_at(area: &[u8], p: usize) -> Position
     ensures { PositionAt area.now p result }
 {
     let key = key_at(area, p);
-    let transferred = number_at(area, p + TRANSFERRED, 6);
-    let detailed = number_at(area, p + DETAILED, 6);
+    let transferred = big_endian(&area[p + TRANSFERRED..p + DETAILED]);
+    let detailed = big_endian(&area[p + DETAILED..p + SIZE]);
     Position {
         key,
         transferred,

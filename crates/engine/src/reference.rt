@@ -1,56 +1,85 @@
-// References accepted today.
-ghost use Rattle.std.specs.Prelude.{◌≡◌, true, [], ◌+◌, ◌≤◌, length};
+// A bank's reference, and whether it is among those accepted today.
+ghost use Rattle.std.specs.Prelude.{◌≡◌, true, [], ◌+◌, ◌≤◌, length, drop};
 ghost use Rattle.rules.specs.Text.{is_text, every, equal, any};
 ghost use Rattle.rules.specs.Engine.{same_reference};
-ghost use Rattle.rules.specs.Area.{until_zero, references_place, positions_place, record_size};
+ghost use Rattle.rules.specs.Area.{until_zero, number_at, references_place, positions_place, record_size};
 ghost use Rattle.laws.specs.Parts.{cut};
 ghost use Rattle.engine.specs.References.{of_bank, reference_at, references_at};
 
-use crate::layout::{RECORD, REFERENCES, TEXT};
-use text::number_at;
+use crate::layout::{RECORD, REFERENCES, SIZE, TEXT};
+use text::big_endian;
 
-// Does a text end at j, where its 16 bytes end or a zero stands?
-fn ends_at(area: &[u8], j: usize, e: usize) -> bool
-    requires j_le_e { j ≤ e }
-    requires e_in_bounds { e ≤ length area.now }
-    ensures { result ≡ equal [] (until_zero (cut area.now j e)) }
-{
-    j == e || area[j] == 0
+// A bank's reference: field 20 of a message, under its sender.
+#[derive(Clone, Copy)]
+pub struct BankReference<'a> {
+    // The bank.
+    pub bank: u64,
+    // The field.
+    pub text: &'a [u8],
+    ghost short: { length text.now ≤ 16 },
+    ghost is_text: { every is_text text.now ≡ true },
 }
 
-// Is a reference the text of the 16 bytes at q?
-fn same_text(area: &[u8], q: usize, reference: &[u8]) -> bool
-    requires short { length reference.now ≤ 16 }
-    requires is_text { every is_text reference.now ≡ true }
-    requires q_in_bounds { q + 16 ≤ length area.now }
-    ensures { result ≡ equal reference.now (until_zero (cut area.now q (q + 16))) }
-{
-    let n = reference.len();
-    text::equal_from_end(reference, 0, area, q, n as u32) && ends_at(area, q + n, q + 16)
-}
-
-// Is the record at p this bank's reference?
-fn same_reference(area: &[u8], p: usize, bank: u64, reference: &[u8]) -> bool
-    requires short { length reference.now ≤ 16 }
-    requires is_text { every is_text reference.now ≡ true }
-    requires record_in_bounds { p + record_size ≤ length area.now }
-    ensures { result ≡ same_reference (of_bank bank reference.now) (reference_at area.now p) }
-{
-    same_text(area, p + TEXT, reference) && bank == number_at(area, p, 8)
-}
-
-// Is this bank's reference among the first n?
-pub fn reference_used(area: &[u8], n: u32, bank: u64, reference: &[u8]) -> bool
-    requires few { n ≤ 64 }
-    requires references_in_bounds { positions_place ≤ length area.now }
-    requires short { length reference.now ≤ 16 }
-    requires is_text { every is_text reference.now ≡ true }
-    ensures { result ≡ any (same_reference (of_bank bank reference.now)) (references_at area.now references_place n) }
-{
-    for i in 0..n {
-        if same_reference(area, (REFERENCES + RECORD * i) as usize, bank, reference) {
-            return true;
-        }
+impl<'a> BankReference<'a> {
+    // The reference of a bank and a text.
+    pub fn new(bank: u64, text: &'a [u8]) -> BankReference<'a>
+        requires short { length text.now ≤ 16 }
+        requires is_text { every is_text text.now ≡ true }
+        ensures bank { result.bank ≡ bank }
+        ensures text { result.text.now ≡ text.now }
+    {
+        BankReference { bank, text }
     }
-    false
+
+    // Is its text that of these 16 bytes?
+    #[tactic(auto, using(crate::specs::References::used))]
+    fn has_text(self, padded: &[u8]) -> bool
+        requires { length padded.now ≡ 16 }
+        ensures { result ≡ equal self.entry.text.now (until_zero padded.now) }
+    {
+        let n = self.text.len();
+        text::equal_backward(self.text, &padded[..n]) && ends_at(padded, n)
+    }
+
+    // Is it the record at p?
+    #[tactic(auto, using(crate::specs::References::used))]
+    fn stands_at(self, area: &[u8], p: usize) -> bool
+        requires { p + record_size ≤ length area.now }
+        ensures { result ≡ same_reference (of_bank self.entry.bank self.entry.text.now) (reference_at area.now p) }
+    {
+        self.has_text(&area[p + TEXT..p + SIZE]) && self.bank == big_endian(&area[p..p + TEXT])
+    }
+
+    // Is it among the first n?
+    #[tactic(auto, using(crate::specs::References::used))]
+    pub fn is_among(self, area: &[u8], n: u32) -> bool
+        requires few { n ≤ 64 }
+        requires references_in_bounds { positions_place ≤ length area.now }
+        ensures { result ≡ any (same_reference (of_bank self.entry.bank self.entry.text.now)) (references_at area.now references_place n) }
+    {
+        for i in 0..n {
+            if self.stands_at(area, (REFERENCES + RECORD * i) as usize) {
+                return true;
+            }
+        }
+        false
+    }
+}
+
+// Does a text end behind n bytes, where a zero stands or no byte?
+fn ends_at(padded: &[u8], n: usize) -> bool
+    requires { n ≤ length padded.now }
+    ensures { result ≡ equal [] (until_zero (drop n padded.now)) }
+{
+    n == padded.len() || padded[n] == 0
+}
+
+// The sender of the record at a place, and the bytes of its text.
+#[tactic(auto, using(crate::specs::References::text_stands))]
+pub fn filed_at<'a>(area: &'a [u8], p: usize) -> (u64, &'a [u8])
+    requires { p + record_size ≤ length area.now }
+    ensures sender { result.0 ≡ number_at area.now p 8 }
+    ensures text { result.1.now ≡ cut area.now (p + 8) (p + 8 + 16) }
+{
+    (big_endian(&area[p..p + TEXT]), &area[p + TEXT..p + SIZE])
 }

@@ -1,14 +1,12 @@
 // The texts of an area, one behind the other.
-ghost use Rattle.std.specs.Prelude.{◌≡◌, true, ◌+◌, ◌*◌, ◌≤◌, ◌<◌, length};
-ghost use Rattle.rules.specs.Text.{is_some};
-ghost use Rattle.rules.specs.Register.{register_of};
-ghost use Rattle.rules.specs.Area.{length_at, text_at, decode, holds, lengths_place, references_place};
+ghost use Rattle.std.specs.Prelude.{◌≡◌, ◌+◌, ◌*◌, ◌≤◌, ◌<◌, length};
+ghost use Rattle.rules.specs.Area.{length_at, text_at, lengths_place, references_place};
 ghost use Rattle.engine_laws.specs.Several.{TextRoom};
-ghost use Rattle.text.specs.Numbers.{NumberAt};
-ghost use Rattle.engine.specs.Texts.{PlaceAt, RegisterOf, ListOf};
+ghost use Rattle.engine.specs.Numbers.{NumberAt};
+ghost use Rattle.engine.specs.Texts.{PlaceAt};
 
-use crate::layout::{LENGTHS, TEMPORARY_END, TEXTS};
-use text::number_at;
+use crate::layout::{LENGTHS, TEXTS};
+use text::big_endian;
 
 // The length of text k.
 pub fn length_at(area: &[u8], k: u32) -> usize
@@ -16,7 +14,8 @@ pub fn length_at(area: &[u8], k: u32) -> usize
     requires references_place_in_bounds { references_place ≤ length area.now }
     ensures { NumberAt area.now (lengths_place + 2 * k) 2 result }
 {
-    number_at(area, LENGTHS + (2 * k) as usize, 2) as usize
+    let p = LENGTHS + (2 * k) as usize;
+    big_endian(&area[p..p + 2]) as usize
 }
 
 // Where text k begins: behind those before it.
@@ -41,28 +40,4 @@ pub fn text_at<'a>(area: &'a [u8], k: u32) -> &'a [u8]
     let a = text_place(area, k);
     let b = a + length_at(area, k);
     &area[a..b]
-}
-
-// The register's text.
-pub fn register_text<'a>(area: &'a [u8]) -> &'a [u8]
-    requires { is_some (holds area.now) ≡ true }
-    ensures { RegisterOf area.now result.now }
-{
-    text_at(area, 0)
-}
-
-// The holiday list.
-pub fn holidays_text<'a>(area: &'a [u8]) -> &'a [u8]
-    requires { is_some (holds area.now) ≡ true }
-    ensures { ListOf area.now result.now }
-{
-    text_at(area, 1)
-}
-
-// The temporary account, with which the register begins.
-pub fn temporary<'a>(area: &'a [u8]) -> &'a [u8]
-    requires { is_some (holds area.now) ≡ true }
-    ensures { result.now ≡ (register_of (decode area.now).register).temporary }
-{
-    &area[TEXTS..TEMPORARY_END]
 }

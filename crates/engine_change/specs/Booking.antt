@@ -13,7 +13,9 @@ use Rattle.rules.specs.Calls.{addition, own_reference, position_after, no_room, 
 use Rattle.rules.specs.Area.{reference_record, key_bytes, position_record, header, encode, decode, holds, area_size, positions_place, positions_room, references_room, texts_of, references_place, record_size}
 use Rattle.laws.specs.Digits.{places_length}
 use Rattle.laws.specs.Laid.{laid, laid_length}
-use Rattle.laws.specs.Writing.{Wrote, wrote_then}
+use Rattle.laws.specs.Writing.{Wrote}
+use Rattle.put.specs.declared.parts.Writer.{Writer}
+use Rattle.put.specs.Writes.{Writes, writes_then}
 use Rattle.laws.specs.Sections.{Each, inserted, replaced, each_map, each_inserted, map_inserted, padded_length}
 use Rattle.laws.specs.Standing.{Stands, moved}
 use Rattle.laws.specs.Moving.{RoomFor, opens}
@@ -82,14 +84,14 @@ pub record Positions (ps : List Position) (a : List ℕ) (k : ℕ) (b : List ℕ
   pub count : k ≡ length ps
   pub bytes : b ≡ laid (position_part ps) positions_place a
 
-pub key_wrote : (k : Key) {at m₁ m₂ r : ℕ} {out o₁ o₂ out' : List ℕ} → Wrote (bytes 8 k.bank) at out m₁ o₁ → Wrote (bytes 3 k.date) m₁ o₁ m₂ o₂ → Wrote (bytes 1 0) m₂ o₂ r out' → Wrote (key_bytes k) at out r out'
+pub key_wrote : (k : Key) {w₀ w₁ w₂ w₃ : Writer} → Writes (bytes 8 k.bank) w₀ w₁ → Writes (bytes 3 k.date) w₁ w₂ → Writes (bytes 1 0) w₂ w₃ → Writes (key_bytes k) w₀ w₃
 unfolding key_bytes
-key_wrote k u v w = wrote_then (wrote_then u v) w
+key_wrote k u v w = writes_then (writes_then u v) w
 
-pub position_wrote : (p : Position) {at m₁ m₂ r : ℕ} {out o₁ o₂ out' : List ℕ} → Wrote (key_bytes p.key) at out m₁ o₁ → Wrote (bytes 6 p.transferred) m₁ o₁ m₂ o₂ → Wrote (bytes 6 p.detailed) m₂ o₂ r out'
-    → Wrote (position_record p) at out r out'
+pub position_wrote : (p : Position) {w₀ w₁ w₂ w₃ : Writer} → Writes (key_bytes p.key) w₀ w₁ → Writes (bytes 6 p.transferred) w₁ w₂ → Writes (bytes 6 p.detailed) w₂ w₃
+    → Writes (position_record p) w₀ w₃
 unfolding position_record
-position_wrote p u v w = wrote_then (wrote_then u v) w
+position_wrote p u v w = writes_then (writes_then u v) w
 
 -- both totals of q can be added to the record at a place
 pub record Raises (a : List ℕ) (at : ℕ) (q : Position) : Type 0 where

@@ -1,18 +1,18 @@
 -- The place of a reference among those of an area, which stand by sender in byte order and then text: it is put before the first one that does not precede it.
 use Rattle.std.specs.Prelude.{◌≡◌, Bool, true, false, List, [], ℕ, ◌+◌, ◌-◌, ◌*◌, ◌≤◌, ◌<◌, length, get_or}
 use Rattle.std.proofs.Math.Path.{refl}
-use Rattle.std.proofs.Common.{sym, ◌∙◌, arith, zero-add}
-use borrow.Author.Tests.{le-leb, lt-leb, eq-eqb, ne_eqb}
-use Rattle.rules.specs.Text.{is_text, every, text_before}
+use Rattle.std.proofs.Common.{sym, ◌∙◌, arith}
+use Rattle.rules.specs.Text.{is_text, every}
 use Rattle.rules.specs.Engine.{Reference, precedes, filed}
 use Rattle.rules.specs.Area.{number_at, reference_in, reference_record, decode, area_size, many_references_place, references_place, record_size}
-use Rattle.laws.specs.Parts.{cut, cut_all}
+use Rattle.laws.specs.Parts.{cut}
 use Rattle.laws.specs.Sections.{inserted}
 use Rattle.laws.specs.Putting.{PutBehind, put_on, put_end, put_before}
 use Rattle.laws.specs.Standing.{moved}
 use Rattle.laws.specs.Writing.{Wrote}
 use Rattle.engine_laws.specs.References.{filed_behind, filed_here}
 use Rattle.engine_laws.specs.Checked.{until_before, texts_some}
+use Rattle.engine_laws.specs.Tests.{precedes_by}
 use Rattle.engine.specs.Header.{HeaderOf}
 use Rattle.engine.specs.declared.header.Header.{Header}
 use Rattle.engine.specs.Records.{read_nth}
@@ -20,19 +20,10 @@ use Rattle.engine.specs.References.{of_bank, reference_at, sender_at, text_at_le
 
 -- ---- the reference at a place precedes another, or not
 
-module _ (a : List ℕ) (at x bank : ℕ) (cs : List ℕ) (e : x ≡ number_at a at 8) where
-  pub sender_low : x < bank → true ≡ precedes (reference_at a at) (of_bank bank cs)
-  unfolding precedes
-  sender_low h = rw (sender_at a at, ← e, lt-leb bank x h)
-
-  pub sender_high : bank < x → false ≡ precedes (reference_at a at) (of_bank bank cs)
-  unfolding precedes
-  sender_high h = rw (sender_at a at, ← e, le-leb bank x (omega arith), ne_eqb x bank (λ (z : x ≡ bank). omega arith))
-
-  pub sender_same : bank ≤ x → x ≤ bank → every is_text cs ≡ true → {r : Bool} → r ≡ text_before (cut a (at + 8) (at + 8 + 16)) (cut cs 0 (0 + length cs)) → r ≡ precedes (reference_at a at) (of_bank bank cs)
-  unfolding precedes
-  sender_same h k t g =
-      rw (sender_at a at, ← e, le-leb bank x h, eq-eqb x bank (omega arith), text_at_lem a at, ← until_before (cut a (at + 8) (at + 8 + 16)) (texts_some cs t)) (rw (zero-add (length cs), cut_all cs) at g)
+module _ (a : List ℕ) (at bank : ℕ) (cs : List ℕ) {x : ℕ} {xs : List ℕ} (e : x ≡ number_at a at 8) (f : xs ≡ cut a (at + 8) (at + 8 + 16)) where
+  pub pair_precedes : every is_text cs ≡ true → {r : Bool} → r ≡ precedes_by x xs bank cs → r ≡ precedes (reference_at a at) (of_bank bank cs)
+  unfolding precedes precedes_by
+  pair_precedes t g = rw (sender_at a at, ← e, text_at_lem a at, ← f, ← until_before xs (texts_some cs t)) g
 
 -- ---- its place
 

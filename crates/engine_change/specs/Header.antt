@@ -5,8 +5,8 @@ use Rattle.rules.specs.Text.{bytes}
 use Rattle.rules.specs.Engine.{Engine}
 use Rattle.rules.specs.Area.{texts_of, lengths_of, mark, header}
 use Rattle.laws.specs.Digits.{places_length}
-use Rattle.laws.specs.Pieces.{wrote_5}
-use Rattle.laws.specs.Writing.{Wrote}
+use Rattle.put.specs.declared.parts.Writer.{Writer}
+use Rattle.put.specs.Writes.{Writes, writes_5}
 
 -- mark, day, outgoing count, how many positions, how many references
 unfoldable pub numbers : ℕ → ℕ → ℕ → ℕ → List ℕ
@@ -26,7 +26,7 @@ numbers_length day count positions references = simp (length-append, places_leng
 
 -- ---- written
 
-pub numbers_wrote : (day count positions references : ℕ) {at m₁ m₂ m₃ m₄ r : ℕ} {out o₁ o₂ o₃ o₄ out' : List ℕ} → Wrote mark at out m₁ o₁ → Wrote (bytes 3 day) m₁ o₁ m₂ o₂ → Wrote (bytes 2 count) m₂ o₂ m₃ o₃
-    → Wrote (bytes 1 positions) m₃ o₃ m₄ o₄ → Wrote (bytes 1 references) m₄ o₄ r out' → Wrote (numbers day count positions references) at out r out'
+pub numbers_wrote : (day count positions references : ℕ) {w₀ w₁ w₂ w₃ w₄ w₅ : Writer} → Writes mark w₀ w₁ → Writes (bytes 3 day) w₁ w₂ → Writes (bytes 2 count) w₂ w₃
+    → Writes (bytes 1 positions) w₃ w₄ → Writes (bytes 1 references) w₄ w₅ → Writes (numbers day count positions references) w₀ w₅
 unfolding numbers
-numbers_wrote day count positions references u v w x y = wrote_5 u v w x y
+numbers_wrote day count positions references u v w x y = writes_5 u v w x y

@@ -7,7 +7,8 @@ use Rattle.rules.specs.Register.{register}
 use Rattle.rules.specs.Calls.{opened}
 use Rattle.rules.specs.Area.{zeros, padded, joined, texts_of, header, encode, area_size, positions_room, references_room, texts_room}
 use Rattle.laws.specs.Digits.{places_length}
-use Rattle.laws.specs.Pieces.{wrote_5}
+use Rattle.put.specs.declared.parts.Writer.{Writer}
+use Rattle.put.specs.Writes.{Writes, writes_5}
 use Rattle.laws.specs.Writing.{Wrote, wrote_over}
 use Rattle.laws.specs.Sections.{zeros_length, padded_length}
 use Rattle.rule_laws.specs.Registers.{register_length}
@@ -24,10 +25,10 @@ texts_room_lem text list h k = omega (arith, register_length text h, list_length
 unfoldable pub opened_parts : List ℕ → List ℕ → ℕ → List ℕ
 opened_parts text list day = numbers day 0 0 0 ++ lengths (text ∷ list ∷ []) ++ zeros references_room ++ zeros positions_room ++ text_part (text ∷ list ∷ [])
 
-pub opened_wrote : (text list : List ℕ) (day : ℕ) {m₁ m₂ m₃ m₄ r : ℕ} {out o₁ o₂ o₃ o₄ out' : List ℕ} → Wrote (numbers day 0 0 0) 0 out m₁ o₁ → Wrote (lengths (text ∷ list ∷ [])) m₁ o₁ m₂ o₂ → Wrote (zeros references_room) m₂ o₂ m₃ o₃
-    → Wrote (zeros positions_room) m₃ o₃ m₄ o₄ → Wrote (text_part (text ∷ list ∷ [])) m₄ o₄ r out' → Wrote (opened_parts text list day) 0 out r out'
+pub opened_wrote : (text list : List ℕ) (day : ℕ) {w₀ w₁ w₂ w₃ w₄ w₅ : Writer} → Writes (numbers day 0 0 0) w₀ w₁ → Writes (lengths (text ∷ list ∷ [])) w₁ w₂ → Writes (zeros references_room) w₂ w₃
+    → Writes (zeros positions_room) w₃ w₄ → Writes (text_part (text ∷ list ∷ [])) w₄ w₅ → Writes (opened_parts text list day) w₀ w₅
 unfolding opened_parts
-opened_wrote text list day u v w x y = wrote_5 u v w x y
+opened_wrote text list day u v w x y = writes_5 u v w x y
 
 opened_parts_lem : (text list : List ℕ) (day : ℕ) → encode (opened text list day) ≡ opened_parts text list day
 unfolding encode header opened padded joined texts_of text_part opened_parts numbers lengths

@@ -1,43 +1,36 @@
 // A reference put in its place among those of an area, which stand by sender in byte order and then text.
-ghost use Rattle.std.specs.Prelude.{◌≡◌, true, ◌+◌, ◌≤◌, length};
-ghost use Rattle.rules.specs.Text.{is_text, every};
+ghost use Rattle.std.specs.Prelude.{◌≡◌, ◌+◌, ◌≤◌, length};
 ghost use Rattle.rules.specs.Engine.{precedes};
 ghost use Rattle.rules.specs.Area.{reference_record, decode, references_place, record_size};
-ghost use Rattle.laws.specs.Writing.{Wrote};
+ghost use Rattle.put.specs.Writes.{Writes};
 ghost use Rattle.laws.specs.Moving.{RoomFor};
 ghost use Rattle.engine.specs.References.{of_bank, reference_at};
 ghost use Rattle.engine_change.specs.Filing.{Today, FiledAt, Files};
 
 use crate::parts::put_padded;
-use engine::layout::{FIRST_REFERENCE, RECORD, REFERENCES, TEXT};
-use text::number_at;
+use engine::layout::{FIRST_REFERENCE, RECORD, REFERENCES};
+use engine::{BankReference, filed_at};
+use put::Writer;
 
-// Does the reference of the record at a place precede a bank's?
-fn is_before(area: &[u8], at: usize, bank: u64, reference: &[u8]) -> bool
-    requires record_in_bounds { at + record_size ≤ length area.now }
-    requires short { length reference.now ≤ 16 }
-    requires is_text { every is_text reference.now ≡ true }
-    ensures { result ≡ precedes (reference_at area.now at) (of_bank bank reference.now) }
+// Does the reference of the record at a place precede a bank's? (By sender and then text, and not as pairs: see `precedes` of `text`.)
+fn is_before(area: &[u8], at: usize, reference: BankReference) -> bool
+    requires { at + record_size ≤ length area.now }
+    ensures { result ≡ precedes (reference_at area.now at) (of_bank reference.entry.bank reference.entry.text.now) }
 {
-    let x = number_at(area, at, 8);
-    if x < bank {
-        return true;
+    let (sender, text) = filed_at(area, at);
+    if sender == reference.bank {
+        return text::precedes(text, reference.text);
     }
-    if bank < x {
-        return false;
-    }
-    text::is_before(area, at + TEXT, 16, reference, 0, reference.len() as u32)
+    sender < reference.bank
 }
 
 // The place of that reference: how many precede it.
-pub fn reference_place(area: &[u8], n: u32, bank: u64, reference: &[u8]) -> u32
-    requires today { Today area.now n }
-    requires short { length reference.now ≤ 16 }
-    requires is_text { every is_text reference.now ≡ true }
-    ensures { FiledAt (of_bank bank reference.now) (decode area.now).references result }
+pub fn reference_place(area: &[u8], n: u32, reference: BankReference) -> u32
+    requires { Today area.now n }
+    ensures { FiledAt (of_bank reference.entry.bank reference.entry.text.now) (decode area.now).references result }
 {
     for i in 0..n {
-        if !is_before(area, (REFERENCES + RECORD * i) as usize, bank, reference) {
+        if !is_before(area, (REFERENCES + RECORD * i) as usize, reference) {
             return i;
         }
     }
@@ -45,21 +38,20 @@ pub fn reference_place(area: &[u8], n: u32, bank: u64, reference: &[u8]) -> u32
 }
 
 // The record of a bank's reference.
-fn put_reference(area: &mut [u8], at: usize, bank: u64, reference: &[u8]) -> usize
-    requires short { length reference.now ≤ 16 }
-    ensures { Wrote (reference_record (of_bank bank reference.now)) at area.old result area.new }
+fn put_reference(w: &mut Writer, reference: BankReference)
+    ensures { Writes (reference_record (of_bank reference.entry.bank reference.entry.text.now)) w.old w.new }
 {
-    let o = put::put_be(area, at, 8, bank);
-    put_padded(area, o, 16, reference)
+    w.put_be(8, reference.bank);
+    put_padded(w, 16, reference.text);
 }
 
 // The reference put in its place i among n: those behind it are moved up.
-pub fn file_reference(area: &mut [u8], n: u32, i: u32, bank: u64, reference: &[u8])
+pub fn file_reference(area: &mut [u8], n: u32, i: u32, reference: BankReference)
     requires few { n ≤ 64 }
     requires room_for { RoomFor references_place record_size n i (length area.old) }
-    requires short { length reference.now ≤ 16 }
-    ensures { Files n i (of_bank bank reference.now) area.old area.new }
+    ensures { Files n i (of_bank reference.entry.bank reference.entry.text.now) area.old area.new }
 {
     crate::records::open_record(area, FIRST_REFERENCE, RECORD, n, i);
-    put_reference(area, (REFERENCES + RECORD * i) as usize, bank, reference);
+    let mut w = Writer::at(area, (REFERENCES + RECORD * i) as usize);
+    put_reference(&mut w, reference);
 }

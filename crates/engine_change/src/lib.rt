@@ -1,4 +1,4 @@
-// The area changed by accepted calls: opened, with a message booked, turned.
+// The area changed by accepted calls: opened, with a message booked, turned. An area is lent as bytes and its clause is over those before: between two changes it holds no engine.
 #![tactic(auto)]
 
 mod booking;

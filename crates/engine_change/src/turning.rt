@@ -6,18 +6,19 @@ ghost use Rattle.laws.specs.Moving.{Sifted};
 ghost use Rattle.engine_change.specs.Turning.{turned, stays};
 
 use crate::parts::put_numbers;
-use engine::header_of;
+use engine::Engine;
 use engine::layout::{
-    DETAILED, FIRST_POSITION, FIRST_REFERENCE, POSITIONS, RECORD, REFERENCES_ROOM,
+    DETAILED, FIRST_POSITION, FIRST_REFERENCE, POSITIONS, RECORD, REFERENCES_ROOM, SIZE,
 };
-use text::number_at;
+use put::Writer;
+use text::big_endian;
 
-// "A position without details stays": that of the record at a place?
+// "A position without details stays": that of the record at a place? (Records are told by places: see `engine`.)
 fn stays_at(area: &[u8], at: usize) -> bool
     requires { at + record_size ≤ length area.now }
     ensures { result ≡ stays (take record_size (drop at area.now)) }
 {
-    number_at(area, at + DETAILED, 6) == 0
+    big_endian(&area[at + DETAILED..at + SIZE]) == 0
 }
 
 // Of n positions those without details are kept, in their order; the room of the others is zero. Answers how many are kept.
@@ -33,11 +34,8 @@ fn remove_detailed(area: &mut [u8], n: u32) -> u32
             j += 1;
         }
     }
-    put::put_zeros(
-        area,
-        (POSITIONS + RECORD * j) as usize,
-        (RECORD * (n - j)) as usize,
-    );
+    let mut w = Writer::at(area, (POSITIONS + RECORD * j) as usize);
+    w.put_zeros((RECORD * (n - j)) as usize);
     j
 }
 
@@ -46,8 +44,8 @@ pub fn turn_area(area: &mut [u8], day: u32, count: u32)
     requires { is_some (holds area.old) ≡ true }
     ensures { area.new ≡ encode (turned (decode area.old) day count) ++ drop area_size area.old }
 {
-    let h = header_of(area);
+    let h = Engine::held(area).header();
     let kept = remove_detailed(area, h.positions);
-    put::put_zeros(area, FIRST_REFERENCE, REFERENCES_ROOM);
-    put_numbers(area, day, count, kept, 0);
+    Writer::at(area, FIRST_REFERENCE).put_zeros(REFERENCES_ROOM);
+    put_numbers(&mut Writer::new(area), day, count, kept, 0);
 }

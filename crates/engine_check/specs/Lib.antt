@@ -1,3 +1,4 @@
 pub mod Read
+pub mod References
 pub mod Walks
 pub mod Zeros

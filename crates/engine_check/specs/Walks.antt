@@ -15,9 +15,6 @@ Walks post n first r = (test : ℕ → Bool) → Tells post n first test → r �
 pub record Left (post : ℕ → Bool → Type 0) (n first k : ℕ) : Type 0 where
   pub same : (test : ℕ → Bool) → Tells post n first test → walk (always test) (n - k) (first + record_size * k) ≡ walk (always test) n first
 
-pub left_all : (post : ℕ → Bool → Type 0) (n first : ℕ) → Left post n first 0
-left_all post n first = record { same = λ test t. let e : n - 0 ≡ n = omega arith in let f : first + record_size * 0 ≡ first = omega arith in rw (e, f) refl }
-
 module _ {post : ℕ → Bool → Type 0} {n first k : ℕ} (l : Left post n first k) where
   pub left_none : n ≤ k → Walks post n first true
   left_none h test t = walk_end (always test) (n - k) (first + record_size * k) _ (l.same test t) (omega arith)

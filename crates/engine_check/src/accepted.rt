@@ -1,37 +1,36 @@
 // The section of the references accepted today: each of the right form, in order and so distinct, and zeros behind them.
 ghost use Rattle.std.specs.Prelude.{◌≡◌, ◌+◌, ◌-◌, ◌≤◌, length};
 ghost use Rattle.rules.specs.Area.{texts_place, record_size};
-ghost use Rattle.laws.specs.Parts.{cut};
 ghost use Rattle.engine_laws.specs.Walk.{walk, always};
 ghost use Rattle.engine_laws.specs.Tests.{text_fits, reference_test, filed_test, references_test};
 ghost use Rattle.engine_laws.specs.Texts.{ended_fits};
 
-use crate::header::zeros_hold;
+use crate::header::all_zero;
 use crate::records::each_passes;
+use engine::filed_at;
 use engine::layout::{FIRST_POSITION, FIRST_REFERENCE, RECORD, REFERENCES, SIZE, TEXT};
 
-// Are the n bytes at a, a text's, a reference that 5 lets pass, with zeros behind them up to 16?
-fn ended_fits(s: &[u8], a: usize, n: u32) -> bool
-    requires n_bound { n ≤ 16 }
-    requires a_in_bounds { a + 16 ≤ length s.now }
-    ensures { result ≡ ended_fits s.now a n }
+// Are the first n of 16 bytes, a text's, a reference that 5 lets pass, with zeros behind them?
+fn ended_fits(padded: &[u8], n: usize) -> bool
+    requires size { length padded.now ≡ 16 }
+    requires few { n ≤ 16 }
+    ensures { result ≡ ended_fits padded.now 0 n }
 {
     if n < 1 {
         return false;
     }
-    let end = a + n as usize;
-    if references::is_slashed(s, a, end) {
+    if references::slashed(&padded[..n]) {
         return false;
     }
-    zeros_hold(s, end, end + (16 - n) as usize)
+    all_zero(&padded[n..])
 }
 
-// Do the 16 bytes at a hold a reference's text?
-fn text_fits(s: &[u8], a: usize) -> bool
-    requires { a + 16 ≤ length s.now }
-    ensures { result ≡ text_fits (cut s.now a (a + 16)) }
+// Do 16 bytes hold a reference's text?
+fn text_fits(padded: &[u8]) -> bool
+    requires { length padded.now ≡ 16 }
+    ensures { result ≡ text_fits padded.now }
 {
-    ended_fits(s, a, text::leading_at::<text::Text>(s, a, 16))
+    ended_fits(padded, text::leading::<text::Text>(padded))
 }
 
 // Is the record there a bank's reference?
@@ -42,7 +41,7 @@ fn reference_fits(area: &[u8], p: usize) -> bool
     if !account::is_bic(&area[p..p + 8]) {
         return false;
     }
-    text_fits(area, p + TEXT)
+    text_fits(&area[p + TEXT..p + SIZE])
 }
 
 // Is each of the n records a bank's reference?
@@ -54,21 +53,17 @@ fn references_fit(area: &[u8], n: u32) -> bool
     each_passes(FIRST_REFERENCE, n, |p| reference_fits(area, p))
 }
 
-// Does the record there stand before the next one: by sender, then by text?
+// Does the record there stand before the next one: by sender, then by text? (As pairs, by `<`, both would be compared by the slices' order: see `precedes`.)
 fn stands_before(area: &[u8], p: usize) -> bool
     requires { p + record_size + record_size ≤ length area.now }
     ensures { result ≡ filed_test area.now p }
 {
-    let q = p + SIZE;
-    let sender = text::read_be(area, p, p + 8);
-    let other = text::read_be(area, q, q + 8);
-    if sender < other {
-        return true;
+    let (sender, text) = filed_at(area, p);
+    let (other, next) = filed_at(area, p + SIZE);
+    if sender == other {
+        return text::precedes(text, next);
     }
-    if other < sender {
-        return false;
-    }
-    text::is_before(area, p + TEXT, 16, area, q + TEXT, 16)
+    sender < other
 }
 
 // Do the n references stand in order?
@@ -96,5 +91,5 @@ pub fn references_hold(area: &[u8], n: u32) -> bool
     if !references_ordered(area, n) {
         return false;
     }
-    zeros_hold(area, (REFERENCES + RECORD * n) as usize, FIRST_POSITION)
+    all_zero(&area[(REFERENCES + RECORD * n) as usize..FIRST_POSITION])
 }

@@ -1,5 +1,5 @@
 // Numbers and zeros of an area, and its header.
-ghost use Rattle.std.specs.Prelude.{◌≡◌, ◌&&◌, ◌+◌, ◌*◌, ◌≤◌, ◌↔◌, IsTrue, All, length};
+ghost use Rattle.std.specs.Prelude.{◌≡◌, ◌&&◌, ◌+◌, ◌*◌, ◌≤◌, length};
 ghost use Rattle.rules.specs.Text.{every, equal};
 ghost use Rattle.rules.specs.Area.{mark, currency_place, lengths_place, references_place, day_place};
 ghost use Rattle.laws.specs.Parts.{cut};
@@ -7,22 +7,13 @@ ghost use Rattle.engine_laws.specs.Tests.{is_zero, counts_test, text_count, head
 ghost use Rattle.engine.specs.Header.{HeaderAt};
 
 use engine::Header;
-use engine::layout::{CURRENCY, FIRST_REFERENCE, LENGTHS, NO_LENGTHS};
+use engine::layout::{CURRENCY, DAY, FIRST_REFERENCE, LENGTHS, NO_LENGTHS};
 
 // Is each byte zero?
-fn all_zero(s: &[u8]) -> bool
-    ensures { IsTrue result ↔ All (λ c. c ≡ 0) s.now }
+pub fn all_zero(s: &[u8]) -> bool
+    ensures { result ≡ every is_zero s.now }
 {
     s.iter().all(|&c| c == 0)
-}
-
-// Is each byte from a up to b zero?
-pub fn zeros_hold(s: &[u8], a: usize, b: usize) -> bool
-    requires a_le_b { a ≤ b }
-    requires b_in_bounds { b ≤ length s.now }
-    ensures { result ≡ every is_zero (cut s.now a b) }
-{
-    all_zero(&s[a..b])
 }
 
 // Are the outgoing count and the numbers of positions and references within their limits?
@@ -43,7 +34,7 @@ fn mark_stands(area: &[u8]) -> bool
     requires { references_place ≤ length area.now }
     ensures { result ≡ equal (cut area.now 0 day_place) mark }
 {
-    text::equal_parts(area, 0, b"RC", 0, 2)
+    text::equal(&area[..DAY], b"RC")
 }
 
 // Are the currency and the lengths behind those of the texts zero?
@@ -51,10 +42,7 @@ fn unused_zero(area: &[u8]) -> bool
     requires { references_place ≤ length area.now }
     ensures { result ≡ (every is_zero (cut area.now currency_place lengths_place) && every is_zero (cut area.now (lengths_place + 2 * text_count) references_place)) }
 {
-    if zeros_hold(area, CURRENCY, LENGTHS) {
-        return zeros_hold(area, NO_LENGTHS, FIRST_REFERENCE);
-    }
-    false
+    all_zero(&area[CURRENCY..LENGTHS]) && all_zero(&area[NO_LENGTHS..FIRST_REFERENCE])
 }
 
 // Does the header pass?

@@ -5,7 +5,7 @@ ghost use Rattle.engine_laws.specs.Walk.{walk, always};
 ghost use Rattle.engine_laws.specs.Tests.{date_test, values_test, position_test, order_test, positions_test};
 ghost use Rattle.position.specs.Values.{position_value};
 
-use crate::header::zeros_hold;
+use crate::header::all_zero;
 use crate::records::each_passes;
 use engine::layout::{BLOCK, FIRST_POSITION, POSITIONS, RECORD, SIZE, TEXTS, TRANSFERRED};
 use engine::{key_at, position_at};
@@ -31,7 +31,7 @@ fn position_fits(area: &[u8], p: usize, day: u32) -> bool
     ensures { result ≡ position_test day area.now p }
 {
     account::is_bic(&area[p..p + 8])
-        && zeros_hold(area, p + BLOCK, p + TRANSFERRED)
+        && all_zero(&area[p + BLOCK..p + TRANSFERRED])
         && values_fit(position_at(area, p), day)
 }
 
@@ -69,5 +69,5 @@ pub fn positions_hold(area: &[u8], n: u32, day: u32) -> bool
 {
     positions_fit(area, n, day)
         && positions_ordered(area, n)
-        && zeros_hold(area, (POSITIONS + RECORD * n) as usize, TEXTS)
+        && all_zero(&area[(POSITIONS + RECORD * n) as usize..TEXTS])
 }

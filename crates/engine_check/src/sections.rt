@@ -8,7 +8,7 @@ ghost use Rattle.engine_laws.specs.Several.{TextRoom};
 ghost use Rattle.engine_laws.specs.Tests.{register_test, list_test, texts_test, area_test};
 
 use crate::accepted::references_hold;
-use crate::header::{header_holds, zeros_hold};
+use crate::header::{all_zero, header_holds};
 use crate::positions::positions_hold;
 use engine::layout::AREA;
 use engine::{header_at, length_at, text_at, text_place};
@@ -26,7 +26,7 @@ fn register_holds(area: &[u8], k: u32) -> bool
     register::register_passes(text_at(area, k))
 }
 
-// Is text k a holiday list?
+// Is text k a holiday list? (Beside `register_holds`: each has a limit, a check and a definition of its own.)
 fn list_holds(area: &[u8], k: u32) -> bool
     requires k_bound { k < 3 }
     requires text_room { TextRoom area.now k longest_list }
@@ -49,7 +49,7 @@ fn texts_hold(area: &[u8]) -> bool
     if !list_holds(area, 1) {
         return false;
     }
-    zeros_hold(area, text_place(area, 2), AREA)
+    all_zero(&area[text_place(area, 2)..AREA])
 }
 
 // Does the whole area pass?

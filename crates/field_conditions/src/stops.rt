@@ -15,13 +15,13 @@ pub fn transfer_stop(s: &[u8], temporary: &[u8], t: Transfer) -> Result<(), Refu
     requires { SpansWithin s.now t.spans }
     ensures { stop_of result ≡ transfer_stop s.now temporary.now t }
 {
-    if slashed_behind(s, t.spans[MESSAGE_20], 4) {
+    if slashed_behind(t.spans[MESSAGE_20].of(s), 4) {
         return Err(Refusal::BadReference);
     }
-    if bad_sum(s, t.spans[TRANSFER_32A], 11, t.amount) {
+    if bad_sum(t.spans[TRANSFER_32A].of(s), 11, t.amount) {
         return Err(Refusal::BadAmount);
     }
-    if is_same(s, t.spans[TRANSFER_59], 5, temporary) {
+    if is_same(t.spans[TRANSFER_59].of(s), 5, temporary) {
         return Ok(());
     }
     Err(Refusal::BadAccount)
@@ -32,13 +32,13 @@ pub fn detail_stop(s: &[u8], d: Detail, day: u64) -> Result<(), Refusal>
     requires { SpansWithin s.now d.spans }
     ensures { low_of result ≡ detail_stop s.now day d }
 {
-    if slashed_behind(s, d.spans[DETAIL_21], 4) {
+    if slashed_behind(d.spans[DETAIL_21].of(s), 4) {
         return Err(Refusal::BadReference);
     }
-    if bad_sum(s, d.spans[DETAIL_32B], 5, d.amount) {
+    if bad_sum(d.spans[DETAIL_32B].of(s), 5, d.amount) {
         return Err(Refusal::BadAmount);
     }
-    if is_foreign(s, d.spans[DETAIL_50H]) {
+    if is_foreign(s, d.spans[DETAIL_50H].of(s)) {
         return Err(Refusal::BadAccount);
     }
     if d.date != day {

@@ -1,4 +1,4 @@
--- What stands in a field: parts behind some bytes of a line, dates and amounts there.
+-- What stands behind some bytes of a part.
 use Rattle.std.specs.Prelude.{◌≡◌, refl, Bool, true, false, List, [], ◌∷◌, leb, take, drop}
 use Rattle.std.proofs.Math.Option.{Option, none}
 use Prim.Native.Nat.{ℕ, ◌+◌, ◌-◌, ◌≤◌, ◌<◌, min}
@@ -36,21 +36,3 @@ module _ (s : List ℕ) (p : Span) (k : ℕ) (w : SpanIn s p) where
         go : (t : Bool) → leb (p.start + k) p.end ≡ t → cut s r.start p.end ≡ cut s (p.start + k) p.end
         go true h = let l : p.start + k ≤ p.end = leb-true _ _ h in let e : r.start ≡ p.start + k = omega (arith, b.start) in rw e
         go false h = let l : p.end < p.start + k = leb-false _ _ h in rw (past s r.start p.end (omega (arith, b.start)), past s (p.start + k) p.end (omega arith))
-
-  pub date_short : p.end < p.start + k + 6 → none ≡ date (take 6 (drop k (span_of s p)))
-  unfolding date
-  date_short h =
-      let l : length (take 6 (drop k (span_of s p))) ≡ min 6 (p.end - (p.start + k)) = rw (length-take, cut_drop, cut_length s (p.start + k) p.end w.room) in
-      rw (ne_eqb (length (take 6 (drop k (span_of s p)))) 6 (λ e. omega arith))
-
-  pub date_there : p.start + k + 6 ≤ p.end → (o : Option ℕ) → o ≡ date (take (p.start + k + 6 - (p.start + k)) (drop (p.start + k) s)) → o ≡ date (take 6 (drop k (span_of s p)))
-  date_there h o e = rw (cut_drop, cut_take s (p.start + k) p.end 6 h) (rw (part_cut s (p.start + k) (p.start + k + 6) (omega arith)) at e)
-
-  pub amount_short : p.end < p.start + k → none ≡ amount (drop k (span_of s p))
-  unfolding amount is_digit
-  amount_short h = rw (cut_drop, past s (p.start + k) p.end (omega arith))
-
-  pub amount_there : p.start + k ≤ p.end → (o : Option ℕ) → o ≡ amount (take (p.end - (p.start + k)) (drop (p.start + k) s)) → o ≡ amount (drop k (span_of s p))
-  amount_there h o e = rw cut_drop (rw (part_cut s (p.start + k) p.end h) at e)
-
-pub ruleset fields = (behind_in, behind_bytes, date_short, date_there, amount_short, amount_there)

@@ -8,8 +8,8 @@ use Rattle.std.proofs.Math.ListN.{length, length-take}
 use borrow.Author.Tests.{eq-eqb, ne_eqb}
 use Rattle.rules.specs.Text.{is_text, run, fits}
 use Rattle.rules.specs.Forms.{text_line, fits_rest, fits_row}
-use Rattle.laws.specs.Parts.{cut, cut_length, cut_take, cut_drop}
-use Rattle.laws.specs.Slices.{part_cut}
+use Rattle.laws.specs.Parts.{cut, cut_length}
+use Rattle.laws.specs.Slices.{rest_whole}
 use Rattle.laws.specs.Reading.{fits_length}
 use Rattle.laws.specs.Tests.{not_holds}
 use Rattle.forms.specs.Table.{heads, heads_length, rest_of, row_of}
@@ -44,30 +44,34 @@ rest_told k l cs r e h = rw e h
 
 -- ---- the row
 
-module _ (row : Row) (s : List ℕ) (a e : ℕ) (w : row.start + row.size ≤ 186) (k : e ≤ length s) where
+module _ (row : Row) (s : List ℕ) (w : row.start + row.size ≤ 186) where
   size : length (row_of row).head ≡ row.size
   unfolding row_of
   size = cut_length heads row.start (row.start + row.size) (omega (arith, heads_length)) ∙ omega arith
 
-  pub row_short : e - a < row.size → false ≡ fits_row (row_of row) (cut s a e)
+  pub row_short : length s < row.size → false ≡ fits_row (row_of row) s
   unfolding fits_row
   row_short h =
-      let f : false ≡ fits (row_of row).head (take (length (row_of row).head) (cut s a e)) = not_holds _ (λ x.
-      let m : length (row_of row).head ≡ length (take (length (row_of row).head) (cut s a e)) = fits_length _ _ x in
-      let n : length (take (length (row_of row).head) (cut s a e)) ≡ min (length (row_of row).head) (length (cut s a e)) = length-take _ _ in
-      omega (arith, size, cut_length s a e k)) in
+      let f : false ≡ fits (row_of row).head (take (length (row_of row).head) s) = not_holds _ (λ x.
+      let m : length (row_of row).head ≡ length (take (length (row_of row).head) s) = fits_length _ _ x in
+      let n : length (take (length (row_of row).head) s) ≡ min (length (row_of row).head) (length s) = length-take _ _ in
+      omega (arith, size)) in
       rw (← f)
 
   -- the row's pattern, and what stands behind it
-  module _ (h : row.size ≤ e - a) (l : a ≤ e) (t : Bool) (u : t ≡ fits (cut heads row.start (row.start + row.size)) (cut s a (a + row.size))) where
-    split : fits_row (row_of row) (cut s a e) ≡ (t && fits_rest (rest_of row.rest) (cut s (a + row.size) e))
-    unfolding fits_row row_of
-    split = rw (size, cut_take s a e row.size (omega arith), cut_drop s a e row.size, ← u)
+  module _ (h : row.size ≤ length s) where
+    pub head_size : length (take row.size s) ≡ row.size
+    head_size = length-take row.size s ∙ omega arith
 
-    pub row_head : t ≡ false → false ≡ fits_row (row_of row) (cut s a e)
-    row_head d = sym (split ∙ (rw d))
+    module _ (t : Bool) (u : t ≡ fits (cut heads row.start (row.start + length (take row.size s))) (take row.size s)) where
+      split : fits_row (row_of row) s ≡ (t && fits_rest (rest_of row.rest) (drop row.size s))
+      unfolding fits_row row_of
+      split = rw (size, ← (rw head_size at u))
 
-    pub row_rest : t ≡ true → (r : Bool) → r ≡ fits_rest (rest_of row.rest) (take (e - (a + row.size)) (drop (a + row.size) s)) → r ≡ fits_row (row_of row) (cut s a e)
-    row_rest d r q = rw (part_cut s (a + row.size) e (omega arith)) at q ∙ sym (split ∙ (rw d))
+      pub row_head : t ≡ false → false ≡ fits_row (row_of row) s
+      row_head d = sym (split ∙ (rw d))
+
+      pub row_rest : t ≡ true → (r : Bool) → r ≡ fits_rest (rest_of row.rest) (take (length s - row.size) (drop row.size s)) → r ≡ fits_row (row_of row) s
+      row_rest d r q = rw (rest_whole s row.size) at q ∙ sym (split ∙ (rw d))
 
 pub ruleset fitting = (text_none, text_colon, text_dash, text_run, rest_told, row_short, row_head, row_rest)

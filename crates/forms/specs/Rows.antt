@@ -1,5 +1,5 @@
 -- Lines matched against rows one by one: a law for each way that a row takes a line, and for the loop over the rows. The lines matched so far stand before what the rows that are left make of the rest.
-use Rattle.std.specs.Prelude.{◌≡◌, refl, Bool, true, false, List, [], ◌∷◌, ◌++◌, ℕ, ◌+◌, ◌-◌, ◌≤◌, ◌<◌, length, take, set, replicate}
+use Rattle.std.specs.Prelude.{◌≡◌, refl, Bool, true, false, List, [], ◌∷◌, ◌++◌, ℕ, ◌+◌, ◌-◌, ◌≤◌, ◌<◌, length, take, drop, set, replicate}
 use Rattle.std.proofs.Common.{sym, ◌∙◌, append_assoc, append-nil, add-zero, arith, add-one, length-set, take-suc-set, subst}
 use Rattle.std.proofs.Math.Path.{ap}
 use Rattle.std.specs.Prelude.{Option, Some, None, MatchOption}
@@ -11,22 +11,35 @@ use Rattle.rules.specs.Lines.{Line, TakenLine, take_line}
 use Rattle.rules.specs.Forms as F
 use Rattle.rules.specs.Forms.{fits_row, TakenRows, lead_rows, take_rows}
 use Rattle.laws.specs.Parts.{cut, from, cut_done}
+use Rattle.laws.specs.Slices.{part_cut}
 use Rattle.laws.specs.Tests.{never}
 use Rattle.lines.specs.Answers.{LineEnd, NoLine}
-use Rattle.lines.specs.declared.reader.Reader.{Reader}
+use Rattle.lines.specs.declared.reader.LineReader.{LineReader}
 use Rattle.forms.specs.Table.{row_of, code_at, RowAt, row_told, row_some, part, part_none, part_step}
 use Rattle.forms.specs.Spans.{span_of, no_span, SpanIs, SpanIn, SpansWithin, within_none, within_set, lines_at, span_none, span_more}
 use Rattle.forms.specs.Stretches.{RowStretch, line_stretch, out_stretch, Standing, Standing.end, stands_more, RowsStand}
 use Rattle.forms.specs.declared.rows.Span.{Span}
-use Rattle.forms.specs.declared.rows.Rows.{Rows}
 use Rattle.forms.specs.declared.table.Row.{Row}
 
--- r is what the rows make of the text from `at` on: their lines, and the text behind them
-pub record RowsAt (s : List ℕ) (at first count : ℕ) (r : Rows) : Type 0 where
-  pub same : take_rows (part first count) (from s at) ≡ some record { rows = lines_at s r.spans count; others = from s r.next }
-  pub next : r.next ≤ length s
-  pub within : SpansWithin s r.spans
-  pub stand : RowsStand s at count r.spans r.next
+-- what the rows make of the text from `at` on: their lines are the parts l, and the text goes on at `next`
+pub record RowsAt (s : List ℕ) (at first count : ℕ) (l : List Span) (next : ℕ) : Type 0 where
+  pub same : take_rows (part first count) (from s at) ≡ some record { rows = lines_at s l count; others = from s next }
+  pub place : next ≤ length s
+  pub within : SpansWithin s l
+  pub stand : RowsStand s at count l next
+
+-- what the rows take off a reader
+pub record RowsTaken (old new : LineReader) (first count : ℕ) (r : Option (List Span)) : Type 0 where
+  pub text : new.text ≡ old.text
+  pub taken : MatchOption r (take_rows (part first count) (from old.text.now old.at) ≡ none) (λ l. RowsAt old.text.now old.at first count l new.at)
+
+-- by the text that the reader is over, and its place there
+module _ (s : List ℕ) (at f n : ℕ) (old new : LineReader) (o : old.text.now ≡ s) (e : old.at ≡ at) where
+  pub rows_none_taken : RowsTaken old new f n None → take_rows (part f n) (from s at) ≡ none
+  rows_none_taken w = rw (o, e) at w.taken
+
+  pub rows_taken : (l : List Span) → RowsTaken old new f n (Some l) → RowsAt s at f n l new.at
+  rows_taken l w = rw (o, e) at w.taken
 
 -- ---- lines before others
 
@@ -82,11 +95,11 @@ pub record RowHolds (s : List ℕ) (at k : ℕ) (p : Span) (next : ℕ) : Type 0
   pub stands : RowStretch s at p next
 
 -- what row k takes off a reader
-pub record RowTaken (old new : Reader) (k : ℕ) (r : Option Span) : Type 0 where
+pub record RowTaken (old new : LineReader) (k : ℕ) (r : Option Span) : Type 0 where
   pub text : new.text ≡ old.text
   pub taken : MatchOption r (NoRow old.text.now old.at k) (λ p. RowHolds old.text.now old.at k p new.at)
 
-module _ (s : List ℕ) (old new : Reader) (k : ℕ) (o : old.text.now ≡ s) where
+module _ (s : List ℕ) (old new : LineReader) (k : ℕ) (o : old.text.now ≡ s) where
   pub row_none_taken : RowTaken old new k None → NoRow s old.at k
   row_none_taken w = subst (λ (x : List ℕ). NoRow x old.at k) o w.taken
 
@@ -97,9 +110,9 @@ module _ (s : List ℕ) (at k : ℕ) (w : at ≤ length s) (b : k < 40) where
   pub no_line : NoLine s at → NoRow s at k
   no_line e rs = row_none _ _ _ e.same
 
-  module _ (r : Row) (y : RowAt k r) (e : ℕ) (l : LineEnd s at e) (t : Bool) (u : t ≡ fits_row (row_of r) (cut s at e)) where
+  module _ (r : Row) (y : RowAt k r) (e : ℕ) (l : LineEnd s at e) (t : Bool) (u : t ≡ fits_row (row_of r) (take (e - at) (drop at s))) where
     row_is : t ≡ fits_row (row_of (code_at k)) (cut s at e)
-    row_is = rw (← y.same) u
+    row_is = rw (← y.same) (rw (part_cut s at e l.start) at u)
 
     left_out : {b : Bool} → r.optional ≡ b → (row_of (code_at k)).optional ≡ b
     unfolding row_of
@@ -141,8 +154,8 @@ module _ (s : List ℕ) (at f n : ℕ) where
   rows_start h = record { few = omega arith; place = h; size = length-replicate 23 no_span; same = rw (span_none, add-zero f, sub-zero n) (lead_nil _); within = within_none s 23; stands = end }
 
   module _ (l : List Span) (pos i : ℕ) (inv : Rowing s at f n l pos i) where
-    pub rows_done : n ≤ i → RowsAt s at f n record { next = pos; spans = l }
-    rows_done k = record { same = sym (go _ inv.same); next = inv.place; within = inv.within; stand = record { size = inv.size; stands = let d : i ≡ n = omega (arith, k, inv.few) in rw (← d) inv.stands } }
+    pub rows_done : n ≤ i → RowsAt s at f n l pos
+    rows_done k = record { same = sym (go _ inv.same); place = inv.place; within = inv.within; stand = record { size = inv.size; stands = let d : i ≡ n = omega (arith, k, inv.few) in rw (← d) inv.stands } }
       where
         go : (x : Paper.Option TakenRows) → lead_rows (lines_at s l i) (take_rows (part (f + i) (n - i)) (from s pos)) ≡ x → some record { rows = lines_at s l n; others = from s pos } ≡ x
         go x g =

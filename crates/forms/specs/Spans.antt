@@ -1,9 +1,10 @@
 -- Parts of a message, as the code holds them.
-use Rattle.std.specs.Prelude.{◌≡◌, refl, List, [], ◌∷◌, ◌++◌, map, ℕ, zero, suc, ◌+◌, ◌≤◌, ◌<◌, length, get_or, take, set, replicate}
+use Rattle.std.specs.Prelude.{◌≡◌, refl, List, [], ◌∷◌, ◌++◌, map, ℕ, zero, suc, ◌+◌, ◌-◌, ◌≤◌, ◌<◌, length, get_or, take, drop, set, replicate}
 use Rattle.std.proofs.Common.{sym, add-one, arith, take-suc-set}
 use Rattle.std.proofs.lemmas.List.{map-append}
 use Rattle.rules.specs.Lines.{Line}
 use Rattle.laws.specs.Parts.{cut, cut_done}
+use Rattle.laws.specs.Slices.{part_cut}
 use Rattle.forms.specs.declared.rows.Span.{Span}
 
 -- the bytes of a part
@@ -23,6 +24,10 @@ pub record SpanIs (a e : ℕ) (p : Span) : Type 0 where
 pub record SpanIn (s : List ℕ) (p : Span) : Type 0 where
   pub order : p.start ≤ p.end
   pub room : p.end ≤ length s
+
+-- its bytes, as a slice
+pub span_slice : (s : List ℕ) (p : Span) → SpanIn s p → take (p.end - p.start) (drop p.start s) ≡ span_of s p
+span_slice s p w = part_cut s p.start p.end w.order
 
 -- ---- a list of parts
 

@@ -1,11 +1,11 @@
 -- The table of rows as the code holds it, and that it is document 01's.
 use Rattle.std.specs.Prelude.{◌≡◌, refl, Bool, true, false, not, List, [], ◌∷◌, ◌++◌, map, ℕ, zero, suc, ◌+◌, ◌-◌, ◌*◌, ◌/◌, ◌%◌, ◌^◌, ◌≤◌, ◌<◌, leb, eqb, length, get_or, take, drop}
-use Rattle.std.proofs.Common.{arith, add-zero, add-one, drop-cons, leb-true, eqb-true}
+use Rattle.std.proofs.Common.{arith, add-zero, zero-add, add-one, drop-cons, leb-true, eqb-true}
 use Rattle.std.proofs.lemmas.Bool.{not-true}
 use Rattle.rules.specs.Text.{ascii, is_text, every, run, number_from, big_endian, fits_sign, fits}
 use Rattle.rules.specs.Forms as F
 use Rattle.rules.specs.Forms.{nothing, text, reference, account, name, sum, text_line, fits_rest, fits_row, transfer_rows, detail_rows}
-use Rattle.laws.specs.Parts.{cut}
+use Rattle.laws.specs.Parts.{cut, cut_all}
 use Rattle.laws.specs.Reading.{fits_pairs, pairs_more, pairs_bad, pairs_end}
 use Rattle.laws.specs.Tables.{below, below_at}
 use Rattle.forms.specs.declared.table.Rest.{Rest}
@@ -157,21 +157,24 @@ sign_told i w l e = rw e (eqb-true _ _ (below_at agrees 186 all_agree i l))
 
 -- ---- bytes matched against the heads, sign by sign
 
-module _ (b : ℕ) (s : List ℕ) (a n k : ℕ) (x : Bool) (inv : fits (cut heads (b + k) (b + n)) (cut s (a + k) (a + n)) ≡ x) where
-  module _ (h : k < n) (l : b + n ≤ 186) (m : a + n ≤ length s) (v : ℕ) (e : v ≡ get_or heads (b + k) 0) (q : Bool) (u : q ≡ fits_sign v (get_or s (a + k) 0)) where
-    sign_holds : q ≡ fits_sign (get_or heads (b + k) 0) (get_or s (a + k) 0)
-    sign_holds = rw (← e) u
+pub head_start : (b : ℕ) (s : List ℕ) → fits (cut heads (b + 0) (b + length s)) (cut s (0 + 0) (0 + length s)) ≡ fits (cut heads b (b + length s)) s
+head_start b s = rw (add-zero b, zero-add (length s), cut_all s) refl
 
-    pub head_more : q ≡ true → fits (cut heads (b + (k + 1)) (b + n)) (cut s (a + (k + 1)) (a + n)) ≡ x
-    head_more d = pairs_more fits fits_sign fits_pairs heads s b a n k x inv h (omega (arith, heads_length)) m q sign_holds d
+module _ (b : ℕ) (s : List ℕ) (k : ℕ) (x : Bool) (inv : fits (cut heads (b + k) (b + length s)) (cut s (0 + k) (0 + length s)) ≡ x) where
+  module _ (h : k < length s) (l : b + length s ≤ 186) (v : ℕ) (e : v ≡ get_or heads (b + k) 0) (q : Bool) (u : q ≡ fits_sign v (get_or s k 0)) where
+    sign_holds : q ≡ fits_sign (get_or heads (b + k) 0) (get_or s (0 + k) 0)
+    sign_holds = rw (zero-add k, ← e) u
+
+    pub head_more : q ≡ true → fits (cut heads (b + (k + 1)) (b + length s)) (cut s (0 + (k + 1)) (0 + length s)) ≡ x
+    head_more d = pairs_more fits fits_sign fits_pairs heads s b 0 (length s) k x inv h (omega (arith, heads_length)) (omega arith) q sign_holds d
 
     pub head_bad : q ≡ false → false ≡ x
-    head_bad d = pairs_bad fits fits_sign fits_pairs heads s b a n k x inv h (omega (arith, heads_length)) m q sign_holds d
+    head_bad d = pairs_bad fits fits_sign fits_pairs heads s b 0 (length s) k x inv h (omega (arith, heads_length)) (omega arith) q sign_holds d
 
-  pub head_end : k ≤ n → n ≤ k → true ≡ x
-  head_end = pairs_end fits fits_sign fits_pairs heads s b a n k x inv
+  pub head_end : k ≤ length s → length s ≤ k → true ≡ x
+  head_end = pairs_end fits fits_sign fits_pairs heads s b 0 (length s) k x inv
 
-pub ruleset signs = (add-zero, sign_told, head_more, head_bad, head_end)
+pub ruleset signs = (add-zero, sign_told, head_start, head_more, head_bad, head_end)
 
 -- ---- some of its rows
 

@@ -54,5 +54,3 @@ module _ {A : Type 0} (o : Option A) (f : ℕ → ℕ → ℕ → A) (x y z : Op
       pub all_three : (c : ℕ) → r ≡ Some c → (t : A) → t ≡ f a b c → o ≡ some t
       unfolding three
       all_three c l t e = rw e (same ∙ (rw (← u, h, ← v, k, ← w, l)))
-
-pub ruleset threes = (no_first, no_second, no_third, all_three)

@@ -13,7 +13,7 @@ use Rattle.forms.specs.Table.{table, part}
 use Rattle.forms.specs.Spans.{SpansWithin, within_at, lines_at, span_line}
 use Rattle.forms.specs.Rows.{RowsAt}
 use Rattle.forms.specs.Three.{sum_in, date_in, sum_small, three, three_on, no_first, no_second, no_third, all_three}
-use Rattle.forms.specs.declared.rows.Rows.{Rows}
+use Rattle.forms.specs.declared.rows.Span.{Span}
 use Rattle.forms.specs.declared.transfer.Transfer.{Transfer}
 
 -- the transfer that an answer holds
@@ -39,22 +39,22 @@ pub no_transfer_rows : (s : List ℕ) → take_rows (part 0 23) (from s 23) ≡ 
 unfolding read_transfer
 no_transfer_rows s h = let e : take_rows transfer_rows (body s) ≡ none = rw (transfer_rows_lem, body_from) at h in rw e
 
-module _ (s : List ℕ) (r : Rows) (w : RowsAt s 23 0 23 r) (t : Bool) (u : t ≡ is_closing_line (from s r.next)) where
-  rows_known : take_rows transfer_rows (body s) ≡ some record { rows = lines_at s r.spans 23; others = from s r.next }
+module _ (s : List ℕ) (l : List Span) (next : ℕ) (w : RowsAt s 23 0 23 l next) (t : Bool) (u : t ≡ is_closing_line (from s next)) where
+  rows_known : take_rows transfer_rows (body s) ≡ some record { rows = lines_at s l 23; others = from s next }
   rows_known = rw (transfer_rows_lem, body_from) at w.same
 
   pub transfer_open : t ≡ false → read_transfer s ≡ none
   unfolding read_transfer
-  transfer_open d = rw (rows_known, ← u, d) (given_none mt103 (transfer_of (sender s) (lines_at s r.spans 23)))
+  transfer_open d = rw (rows_known, ← u, d) (given_none mt103 (transfer_of (sender s) (lines_at s l 23)))
 
   pub transfer_three : t ≡ true → read_transfer s ≡ three
-      (λ d a b. mt103 record { sender = sender s; rows = lines_at s r.spans 23; date = d; amount = a })
-      (date_in s r.spans transfer32a 5)
-      (sum_in s r.spans transfer32a 14)
-      (date_in s r.spans transfer_baeref 8)
+      (λ d a b. mt103 record { sender = sender s; rows = lines_at s l 23; date = d; amount = a })
+      (date_in s l transfer32a 5)
+      (sum_in s l transfer32a 14)
+      (date_in s l transfer_baeref 8)
   unfolding read_transfer transfer_of three
   transfer_three d =
-      rw (rows_known, ← u, d, span_line s r.spans 23 transfer32a (omega arith), span_line s r.spans 23 transfer_baeref (omega arith))
-      (three_on mt103 (λ d a b. record { sender = sender s; rows = lines_at s r.spans 23; date = d; amount = a }) (date_in s r.spans transfer32a 5) (sum_in s r.spans transfer32a 14) (date_in s r.spans transfer_baeref 8))
+      rw (rows_known, ← u, d, span_line s l 23 transfer32a (omega arith), span_line s l 23 transfer_baeref (omega arith))
+      (three_on mt103 (λ d a b. record { sender = sender s; rows = lines_at s l 23; date = d; amount = a }) (date_in s l transfer32a 5) (sum_in s l transfer32a 14) (date_in s l transfer_baeref 8))
 
 pub ruleset transferring = (no_first, no_second, no_third, all_three, within_at, no_transfer_rows, transfer_open, sum_small)

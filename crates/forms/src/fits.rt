@@ -1,7 +1,6 @@
 // A line matched against a row of a form.
-ghost use Rattle.std.specs.Prelude.{◌≡◌, ◌+◌, ◌≤◌, length};
+ghost use Rattle.std.specs.Prelude.{◌≡◌, ◌+◌, ◌≤◌};
 ghost use Rattle.rules.specs.Forms.{text_line, fits_rest, fits_row};
-ghost use Rattle.laws.specs.Parts.{cut};
 ghost use Rattle.forms.specs.Table.{rest_of, row_of};
 
 use crate::table::{Rest, Row, head_fits};
@@ -17,7 +16,7 @@ fn text_line(s: &[u8]) -> bool
     is_run::<Text>(1, 35, s)
 }
 
-// Does it fit behind a row's head?
+// Does it fit behind a row's head? By an enum: a row of the table holds no pointer to a test.
 fn rest_fits(rest: Rest, s: &[u8]) -> bool
     ensures { result ≡ fits_rest (rest_of rest) s.now }
 {
@@ -31,21 +30,17 @@ fn rest_fits(rest: Rest, s: &[u8]) -> bool
     }
 }
 
-// Does the line from a up to e fit the row?
-pub fn row_fits(s: &[u8], a: usize, e: usize, row: Row) -> bool
-    requires a_le_e { a ≤ e }
-    requires e_in_bounds { e ≤ length s.now }
-    requires size_bound { row.start + row.size ≤ 186 }
-    ensures { result ≡ fits_row (row_of row) (cut s.now a e) }
+// Does the line fit the row?
+pub fn row_fits(line: &[u8], row: Row) -> bool
+    requires { row.start + row.size ≤ 186 }
+    ensures { result ≡ fits_row (row_of row) line.now }
 {
-    let start = row.start as u32;
     let size = row.size as usize;
-    let rest = row.rest;
-    if e - a < size {
+    if line.len() < size {
         return false;
     }
-    if head_fits(start, s, a, size as u32) {
-        return rest_fits(rest, &s[a + size..e]);
+    if head_fits(row.start as u32, &line[..size]) {
+        return rest_fits(row.rest, &line[size..]);
     }
     false
 }

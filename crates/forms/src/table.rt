@@ -183,14 +183,13 @@ fn sign_at(i: u32) -> u8
     ((word >> below) % 256) as u8
 }
 
-// Do the n bytes from a fit the n signs of the heads from b?
-pub fn head_fits(b: u32, s: &[u8], a: usize, n: u32) -> bool
-    requires in_heads { b + n ≤ 186 }
-    requires in_text { a + n ≤ length s.now }
-    ensures { result ≡ fits (cut heads b (b + n)) (cut s.now a (a + n)) }
+// Do the bytes fit as many signs of the heads from b on? The signs are made of numbers, so that no slice of them is matched.
+pub fn head_fits(b: u32, part: &[u8]) -> bool
+    requires { b + length part.now ≤ 186 }
+    ensures { result ≡ fits (cut heads b (b + length part.now)) part.now }
 {
-    for k in 0..n {
-        if !fits_sign(sign_at(b + k), s[a + k as usize]) {
+    for k in 0..part.len() as u32 {
+        if !fits_sign(sign_at(b + k), part[k as usize]) {
             return false;
         }
     }

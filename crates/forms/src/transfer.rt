@@ -1,5 +1,5 @@
 // An MT103.
-ghost use Rattle.std.specs.Prelude.{◌≡◌, ◌≤◌, length, MatchOption};
+ghost use Rattle.std.specs.Prelude.{◌≡◌, MatchOption};
 ghost use Rattle.std.proofs.Math.Option.{none};
 ghost use Rattle.rules.specs.Messages.{read_transfer};
 ghost use Rattle.forms.specs.Transfers.{TransferIn};
@@ -7,7 +7,7 @@ ghost use Rattle.forms.specs.Transfers.{TransferIn};
 use crate::fields::{amount_in, date_in};
 use crate::names::{TRANSFER_32A, TRANSFER_BAEREF, TRANSFER_ROWS};
 use crate::rows::{Span, read_rows};
-use lines::closes_at;
+use lines::Message;
 
 // A transfer as it is read.
 #[derive(Clone, Copy)]
@@ -21,27 +21,26 @@ pub struct Transfer {
 }
 
 // The transfer that stands behind the first line.
-pub fn read_transfer(s: &[u8]) -> Option<Transfer>
-    requires headed { 23 ≤ length s.now }
-    requires short { length s.now ≤ 4096 }
-    ensures { MatchOption result (read_transfer s.now ≡ none) (λ t. TransferIn s.now t) }
+pub fn read_transfer(message: Message) -> Option<Transfer>
+    ensures { MatchOption result (read_transfer message.entry.text.now ≡ none) (λ t. TransferIn message.entry.text.now t) }
 {
-    let rows = read_rows(s, 23, 0, TRANSFER_ROWS)?;
-    if !closes_at(s, rows.next) {
+    let mut reader = message.body();
+    let spans = read_rows(&mut reader, 0, TRANSFER_ROWS)?;
+    if !reader.closes() {
         return None;
     }
-    let Some(date) = date_in(s, rows.spans[TRANSFER_32A], 5) else {
+    let Some(date) = date_in(spans[TRANSFER_32A].of(message.text), 5) else {
         return None;
     };
-    let Some(amount) = amount_in(s, rows.spans[TRANSFER_32A], 14) else {
+    let Some(amount) = amount_in(spans[TRANSFER_32A].of(message.text), 14) else {
         return None;
     };
-    let Some(_) = date_in(s, rows.spans[TRANSFER_BAEREF], 8) else {
+    let Some(_) = date_in(spans[TRANSFER_BAEREF].of(message.text), 8) else {
         return None;
     };
     Some(Transfer {
         date: date as u64,
         amount,
-        spans: rows.spans,
+        spans,
     })
 }

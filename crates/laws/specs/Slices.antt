@@ -31,9 +31,6 @@ equal_is (c ∷ s) (d ∷ t) = rw (equal_is s t) (go (eqb c d) (equal s t))
     go true r = refl
     go false r = refl
 
-pub parts_equal : (s t : List ℕ) (a e b f : ℕ) (r : Bool) → r ≡ pointwise eqb (take (e - a) (drop a s)) (take (f - b) (drop b t)) → a ≤ e → b ≤ f → r ≡ equal (cut s a e) (cut t b f)
-parts_equal s t a e b f r h k l = h ∙ equal_is (take (e - a) (drop a s)) (take (f - b) (drop b t)) ∙ (rw (part_cut s a e k, part_cut t b f l))
-
 -- `<`
 first_before : (c d : ℕ) (o : Option Ordering) → is_some_and is_lt (partial_ordering_then (Some (nat_cmp c d)) o) ≡ cond (eqb c d) (is_some_and is_lt o) (not (leb d c))
 first_before c d o =
@@ -51,10 +48,6 @@ before_is [] [] = refl
 before_is [] (d ∷ t) = refl
 before_is (c ∷ s) [] = refl
 before_is (c ∷ s) (d ∷ t) = first_before c d (slice_partial_cmp (λ x y. Some (nat_cmp x y)) s t) ∙ (rw (before_is s t) refl)
-
-pub parts_before : (s t : List ℕ) (a e b f : ℕ) (r : Bool) → r ≡ partial_lt (slice_partial_cmp (λ x y. Some (nat_cmp x y))) (take (e - a) (drop a s)) (take (f - b) (drop b t)) → a ≤ e → b ≤ f
-    → r ≡ text_before (cut s a e) (cut t b f)
-parts_before s t a e b f r h k l = h ∙ before_is (take (e - a) (drop a s)) (take (f - b) (drop b t)) ∙ (rw (part_cut s a e k, part_cut t b f l))
 
 -- bytes against a pattern, pair by pair
 pub pairs_fit : (p s : List ℕ) → length p ≤ length s → list_all (λ (q : ℕ × ℕ). fits_sign q.0 q.1) (zip p s) ≡ fits p (take (length p) s)

@@ -2,10 +2,9 @@
 use Rattle.std.specs.Prelude.{◌≡◌, List, ℕ, ◌+◌, ◌≤◌, length, Option, Some, None}
 use Rattle.std.proofs.Common.{subst}
 use Rattle.std.proofs.Math.Option.{none, some}
-use Rattle.std.specs.Borrow.{Bor}
 use Rattle.rules.specs.Lines.{TakenLine, take_line}
 use Rattle.laws.specs.Parts.{cut, from}
-use Rattle.lines.specs.declared.reader.Reader.{Reader}
+use Rattle.lines.specs.declared.reader.LineReader.{LineReader}
 
 -- the line from `at` to `e`, and what stands behind its CR LF
 abbrev pub taken : List ℕ → ℕ → ℕ → TakenLine
@@ -37,16 +36,13 @@ module _ (s : List ℕ) (at : ℕ) (r : Option ℕ) (h : LineAt s at r) where
   pub no_line_told : r ≡ None → NoLine s at
   no_line_told k = subst (Told s at) k h.told
 
--- the line reader over a text, at a place
-abbrev pub over : Bor (List ℕ) → ℕ → Reader
-over text at = record { text = text; at = at }
-
 -- where a reader stands behind the line that it handed out
 abbrev behind : ℕ → Option ℕ → ℕ
 behind at (Some e) = e + 2
 behind at None = at
 
 -- a reader hands out the line at its place, and is behind it then, over the same text
-pub record HandsOut (old new : Reader) (r : Option ℕ) : Type 0 where
+pub record HandsOut (old new : LineReader) (r : Option ℕ) : Type 0 where
   pub line : LineAt old.text.now old.at r
-  pub moved : new ≡ over old.text (behind old.at r)
+  pub text : new.text ≡ old.text
+  pub at : new.at ≡ behind old.at r

@@ -4,11 +4,13 @@ use Rattle.std.proofs.Math.Path.{sym}
 use Rattle.std.proofs.Common.{ap, ◌∙◌, append_assoc, append-nil, inl, inr, add-zero, eq-or-lt_of_le, arith, length-append, length-take, length-drop, drop_at, drop-drop}
 use Rattle.std.proofs.lemmas.List.{get_or-take, get_or-drop}
 use Rattle.std.proofs.Math.Option.{Option, none, some, map}
-use borrow.Author.Tests.{le-leb, lt-leb, eq-eqb, ne_eqb}
+use borrow.Author.Tests.{le-leb, lt-leb, leb-true, eq-eqb, ne_eqb}
 use Rattle.rules.specs.Text.{ascii, equal, fits}
 use Rattle.rules.specs.Lines.{Line, TakenLine, lead, take_line, lines, before, last_is_closing, in_lines, is_closing_line, has_first_line, framed}
 use Rattle.laws.specs.Parts.{cut, from, cut_done, cut_snoc, from_step, from_done, from_length}
-use Rattle.laws.specs.Equal.{equal_true, rest_differs, rest_alike}
+use Rattle.laws.specs.Reading.{fits_length}
+use Rattle.laws.specs.Slices.{rest_whole}
+use Rattle.laws.specs.Equal.{equal_true, rest_differs}
 use Rattle.laws.specs.Tests.{not_holds, never, and_left, and_right, none_some}
 use Rattle.rule_laws.specs.Lines.{FirstLine, first_line_lem, line_taken, Lined, Lined.end, Lined.next, lines_cases, lines_before}
 use Rattle.lines.specs.Answers.{taken, LineAt, LineEnd, NoLine}
@@ -191,15 +193,15 @@ module _ (s : List ℕ) (at : ℕ) (x : Bool) (inv : in_lines (lines (from s at)
     pub closes_on : b ≡ false → (e : ℕ) → LineEnd s at e → in_lines (lines (from s (e + 2))) ≡ x
     closes_on h e l = closes_behind (cut s at e) (from s (e + 2)) (rw (← (first_line_lem (from s at) _ l.same).text) (sym u ∙ h)) ∙ sym (rw (lines_taken (from s at) _ l.same)) ∙ inv
 
--- all that is left, as a part of three bytes
-module _ (s : List ℕ) (at : ℕ) where
-  pub closing_long : (length s - at ≡ 3 → ⊥) → false ≡ is_closing_line (from s at)
-  unfolding is_closing_line
-  closing_long = rest_differs s (ascii "-\r\n") at
+-- where fewer or more than three bytes are left they are no closing line
+pub closing_long : (s : List ℕ) (at : ℕ) → (length s - at ≡ 3 → ⊥) → false ≡ is_closing_line (from s at)
+unfolding is_closing_line
+closing_long s at = rest_differs s (ascii "-\r\n") at
 
-  pub closing_part : at ≤ length s → length s - at ≡ 3 → (r : Bool) → r ≡ equal (cut s at (at + 3)) (cut (ascii "-\r\n") 0 3) → r ≡ is_closing_line (from s at)
-  unfolding is_closing_line
-  closing_part = rest_alike s (ascii "-\r\n") at
+-- what is left, as a slice
+pub closing_rest : (s : List ℕ) (at : ℕ) {b : Bool} → b ≡ is_closing_line (take (length s - at) (drop at s)) → b ≡ is_closing_line (from s at)
+unfolding from
+closing_rest s at e = rw (rest_whole s at) at e
 
 -- ---- the frame
 
@@ -244,8 +246,23 @@ module _ (s : List ℕ) where
     unfolding framed
     framed_not k = rw (le-leb _ _ h, ← u, k)
 
-    pub framed_opens : b ≡ true → (r : Bool) → r ≡ fits (ascii "nnn,aaaaaacc,aaaaaacc\r\n") (cut s 0 23) → r ≡ framed s
-    unfolding framed has_first_line cut
+    pub framed_opens : b ≡ true → (r : Bool) → r ≡ fits (ascii "nnn,aaaaaacc,aaaaaacc\r\n") (take 23 s) → r ≡ framed s
+    unfolding framed has_first_line
     framed_opens k r e = rw (le-leb _ _ h, ← u, k) e
 
-pub ruleset framing = (closing_long, closing_part, framed_long, framed_open, framed_not, framed_opens)
+  -- what a message in its frame has
+  module _ (b : Bool) (u : b ≡ framed s) (h : b ≡ true) where
+    is_framed : framed s ≡ true
+    is_framed = sym u ∙ h
+
+    pub framed_high : length s ≤ 4096
+    unfolding framed
+    framed_high = leb-true (length s) 4096 (and_left _ _ (and_left _ _ is_framed))
+
+    pub framed_low : 23 ≤ length s
+    unfolding framed has_first_line
+    framed_low =
+        let f : length (ascii "nnn,aaaaaacc,aaaaaacc\r\n") ≡ length (take 23 s) = fits_length (ascii "nnn,aaaaaacc,aaaaaacc\r\n") (take 23 s) (and_right (leb (length s) 4096 && in_lines (lines s)) _ is_framed) in
+        omega (arith, length-take 23 s)
+
+pub ruleset framing = (closing_long, closing_rest, framed_long, framed_open, framed_not, framed_opens, framed_high, framed_low)

@@ -1,11 +1,11 @@
 -- A text seen line by line: what holds before the first line, between two lines and behind the last.
 use Rattle.std.specs.Prelude.{◌≡◌, refl, Bool, true, false, List, ℕ, ◌+◌, ◌≤◌, ◌<◌, length, Option, Some, None}
-use Rattle.std.proofs.Common.{sym, ◌∙◌, arith, subst}
+use Rattle.std.proofs.Common.{sym, ap, ◌∙◌, arith, subst, Bor}
 use Rattle.rules.specs.Lines.{lines, in_lines, is_closing_line}
-use Rattle.std.specs.Option.{is_some}
 use Rattle.laws.specs.Parts.{from, from_all}
-use Rattle.lines.specs.Answers.{LineAt, LineEnd, NoLine, HandsOut, line_told, no_line_told, over}
-use Rattle.lines.specs.declared.reader.Reader.{Reader}
+use Rattle.lines.specs.Answers.{LineAt, LineEnd, NoLine, HandsOut, line_told, no_line_told}
+use Rattle.lines.specs.declared.reader.LineReader.{LineReader}
+use Rattle.std.specs.Option.{is_some}
 use Rattle.lines.specs.Laws.{closes_never, closes_now, closes_bad, closes_on, closing_later, closing_long}
 
 -- all before `at` is in lines, the last of them from `last` on: what is left closes as the whole does, or nothing is left, and the last one closes it or not
@@ -43,12 +43,12 @@ module _ (s : List ℕ) (last at : ℕ) (t : Seeing s last at) (h : at < length 
       last_seen false u k = sym u ∙ closes_never s (e + 2) _ (closes_on s at _ (t.going h) false u refl e l) k
 
 -- and the reader stands there, over the whole text
-pub record Sees (s : List ℕ) (last : ℕ) (r : Reader) : Type 0 where
+pub record Sees (s : List ℕ) (last : ℕ) (r : LineReader) : Type 0 where
   pub seeing : Seeing s last r.at
   pub text : r.text.now ≡ s
 
 -- as a reader over the text hands it out
-module _ (s : List ℕ) (last : ℕ) (old new : Reader) (t : Seeing s last old.at) (o : old.text.now ≡ s) (h : old.at < length s) where
+module _ (s : List ℕ) (last : ℕ) (old new : LineReader) (t : Seeing s last old.at) (o : old.text.now ≡ s) (h : old.at < length s) where
   line_at : (r : Option ℕ) → HandsOut old new r → LineAt s old.at r
   line_at r w = subst (λ (x : List ℕ). LineAt x old.at r) o w.line
 
@@ -58,6 +58,7 @@ module _ (s : List ℕ) (last : ℕ) (old new : Reader) (t : Seeing s last old.a
 
   pub line_handed : (r : Option ℕ) → HandsOut old new r → is_some r ≡ true → Sees s old.at new
   line_handed None w k = cc
-  line_handed (Some e) w k =
-      let q : new ≡ over old.text (e + 2) = w.moved in
-      subst (λ (x : Reader). Sees s old.at x) (sym q) record { seeing = line_seen s last old.at t h e (line_told s old.at (Some e) (line_at (Some e) w) e refl); text = o }
+  line_handed (Some e) w k = record {
+    seeing = rw w.at (line_seen s last old.at t h e (line_told s old.at (Some e) (line_at (Some e) w) e refl));
+    text = ap (λ (b : Bor (List ℕ)). b.now) w.text ∙ o;
+  }

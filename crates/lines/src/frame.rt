@@ -3,22 +3,21 @@ ghost use Rattle.std.specs.Prelude.{◌≡◌, ◌-◌, ◌≤◌, length};
 ghost use Rattle.rules.specs.Lines.{lines, in_lines, is_closing_line, framed};
 ghost use Rattle.laws.specs.Parts.{from};
 
-use crate::reader::Reader;
-use text::{equal_parts, fits_pattern};
+use crate::reader::LineReader;
 
-// Is all that is left from `at` on the closing line?
-pub fn closes_at(s: &[u8], at: usize) -> bool
-    requires { at ≤ length s.now }
-    ensures { result ≡ is_closing_line (from s.now at) }
+// Is a text the closing line?
+pub fn is_closing_line(rest: &[u8]) -> bool
+    ensures { result ≡ is_closing_line rest.now }
 {
-    s.len() - at == 3 && equal_parts(s, at, b"-\r\n", 0, 3)
+    text::equal(rest, b"-\r\n")
 }
 
 // Is all of it lines, the last of them the closing line?
 fn in_lines(s: &[u8]) -> bool
+    requires { length s.now ≤ 4096 }
     ensures { result ≡ in_lines (lines s.now) }
 {
-    let mut reader = Reader::over(s, 0);
+    let mut reader = LineReader::from(s, 0);
     let mut last = 0;
     while reader.at < s.len() {
         last = reader.at;
@@ -26,7 +25,7 @@ fn in_lines(s: &[u8]) -> bool
             return false;
         }
     }
-    closes_at(s, last)
+    is_closing_line(&s[last..])
 }
 
 // Do the last bytes make the closing line?
@@ -36,7 +35,7 @@ fn ends_closed(s: &[u8]) -> bool
     if s.len() < 3 {
         return false;
     }
-    closes_at(s, s.len() - 3)
+    is_closing_line(&s[s.len() - 3..])
 }
 
 // At most 4,096 bytes, in lines, with the closing line and a first line `type,sender,receiver`?
@@ -50,5 +49,5 @@ pub fn is_framed(s: &[u8]) -> bool
     if !ends_closed(s) {
         return false;
     }
-    in_lines(s) && fits_pattern(b"nnn,aaaaaacc,aaaaaacc\r\n", s, 0)
+    in_lines(s) && text::begins_as(b"nnn,aaaaaacc,aaaaaacc\r\n", s)
 }

@@ -1,19 +1,16 @@
 -- The parts of an MT199, each with the next 14 of the listed details.
 use Rattle.std.specs.Prelude.{◌≡◌, List, ◌++◌, ℕ, suc, ◌+◌, ◌-◌, ◌/◌, ◌≤◌, ◌<◌, length, take, drop}
 use Rattle.std.specs.List.{count_by}
-use Rattle.std.proofs.Math.Path.{refl}
 use Rattle.std.proofs.Common.{ap, ◌∙◌, arith, eq-eqb, ne_eqb}
-use Rattle.std.proofs.Math.Nat.{sub-zero}
 use Rattle.rules.specs.Text.{ascii}
 use Rattle.rules.specs.Engine.{Position}
 use Rattle.rules.specs.Verdict.{is_listed199}
 use Rattle.rules.specs.Written.{first_line, field, reference, linked, position79, closed79, mt199, mt199s, parts_of}
-use Rattle.laws.specs.Writing.{Wrote, Left, left_turn, left_none, left_length, furthest}
-use Rattle.laws.specs.Pieces.{wrote_4, left_all}
+use Rattle.put.specs.declared.parts.Writer.{Writer}
+use Rattle.put.specs.Writes.{Writes, Unwritten, unwritten_turn, unwritten_none, writes_4}
 use Rattle.verdict.specs.declared.detail.Judged.{Judged}
 use Rattle.detail_lines.specs.Chosen.{tells, chosen_from}
 use Rattle.detail_lines.specs.Listed.{RowsPut}
-use Rattle.detail_lines.specs.declared.listed.Place.{Place}
 use Rattle.outgoing_number.specs.declared.Outgoing.{Outgoing}
 use Rattle.outgoing_number.specs.declared.Reference.{Reference}
 use Rattle.outgoing_number.specs.Issue.{Steps}
@@ -39,67 +36,61 @@ parts_more listed n h = record { value = rw (ne_eqb listed 0 n); few = omega ari
 
 -- ---- one part, with the next 14 of the listed details
 
--- it was written by the reference r, and t' is how far it came
-pub record PartPut (r : Reference) (part parts : ℕ) (p : Position) (s : List ℕ) (kept : List Judged) (t : Place) (out : List ℕ) (t' : Place) (out' : List ℕ) : Type 0 where
-  pub wrote : Wrote (mt199 r.day (r.number - part) p part parts (take 14 (chosen_from is_listed199 s kept t.at))) t.out out t'.out out'
-  pub within : t'.at ≤ length kept
-  pub skipped : chosen_from is_listed199 s kept t'.at ≡ drop 14 (chosen_from is_listed199 s kept t.at)
+-- it was written by the reference r, from detail i on, and the walk goes on at detail i'
+pub record PartPut (r : Reference) (part parts : ℕ) (p : Position) (s : List ℕ) (kept : List Judged) (i : ℕ) (old : Writer) (i' : ℕ) (new : Writer) : Type 0 where
+  pub writes : Writes (mt199 r.day (r.number - part) p part parts (take 14 (chosen_from is_listed199 s kept i))) old new
+  pub within : i' ≤ length kept
+  pub skipped : chosen_from is_listed199 s kept i' ≡ drop 14 (chosen_from is_listed199 s kept i)
 
-module _ (r : Reference) (part parts : ℕ) (p : Position) (s : List ℕ) (kept : List Judged) (t : Place) {a b e : ℕ} {c : Place} {out out₁ out₂ out₃ out₄ : List ℕ} (h : 1 ≤ part) (k : part ≤ r.number) where
-  pub part_wrote : Wrote (first_line (ascii "199") p.key.bank ++ field (ascii ":20:") (reference r.day r.number) ++ linked r.day (r.number - (part - 1) - 1) part) t.out out a out₁ → Wrote (position79 p.key.date p.transferred p.detailed) a out₁ b out₂
-      → RowsPut s kept t.at 14 b out₂ c out₃ → Wrote (closed79 part parts) c.out out₃ e out₄ → PartPut r part parts p s kept t out (record { out = e; at = c.at }) out₄
+module _ (r : Reference) (part parts : ℕ) (p : Position) (s : List ℕ) (kept : List Judged) (i : ℕ) {i' : ℕ} {w₀ w₁ w₂ w₃ w₄ : Writer} (h : 1 ≤ part) (k : part ≤ r.number) where
+  pub part_wrote : Writes (first_line (ascii "199") p.key.bank ++ field (ascii ":20:") (reference r.day r.number) ++ linked r.day (r.number - (part - 1) - 1) part) w₀ w₁ → Writes (position79 p.key.date p.transferred p.detailed) w₁ w₂
+      → RowsPut s kept i 14 w₂ i' w₃ → Writes (closed79 part parts) w₃ w₄ → PartPut r part parts p s kept i w₀ i' w₄
   unfolding mt199
   part_wrote v w x y =
-      let i : r.number - (part - 1) - 1 ≡ r.number - part = omega arith in
-      let j : r.number - part + part ≡ r.number = omega arith in
-      record { wrote = rw j (wrote_4 (rw i at v) w x.wrote y); within = x.within; skipped = x.skipped }
+      let e : r.number - (part - 1) - 1 ≡ r.number - part = omega arith in
+      let f : r.number - part + part ≡ r.number = omega arith in
+      record { writes = rw f (writes_4 (rw e at v) w x.writes y); within = x.within; skipped = x.skipped }
 
 -- ---- all of them
 
 -- they were written, the outgoing number going from o to o'
-pub record PartsPut (o o' : Outgoing) (parts : ℕ) (p : Position) (s : List ℕ) (kept : List Judged) (at : ℕ) (out : List ℕ) (r : ℕ) (out' : List ℕ) : Type 0 where
-  pub wrote : Wrote (mt199s parts o.day o.count p 1 parts (chosen_from is_listed199 s kept 0)) at out r out'
+pub record PartsPut (o o' : Outgoing) (parts : ℕ) (p : Position) (s : List ℕ) (kept : List Judged) (old new : Writer) : Type 0 where
+  pub writes : Writes (mt199s parts o.day o.count p 1 parts (chosen_from is_listed199 s kept 0)) old new
   pub day : o'.day ≡ o.day
   pub count : o'.count ≡ o.count + parts
 
--- k are written, the outgoing number being o now, and they came to t
-pub record PartsLeft (was : Outgoing) (parts : ℕ) (p : Position) (s : List ℕ) (kept : List Judged) (at : ℕ) (start : List ℕ) (k : ℕ) (o : Outgoing) (t : Place) (out : List ℕ) : Type 0 where
+-- k are written, the outgoing number being o now, and the walk goes on at detail i
+pub record PartsLeft (was : Outgoing) (parts : ℕ) (p : Position) (s : List ℕ) (kept : List Judged) (start : Writer) (k : ℕ) (o : Outgoing) (i : ℕ) (w : Writer) : Type 0 where
   pub day : o.day ≡ was.day
   pub count : o.count ≡ was.count + k
-  pub within : t.at ≤ length kept
-  pub unwritten : Left (mt199s (parts - k) was.day was.count p (k + 1) parts (chosen_from is_listed199 s kept t.at)) t.out out (mt199s parts was.day was.count p 1 parts (chosen_from is_listed199 s kept 0)) at start
+  pub within : i ≤ length kept
+  pub unwritten : Unwritten (mt199s (parts - k) was.day was.count p (k + 1) parts (chosen_from is_listed199 s kept i)) w (mt199s parts was.day was.count p 1 parts (chosen_from is_listed199 s kept 0)) start
 
-pub parts_start : (o : Outgoing) (parts : ℕ) (p : Position) (s : List ℕ) (kept : List Judged) (at : ℕ) (start : List ℕ) → length start ≤ furthest → PartsLeft o parts p s kept at start 0 o (record { out = at; at = 0 }) start
-parts_start o parts p s kept at start h = record { day = refl; count = omega arith; within = omega arith; unwritten = rw (sub-zero parts) (left_all _ h) }
-
-module _ {was : Outgoing} {parts : ℕ} {p : Position} {s : List ℕ} {kept : List Judged} {at : ℕ} {start : List ℕ} {k : ℕ} {o : Outgoing} {t : Place} {out : List ℕ} (l : PartsLeft was parts p s kept at start k o t out) where
-  pub parts_long : length out ≡ length start
-  parts_long = left_length l.unwritten
-
-  module _ {r : Reference} {o' : Outgoing} (i : Steps o r o') where
+module _ {was : Outgoing} {parts : ℕ} {p : Position} {s : List ℕ} {kept : List Judged} {start : Writer} {k : ℕ} {o : Outgoing} {i : ℕ} {w : Writer} (l : PartsLeft was parts p s kept start k o i w) where
+  module _ {r : Reference} {o' : Outgoing} (x : Steps o r o') where
     pub number_is : r.number ≡ was.count + (k + 1)
-    number_is = ap (λ (x : Reference). x.number) i.reference ∙ omega (arith, l.count)
+    number_is = ap (λ (y : Reference). y.number) x.reference ∙ omega (arith, l.count)
 
     pub part_numbered : k + 1 ≤ r.number
     part_numbered = omega (arith, number_is)
 
     day_is : r.day ≡ was.day
-    day_is = ap (λ (x : Reference). x.day) i.reference ∙ l.day
+    day_is = ap (λ (y : Reference). y.day) x.reference ∙ l.day
 
-    pub parts_turn : k < parts → {t' : Place} {out' : List ℕ} → PartPut r (k + 1) parts p s kept t out t' out' → PartsLeft was parts p s kept at start (k + 1) o' t' out'
+    pub parts_turn : k < parts → {i' : ℕ} {w' : Writer} → PartPut r (k + 1) parts p s kept i w i' w' → PartsLeft was parts p s kept start (k + 1) o' i' w'
     unfolding mt199s
-    parts_turn h w =
+    parts_turn h u =
         let n : parts - k ≡ suc (parts - (k + 1)) = omega arith in
         let m : r.number - (k + 1) ≡ was.count = omega (arith, number_is) in
         record {
-          day = ap (λ (x : Outgoing). x.day) i.kept ∙ l.day;
-          count = ap (λ (x : Outgoing). x.count) i.kept ∙ omega (arith, l.count);
-          within = w.within;
-          unwritten = rw w.skipped (left_turn (rw n at l.unwritten) (rw (m, day_is) at w.wrote));
+          day = ap (λ (y : Outgoing). y.day) x.kept ∙ l.day;
+          count = ap (λ (y : Outgoing). y.count) x.kept ∙ omega (arith, l.count);
+          within = u.within;
+          unwritten = rw u.skipped (unwritten_turn (rw n at l.unwritten) (rw (m, day_is) at u.writes));
         }
 
-  pub parts_end : parts ≤ k → k ≤ parts → PartsPut was o parts p s kept at start t.out out
+  pub parts_end : parts ≤ k → k ≤ parts → PartsPut was o parts p s kept start w
   unfolding mt199s
-  parts_end h m = let n : parts - k ≡ 0 = omega arith in record { wrote = left_none (rw n at l.unwritten); day = l.day; count = omega (arith, l.count) }
+  parts_end h m = let n : parts - k ≡ 0 = omega arith in record { writes = unwritten_none (rw n at l.unwritten); day = l.day; count = omega (arith, l.count) }
 
-pub ruleset parting = (left_length, parts_one, parts_more, part_wrote)
+pub ruleset parting = (parts_one, parts_more, part_wrote)

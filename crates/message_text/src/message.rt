@@ -1,10 +1,9 @@
 // The text of a message that is booked.
-ghost use Rattle.std.specs.Prelude.{◌≡◌, true, ◌*◌, ◌^◌, ◌≤◌, ◌<◌, length};
-ghost use Rattle.rules.specs.Text.{is_some};
+ghost use Rattle.std.specs.Prelude.{◌≡◌, ◌*◌, ◌^◌, ◌≤◌, ◌<◌};
 ghost use Rattle.rules.specs.Calls.{position_after};
-ghost use Rattle.rules.specs.Area.{decode, holds};
+ghost use Rattle.rules.specs.Area.{decode};
 ghost use Rattle.details.specs.Message.{message_in};
-ghost use Rattle.conditions.specs.Books.{Books};
+ghost use Rattle.conditions.specs.Books.{Books, is_transfer};
 ghost use Rattle.verdict.specs.Details.{JudgedIn};
 ghost use Rattle.position.specs.Values.{position_value};
 ghost use Rattle.engine.specs.Totals.{begun};
@@ -13,12 +12,13 @@ ghost use Rattle.message_text.specs.Message.{AfterOf, PartsFor, TextPut, verdict
 use crate::postings::put_postings;
 use crate::returns::put_returns;
 use crate::verdicts::{count_listed, parts_of, put_parts};
-use conditions::Booking;
-use engine::{header_of, register_text};
-use outgoing_number::{Numbered, Outgoing};
+use conditions::{Booking, Kind};
+use engine::Engine;
+use outgoing_number::Outgoing;
 use position::Position;
+use put::Writer;
 use state_conditions::{detailed_by, transferred_by};
-use verdict::Judged;
+use verdict::Details;
 use written::Book;
 
 // The position as the message leaves it, where it was open or missing before.
@@ -39,43 +39,39 @@ pub fn position_after(b: Booking, before: Option<Position>) -> Position
 
 // Does an MT199 follow? It follows an MT101, and an MT103 whose position has details.
 fn has_verdict(b: Booking, p: Position) -> bool
-    ensures { result ≡ verdict_follows b.transfer p.detailed }
+    ensures { result ≡ verdict_follows (is_transfer b.kind) p.detailed }
 {
-    if b.transfer {
-        return 1 <= p.detailed;
+    match b.kind {
+        Kind::Transfer => 1 <= p.detailed,
+        Kind::Order(_) => true,
     }
-    true
 }
 
 // How many parts of an MT199 follow.
-fn parts_for(b: Booking, p: Position, kept: &[Judged]) -> u32
-    requires { length kept.now ≤ 16 }
-    ensures { PartsFor b p kept.now result }
+fn parts_for(b: Booking, p: Position, details: Details) -> u32
+    ensures { PartsFor b p details.entry.kept.now result }
 {
     if has_verdict(b, p) {
-        return parts_of(count_listed(kept));
+        return parts_of(count_listed(details));
     }
     0
 }
 
-// The whole text of a message; p is its position as it leaves it.
+// The whole text of a message; p is its position as it leaves it. Answers the outgoing count that is then kept.
 pub fn put_message_text(
-    out: &mut [u8],
-    at: usize,
-    s: &[u8],
-    kept: &[Judged],
-    area: &[u8],
+    w: &mut Writer,
+    details: Details,
+    engine: Engine,
     b: Booking,
     p: Position,
-) -> Numbered
-    requires area_value { is_some (holds area.now) ≡ true }
-    requires books { Books s.now (message_in s.now) b }
-    requires judged_in { JudgedIn (decode area.now).register s.now kept.now }
-    requires p_value { position_value p ≡ position_after (decode area.now) (message_in s.now) }
-    ensures { TextPut (decode area.now) (message_in s.now) at out.old result out.new }
+) -> u32
+    requires books { Books details.message.now (message_in details.message.now) b }
+    requires judged_in { JudgedIn (decode engine.area.now).register details.message.now details.kept.now }
+    requires leaves { position_value p ≡ position_after (decode engine.area.now) (message_in details.message.now) }
+    ensures { TextPut (decode engine.entry.area.now) (message_in details.entry.message.now) w.old result w.new }
 {
-    let h = header_of(area);
-    let text = register_text(area);
+    let h = engine.header();
+    let register = engine.register();
     let book = Book {
         day: h.day,
         key: p.key,
@@ -84,12 +80,9 @@ pub fn put_message_text(
         day: h.day,
         count: h.count,
     };
-    let parts = parts_for(b, p, kept);
-    let a = put_postings(out, at, book, text, s, kept, b);
-    let c = put_parts(out, a, &mut o, parts, p, s, kept);
-    let d = put_returns(out, c, &mut o, book, text, s, kept);
-    Numbered {
-        at: d,
-        count: o.count,
-    }
+    let parts = parts_for(b, p, details);
+    put_postings(w, book, register, details, b);
+    put_parts(w, &mut o, parts, p, details);
+    put_returns(w, &mut o, book, register, details);
+    o.count
 }

@@ -6,7 +6,7 @@ use Rattle.std.proofs.Math.Option.{Option, none, some}
 use Rattle.std.proofs.Math.Seq.{get_or-drop}
 use Rattle.std.proofs.Math.Nat.{pow-le-pow_right}
 use borrow.Author.Tests.{leb-true, le-leb, lt-leb, eq-eqb, ne_eqb}
-use Rattle.rules.specs.Text.{is_digit, every}
+use Rattle.rules.specs.Text.{digits, is_digit, every}
 use Rattle.rules.specs.Amounts.{decimals, levs, amount}
 use Rattle.laws.specs.Parts.{cut, cut_all, from, from_cut}
 use Rattle.laws.specs.Front.{front_passed_all}
@@ -14,7 +14,7 @@ use Rattle.laws.specs.Slices.{rest_whole}
 use Rattle.laws.specs.Tests.{holds_told, none_some}
 use Rattle.laws.specs.Reading.{digit_small, digit_low}
 use Rattle.laws.specs.Places.{Passed}
-use Rattle.laws.specs.Values.{Valued, TakesDigits, behind_digits}
+use Rattle.laws.specs.Values.{Valued, valued, TakesDigits, behind_digits}
 
 -- ---- behind the comma: none, one, two or more bytes, each a clause of the definition
 
@@ -80,10 +80,15 @@ module _ (s : List ℕ) (k : ℕ) (e : k ≡ prefix_len is_digit s) where
   p : Passed is_digit s 0 (length s) k
   p = front_passed_all is_digit s k e
 
-  pub levs_digits : every is_digit (cut s 0 (0 + k)) ≡ true
-  levs_digits = p.front
+  pub levs_digits : every is_digit (take k s) ≡ true
+  unfolding cut
+  levs_digits = rw zero-add at p.front
 
-  module _ (v : ℕ) (w : Valued s 0 k v) where
+  module _ (v : ℕ) (d : some v ≡ digits (take k s)) where
+    w : Valued s 0 k v
+    unfolding cut
+    w = valued s 0 k v (omega (arith, p.within)) (rw zero-add d)
+
     behind : levs 0 s ≡ levs v (drop k s)
     unfolding from
     behind =

@@ -28,7 +28,7 @@ fn read_levs(s: &[u8]) -> Option<u64>
     ensures { told result ≡ levs 0 s.now }
 {
     let k = text::leading::<Digit>(s);
-    let v = text::digits_value(s, 0, k as u32);
+    let v = text::value_of(&s[..k]);
     match &s[k..] {
         [b',', behind @ ..] => read_decimals(v, behind),
         _ => None,

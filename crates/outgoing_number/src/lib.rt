@@ -12,22 +12,13 @@ pub struct Outgoing {
     pub count: u32,
 }
 
-// What a message's reference is made of.
+// What a message's reference is made of. It is no `Outgoing`: that one counts from 0, and what it counts is behind it.
 #[derive(Clone, Copy)]
 pub struct Reference {
     // The day.
     pub day: u32,
     // The number on it, from 1.
     pub number: u32,
-}
-
-// How far numbered messages have come.
-#[derive(Clone, Copy)]
-pub struct Numbered {
-    // The place behind the last of them.
-    pub at: usize,
-    // The outgoing count that is then kept.
-    pub count: u32,
 }
 
 impl Outgoing {

@@ -12,7 +12,7 @@ pub struct Key {
     pub date: u32,
 }
 
-// A position.
+// A position. Its totals may be those of a sum that is over their limit (15), so that what bounds them is a clause where they are added.
 #[derive(Clone, Copy, PartialEq, Eq)]
 pub struct Position {
     // Its bank and date.

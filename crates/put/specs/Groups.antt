@@ -64,10 +64,6 @@ group_wrote k v q l h e f x y =
     rw (e, f, places_rest 10 48 8 8 v (lit< tt) (lit≤ tt)) (sym (ap (λ (j : ℕ). fixed j v) n ∙ places_split 10 48 (k - 8) 8 v)) in
     rw g at (wrote_then x y)
 
--- all digits of a number
-pub decimal_wrote : (k v : ℕ) {at r : ℕ} {out out' : List ℕ} → k ≡ width 19 v → Wrote (fixed k v) at out r out' → Wrote (decimal v) at out r out'
-decimal_wrote k v e w = rw e at w
-
 -- ---- an amount
 
 -- w digits of levs, q being what stands above the last eight digits of the stotinki, and d these eight

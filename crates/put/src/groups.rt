@@ -1,4 +1,4 @@
-// Eight digits of a number, and how many digits it has.
+// Eight digits of a number, and how many digits it has. That a number is below a hundred million is a clause: as a type it would be made and taken apart at each call.
 ghost use Rattle.std.specs.Prelude.{◌≡◌, ◌/◌, ◌<◌};
 ghost use Rattle.rules.specs.Text.{fixed, width};
 

@@ -1,62 +1,105 @@
-// Bytes: one, those of a slice, one again and again.
-ghost use Rattle.std.specs.Prelude.{◌≡◌, [], ◌∷◌};
-ghost use Rattle.rules.specs.Text.{ascii};
-ghost use Rattle.rules.specs.Area.{zeros};
-ghost use Rattle.laws.specs.Writing.{Wrote, ahead, filled};
+// A writer, and its bytes: one, those of a slice, one again and again.
+ghost use Rattle.std.specs.Prelude.{◌≡◌, length};
 
 // No output reaches to this place.
 const FURTHEST: usize = 9223372036854775808;
 
-// The place n bytes ahead, as far as places go.
-pub fn step(at: usize, n: usize) -> usize
-    ensures { result ≡ ahead at n }
+// The bytes of src, laid over as many. Short texts go byte by byte: with `copy_from_slice` for them too a turn takes 609,580 instructions in place of 555,848, of 615,000.
+fn lay(out: &mut [u8], src: &[u8])
+    requires { length out.old ≡ length src.now }
+    ensures { out.new ≡ src.now }
 {
-    at + n.min(FURTHEST.saturating_sub(at))
-}
-
-// One byte.
-pub fn put_byte(out: &mut [u8], at: usize, b: u8) -> usize
-    ensures { Wrote (b ∷ []) at out.old result out.new }
-{
-    if at < out.len() {
-        out[at] = b;
+    if src.len() > 65535 {
+        return out.copy_from_slice(src);
     }
-    step(at, 1)
-}
-
-// The end of a line: CR LF.
-pub fn put_end(out: &mut [u8], at: usize) -> usize
-    ensures { Wrote (ascii "\r\n") at out.old result out.new }
-{
-    let a = put_byte(out, at, b'\r');
-    put_byte(out, a, b'\n')
-}
-
-// The bytes of src.
-pub fn put_bytes(out: &mut [u8], at: usize, src: &[u8]) -> usize
-    ensures { Wrote src.now at out.old result out.new }
-{
-    if at < out.len() {
-        let n = src.len().min(out.len() - at);
-        out[at..at + n].copy_from_slice(&src[..n]);
+    for k in 0..src.len() as u32 {
+        out[k as usize] = src[k as usize];
     }
-    step(at, src.len())
 }
 
-// A byte n times.
-pub fn put_same(out: &mut [u8], at: usize, n: usize, b: u8) -> usize
-    ensures { Wrote (filled n b) at out.old result out.new }
-{
-    if at < out.len() {
-        let m = n.min(out.len() - at);
-        out[at..at + m].fill(b);
+// An output, and the place up to which it is written; over an empty output a writer only measures.
+#[derive(Drop)]
+pub struct Writer<'a> {
+    pub out: &'a mut [u8],
+    pub at: usize,
+}
+
+impl<'a> Writer<'a> {
+    ghost use Rattle.std.specs.Prelude.{[], ◌∷◌};
+    ghost use Rattle.rules.specs.Text.{ascii};
+    ghost use Rattle.rules.specs.Area.{zeros};
+    ghost use Rattle.laws.specs.Writing.{filled};
+    ghost use Rattle.put.specs.Writes.{Writes, Passes};
+
+    // At a place of an output.
+    pub fn at(out: &'a mut [u8], at: usize) -> Writer<'a>
+        ensures same { result.out.ghost_name ≡ out.entry.ghost_name }
+        ensures output { result.out.now ≡ out.old }
+        ensures place { result.at ≡ at }
+    {
+        Writer { out, at }
     }
-    step(at, n)
-}
 
-// Some zeros.
-pub fn put_zeros(out: &mut [u8], at: usize, n: usize) -> usize
-    ensures { Wrote (zeros n) at out.old result out.new }
-{
-    put_same(out, at, n, 0)
+    // At the front of an output.
+    pub fn new(out: &'a mut [u8]) -> Writer<'a>
+        ensures same { result.out.ghost_name ≡ out.entry.ghost_name }
+        ensures output { result.out.now ≡ out.old }
+        ensures place { result.at ≡ 0 }
+    {
+        Writer { out, at: 0 }
+    }
+
+    // n bytes are passed over.
+    pub(crate) fn step(&mut self, n: usize)
+        ensures { Passes n self.old self.new }
+    {
+        self.at += n.min(FURTHEST.saturating_sub(self.at));
+    }
+
+    // One byte.
+    pub fn put_byte(&mut self, b: u8)
+        ensures { Writes (b ∷ []) self.old self.new }
+    {
+        if self.at < self.out.len() {
+            self.out[self.at] = b;
+        }
+        self.step(1);
+    }
+
+    // The end of a line: CR LF.
+    pub fn put_end(&mut self)
+        ensures { Writes (ascii "\r\n") self.old self.new }
+    {
+        self.put_byte(b'\r');
+        self.put_byte(b'\n');
+    }
+
+    // The bytes of src.
+    pub fn put_bytes(&mut self, src: &[u8])
+        ensures { Writes src.now self.old self.new }
+    {
+        if self.at < self.out.len() {
+            let n = src.len().min(self.out.len() - self.at);
+            lay(&mut self.out[self.at..self.at + n], &src[..n]);
+        }
+        self.step(src.len());
+    }
+
+    // A byte n times.
+    pub(crate) fn put_same(&mut self, n: usize, b: u8)
+        ensures { Writes (filled n b) self.old self.new }
+    {
+        if self.at < self.out.len() {
+            let m = n.min(self.out.len() - self.at);
+            self.out[self.at..self.at + m].fill(b);
+        }
+        self.step(n);
+    }
+
+    // Some zeros.
+    pub fn put_zeros(&mut self, n: usize)
+        ensures { Writes (zeros n) self.old self.new }
+    {
+        self.put_same(n, 0);
+    }
 }

@@ -1,10 +1,9 @@
 // References: slashes where condition 5 lets none stand.
 #![tactic(auto)]
 
-ghost use Rattle.std.specs.Prelude.{◌≡◌, ◌&&◌, ◌+◌, ◌-◌, ◌≤◌, eqb, length};
+ghost use Rattle.std.specs.Prelude.{◌≡◌, ◌&&◌, ◌≤◌, eqb, length};
 ghost use Rattle.rules.specs.Engine.{slashed};
-ghost use Rattle.laws.specs.Parts.{cut};
-ghost use Rattle.references.specs.Slashes.{Doubled};
+ghost use Rattle.references.specs.Slashes.{doubled};
 
 // Are both bytes slashes?
 fn two_slashes(c: u8, d: u8) -> bool
@@ -13,33 +12,29 @@ fn two_slashes(c: u8, d: u8) -> bool
     c == b'/' && d == b'/'
 }
 
-// Where a slash stands behind a slash among the n bytes from a, n where none does.
-fn double_slash(s: &[u8], a: usize, n: u32) -> u32
-    requires le_n { 1 ≤ n }
-    requires n_in_bounds { a + n ≤ length s.now }
-    ensures { Doubled s.now a n result }
+// Does a slash stand behind a slash?
+fn has_double(reference: &[u8]) -> bool
+    requires { 1 ≤ length reference.now }
+    ensures { result ≡ doubled reference.now }
 {
-    for k in 1..n {
-        if two_slashes(s[a + k as usize - 1], s[a + k as usize]) {
-            return k;
+    for k in 1..reference.len() {
+        if two_slashes(reference[k - 1], reference[k]) {
+            return true;
         }
     }
-    n
+    false
 }
 
-// Does the reference from a up to b begin or end with a slash, or have two one behind the other?
-pub fn is_slashed(s: &[u8], a: usize, b: usize) -> bool
-    requires a_le_b { a ≤ b }
-    requires b_in_bounds { b ≤ length s.now }
-    requires a_bound { b - a ≤ 65535 }
-    ensures { result ≡ slashed (cut s.now a b) }
+// Does the reference begin or end with a slash, or have two one behind the other?
+pub fn slashed(reference: &[u8]) -> bool
+    ensures { result ≡ slashed reference.now }
 {
-    let n = (b - a) as u32;
+    let n = reference.len();
     if n < 1 {
         return false;
     }
-    if s[a] == b'/' {
+    if reference[0] == b'/' {
         return true;
     }
-    double_slash(s, a, n) < n || s[b - 1] == b'/'
+    has_double(reference) || reference[n - 1] == b'/'
 }

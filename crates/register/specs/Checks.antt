@@ -1,13 +1,13 @@
 -- The checks of a register's text: a law for each way out, the tests as calls answered them.
-use Rattle.std.specs.Prelude.{◌≡◌, Bool, true, false, not, List, ℕ, ◌+◌, ◌-◌, ◌*◌, ◌≤◌, length}
+use Rattle.std.specs.Prelude.{◌≡◌, Bool, true, false, not, List, ℕ, ◌+◌, ◌-◌, ◌*◌, ◌≤◌, length, take, drop}
 use Rattle.std.proofs.Math.Path.{sym}
 use Rattle.std.proofs.Common.{◌∙◌}
 use borrow.Author.Tests.{eq-eqb, ne_eqb, not-true, not-false}
 use Rattle.rules.specs.Text.{equal, is_some}
 use Rattle.rules.specs.Register.{register, old_register}
 use Rattle.rules.specs.Moves.{end_line}
-use Rattle.laws.specs.Parts.{cut}
-use Rattle.laws.specs.Equal.{rest_differs, rest_alike}
+use Rattle.laws.specs.Parts.{from}
+use Rattle.laws.specs.Slices.{rest_whole}
 use Rattle.laws.specs.Tests.{passed_told}
 use Rattle.register_lines.specs.Places.{first_in, repeat_in, account_stands, code_stands}
 use Rattle.register.specs.Whole.{count, code_count, again_in, foreign_in, lines_test, closes_at, passes_in, old_in}
@@ -31,14 +31,9 @@ module _ (s : List ℕ) (n m : ℕ) (t : Bool) (u : t ≡ again_in s n) where
     lines_single d₂ t₃ u₃ = rw (u₃, ← u, d, ← u₂, d₂)
 
 -- the last line
-module _ (s : List ℕ) (at : ℕ) where
-  pub closes_other : (length s - at ≡ 5 → ⊥) → false ≡ closes_at s at
-  unfolding closes_at
-  closes_other = rest_differs s end_line at
-
-  pub closes_part : at ≤ length s → length s - at ≡ 5 → (r : Bool) → r ≡ equal (cut s at (at + 5)) (cut end_line 0 5) → r ≡ closes_at s at
-  unfolding closes_at
-  closes_part = rest_alike s end_line at
+pub closes_told : (s : List ℕ) (at : ℕ) (r : Bool) → r ≡ equal (take (length s - at) (drop at s)) end_line → r ≡ closes_at s at
+unfolding closes_at from
+closes_told s at r e = rw (rest_whole s at) at e
 
 -- the whole text
 module _ (s : List ℕ) where
@@ -72,4 +67,4 @@ module _ (s : List ℕ) where
       unfolding old_in count
       old_lines g r k = sym (old_given s ∙ rw (← u, not-false t d, ← a.value, eq-eqb (length s) (24 + 38 * n) g, k))
 
-pub ruleset checks = (lines_again, lines_foreign, lines_single, closes_other, closes_part, first_told, fails_first, fails_close, passes_lines, old_first, old_unfilled, old_lines)
+pub ruleset checks = (lines_again, lines_foreign, lines_single, closes_told, first_told, fails_first, fails_close, passes_lines, old_first, old_unfilled, old_lines)

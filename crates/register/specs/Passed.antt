@@ -1,15 +1,16 @@
 -- What a register's text that passed 9 is, for those who read it.
-use Rattle.std.specs.Prelude.{◌≡◌, refl, Bool, true, false, List, map, ℕ, zero, suc, ◌+◌, ◌*◌, ◌≤◌, ◌<◌, length, get_or}
+use Rattle.std.specs.Prelude.{◌≡◌, refl, Bool, true, false, List, map, ℕ, zero, suc, ◌+◌, ◌*◌, ◌≤◌, ◌<◌, length, get_or, take, drop}
 use Rattle.std.proofs.Common.{sym, ◌∙◌, arith}
 use Rattle.std.proofs.Math.Path.{ap}
 use Rattle.std.proofs.Math.Option.{some}
 use Rattle.rules.specs.Text.{given, is_some}
 use Rattle.rules.specs.Register.{Account, Register, register, register_of, old_register}
-use Rattle.rules.specs.Verdict.{found, no_account, account_at}
-use Rattle.laws.specs.Parts.{cut}
+use Rattle.rules.specs.Verdict.{no_account, account_at}
+use Rattle.laws.specs.Parts.{cut, cut_take, cut_drop}
+use Rattle.register_lines.specs.AccountLine.{bound}
 use Rattle.rule_laws.specs.Registers.{register_size, register_few, codes_few}
-use Rattle.register_lines.specs.Places.{places_from, end_next, end_none, upto_all, bound_at, account_in}
-use Rattle.register.specs.Whole.{place, count, code_count, accounts_in, codes_in, found_in, passes_in, old_in, register_in}
+use Rattle.register_lines.specs.Places.{places_from, end_next, end_none, bound_at, account_in}
+use Rattle.register.specs.Whole.{place, count, code_count, accounts_in, codes_in, passes_in, old_in, register_in}
 use Rattle.register.specs.Agree.{in_places, old_in_places, accounts_length, codes_length}
 
 -- what is given by a test is there where the test holds
@@ -89,45 +90,47 @@ module _ (s : List ℕ) (h : is_some (register s) ≡ true) where
     unfolding accounts_in
     account_at_lem = let b : i < count s = rw accounts_count at k in rw accounts_at_lem (from_get (account_in s) no_account 38 24 (count s) i b)
 
-    pub line_within : place i + 38 ≤ length s
-    line_within = let b : i < count s = rw accounts_count at k in omega (arith, text_size)
+    pub line_room : place i + 38 ≤ length s
+    line_room = let b : i < count s = rw accounts_count at k in omega (arith, text_size)
 
     pub line_few : i < 40
     line_few = omega (arith, accounts_few)
 
-    pub iban_at : (account_at (register_of s) i).iban ≡ cut s (place i) (place i + 22)
+    iban_at : (account_at (register_of s) i).iban ≡ cut s (place i) (place i + 22)
     unfolding account_in
     iban_at = ap (λ (a : Account). a.iban) account_at_lem
 
-    pub low_at : (account_at (register_of s) i).low ≡ bound_at s (place i + 23)
+    low_at : (account_at (register_of s) i).low ≡ bound_at s (place i + 23)
     unfolding account_in
     low_at = ap (λ (a : Account). a.low) account_at_lem
 
-    pub high_at : (account_at (register_of s) i).high ≡ bound_at s (place i + 30)
+    high_at : (account_at (register_of s) i).high ≡ bound_at s (place i + 30)
     unfolding account_in
     high_at = ap (λ (a : Account). a.high) account_at_lem
 
 -- ---- the search in a text that passed
 
--- account line i begins at r
-pub record LinePlace (s : List ℕ) (i r : ℕ) : Type 0 where
-  pub same : r ≡ place i
-  pub room : r + 38 ≤ length s
-
 module _ (s : List ℕ) (h : is_some (register s) ≡ true) where
-  pub found_start : (n : ℕ) → n ≡ count s → (c : List ℕ) → found_in c s 0 n ≡ found c 0 (register_of s).accounts
-  unfolding found_in accounts_in
-  found_start n e c = rw (accounts_at_lem s h, e, upto_all)
+  pub temporary_part : take 22 s ≡ (register_of s).temporary
+  unfolding cut
+  temporary_part = sym (temporary_at_lem s h)
 
   module _ (i : ℕ) (k : i < length (register_of s).accounts) where
-    pub line_place : LinePlace s i (24 + 38 * i)
-    line_place = record { same = refl; room = line_within s h i k }
+    -- the parts of account line i
+    module _ (l : List ℕ) (e : l ≡ cut s (place i) (place i + 38)) where
+      pub iban_part : take 22 l ≡ (account_at (register_of s) i).iban
+      iban_part = rw (e, iban_at s h i k) (cut_take s (place i) (place i + 38) 22 (omega arith))
 
-    module _ (at r : ℕ) (p : LinePlace s i at) where
-      pub low_read : r ≡ bound_at s (at + 23) → r ≡ (account_at (register_of s) i).low
-      low_read e = e ∙ rw p.same (sym (low_at s h i k))
+      -- six bytes of it, from byte n on
+      six : (n : ℕ) → n ≤ 32 → take 6 (drop n l) ≡ cut s (place i + n) (place i + n + 6)
+      six n m = rw (e, cut_drop s (place i) (place i + 38) n) (cut_take s (place i + n) (place i + 38) 6 (omega (arith, m)))
 
-      pub high_read : r ≡ bound_at s (at + 30) → r ≡ (account_at (register_of s) i).high
-      high_read e = e ∙ rw p.same (sym (high_at s h i k))
+      pub low_part : (r : ℕ) → r ≡ bound (take 6 (drop 23 l)) → r ≡ (account_at (register_of s) i).low
+      unfolding bound_at
+      low_part r u = rw (low_at s h i k, ← six 23 (omega arith)) u
 
-pub ruleset passed = (found_start, line_place, low_read, high_read)
+      pub high_part : (r : ℕ) → r ≡ bound (take 6 (drop 30 l)) → r ≡ (account_at (register_of s) i).high
+      unfolding bound_at
+      high_part r u = rw (high_at s h i k, ← six 30 (omega arith)) u
+
+pub ruleset passed = (temporary_part, line_room, iban_part, low_part, high_part)

@@ -9,7 +9,7 @@ use Rattle.rules.specs.Verdict.{found, iban_beside, line_by_code}
 use Rattle.rules.specs.Moves.{has_codes}
 use Rattle.laws.specs.Parts.{cut, cut_length}
 use Rattle.laws.specs.Told.{told}
-use Rattle.account.specs.Part.{part_at}
+use Rattle.laws.specs.Slices.{part_cut}
 use Rattle.laws.specs.Every.{every_within, every_first}
 use Rattle.laws.specs.Equal.{equal_true}
 use Rattle.laws.specs.Tests.{and_left, and_right, cond_left, cond_right, never, not_holds}
@@ -22,7 +22,7 @@ use Rattle.register.specs.Agree.{codes_length}
 use Rattle.register_lines.specs.Formed.{code_signs}
 use Rattle.register.specs.Turns.{beside_here, beside_more, beside_end}
 use Rattle.register_lines.specs.Forms.{account_room, code_room}
-use Rattle.register.specs.Passed.{code_count_of, text_size, text_codes, text_count_lem, codes_at_lem}
+use Rattle.register.specs.Passed.{code_count_of, text_size, text_codes, text_count_lem, accounts_count, codes_at_lem}
 
 -- ---- what tells a code line from an account line
 
@@ -66,16 +66,17 @@ pub record Ending (s : List ℕ) (end : ℕ) : Type 0 where
   pub most : count s ≤ 40
   pub small : left ≤ 40
   pub size : length s ≤ 2949
+  pub accounts : length (register_of s).accounts ≡ count s
 
 -- r is the number of account lines
 pub record AccountCount (s : List ℕ) (r : ℕ) : Type 0 where
-  pub same : r ≡ count s
+  pub same : r ≡ length (register_of s).accounts
   pub few : r ≤ 40
   pub behind : 24 + 38 * r ≤ length s
   pub size : length s ≤ 2949
 
 pub ending_start : (s : List ℕ) → is_some (register s) ≡ true → Ending s (length s)
-ending_start s h = record { left = code_count_of s h; few = omega arith; same = text_size s h; within = omega arith; most = text_count_lem s h; small = text_codes s h; size = register_length s h }
+ending_start s h = record { left = code_count_of s h; few = omega arith; same = text_size s h; within = omega arith; most = text_count_lem s h; small = text_codes s h; size = register_length s h; accounts = accounts_count s h }
 
 module _ (s : List ℕ) (end : ℕ) (e : Ending s end) (h : 29 < end) where
   -- before an account line's end stands none of its commas
@@ -99,7 +100,7 @@ module _ (s : List ℕ) (end : ℕ) (e : Ending s end) (h : 29 < end) where
       go (suc n) z = omega arith
 
   pub ending_more : get_or s (end - 30) 0 ≡ 44 → Ending s (end - 35)
-  ending_more c = let n : 0 < e.left = some_left c in record { left = e.left - 1; few = omega (arith, e.few); same = omega (arith, e.same); within = omega (arith, e.within); most = e.most; small = omega (arith, e.small); size = e.size }
+  ending_more c = let n : 0 < e.left = some_left c in record { left = e.left - 1; few = omega (arith, e.few); same = omega (arith, e.same); within = omega (arith, e.within); most = e.most; small = omega (arith, e.small); size = e.size; accounts = e.accounts }
 
   pub ending_room : get_or s (end - 30) 0 ≡ 44 → 35 ≤ end
   ending_room c = let n : 0 < e.left = some_left c in omega (arith, e.same)
@@ -114,10 +115,10 @@ module _ (s : List ℕ) (end : ℕ) (e : Ending s end) (h : 29 < end) where
   pub ending_here : (get_or s (end - 30) 0 ≡ 44 → ⊥) → AccountCount s ((end - 29) / 38)
   ending_here c =
       let z : e.left ≡ 0 = none_left c in
-      record { same = omega (arith, e.same); few = omega (arith, e.same, e.most); behind = omega (arith, e.same, e.within); size = e.size }
+      record { same = omega (arith, e.same, e.accounts); few = omega (arith, e.same, e.most); behind = omega (arith, e.same, e.within); size = e.size }
 
 pub ending_none : (s : List ℕ) (end : ℕ) → Ending s end → end ≤ 29 → AccountCount s 0
-ending_none s end e h = record { same = omega (arith, e.same); few = omega arith; behind = omega (arith, e.same, e.within); size = e.size }
+ending_none s end e h = record { same = omega (arith, e.same, e.accounts); few = omega arith; behind = omega (arith, e.same, e.within); size = e.size }
 
 -- ---- a code
 
@@ -148,11 +149,11 @@ pub record CodesOf (s : List ℕ) (at m : ℕ) : Type 0 where
 
 pub codes_told : (s : List ℕ) (n : ℕ) → is_some (register s) ≡ true → AccountCount s n → CodesOf s (24 + 38 * n) ((length s - (24 + 38 * n)) / 35)
 codes_told s n h e = record {
-  place_is = omega (arith, e.same);
-  number_is = omega (arith, e.same, text_size s h);
+  place_is = omega (arith, e.same, accounts_count s h);
+  number_is = omega (arith, e.same, accounts_count s h, text_size s h);
   low = omega (arith, e.few);
-  few = omega (arith, e.same, text_size s h, text_codes s h);
-  room = omega (arith, e.same, text_size s h);
+  few = omega (arith, e.same, accounts_count s h, text_size s h, text_codes s h);
+  room = omega (arith, e.same, accounts_count s h, text_size s h);
 }
 
 -- there are some where the register has codes
@@ -176,14 +177,16 @@ module _ (s c : List ℕ) (at m j : ℕ) (k : Seeking s c at m j) (h : j < m) wh
   pub seeking_low : at + 35 * j ≤ 2944
   seeking_low = omega (arith, k.codes.low, k.codes.few)
 
-  module _ (l : length c ≡ 10) (t : Bool) (u : t ≡ equal (cut s (at + 35 * j) (at + 35 * j + 10)) (cut c 0 (0 + 10))) where
+  module _ (t : Bool) (u : t ≡ equal (take (at + 35 * j + 10 - (at + 35 * j)) (drop (at + 35 * j) s)) c) where
     pub seeking_more : t ≡ false → Seeking s c at m (j + 1)
-    seeking_more d = record { codes = k.codes; same = beside_more s at j m c _ k.same l h t u d }
+    seeking_more d = record { codes = k.codes; same = beside_more s at j m c _ k.same h t u d }
 
     -- the answer of the search for its account
-    pub code_found : t ≡ true → (q : Option ℕ) → told q ≡ found (take (at + 35 * j + 11 + 22 - (at + 35 * j + 11)) (drop (at + 35 * j + 11) s)) 0 (register_of s).accounts → told q ≡ line_by_code (register_of s) c
+    pub code_found : t ≡ true → (q : Option ℕ) → told q ≡ found (take (at + 35 * j + 33 - (at + 35 * j + 11)) (drop (at + 35 * j + 11) s)) 0 (register_of s).accounts → told q ≡ line_by_code (register_of s) c
     unfolding line_by_code
-    code_found d q f = rw (← beside_here s at j m c _ k.same l h t u d) (rw (part_at s (at + 35 * j + 11) 22) at f)
+    code_found d q f =
+        let e : at + 35 * j + 11 + 22 ≡ at + 35 * j + 33 = omega arith in
+        rw (← beside_here s at j m c _ k.same h t u d, e) (rw (part_cut s (at + 35 * j + 11) (at + 35 * j + 33) (omega arith)) at f)
 
 pub code_missing : (s c : List ℕ) (at m j : ℕ) → Seeking s c at m j → m ≤ j → none ≡ line_by_code (register_of s) c
 unfolding line_by_code

@@ -1,14 +1,14 @@
 -- The lines of a register looked through one by one: a law for each way on and out of a loop.
-use Rattle.std.specs.Prelude.{◌≡◌, Bool, true, false, not, List, ℕ, ◌+◌, ◌-◌, ◌*◌, ◌≤◌, ◌<◌, length, take, drop}
-use Rattle.std.proofs.Common.{◌∙◌, arith}
+use Rattle.std.specs.Prelude.{◌≡◌, Bool, true, false, not, List, [], ◌∷◌, ℕ, ◌+◌, ◌-◌, ◌*◌, ◌≤◌, ◌<◌, length, get_or, take, drop}
+use Rattle.std.proofs.Common.{◌∙◌, arith, add-one, drop-cons, drop_of_length-le}
 use Rattle.std.proofs.Math.Option.{Option, none, some}
 use Rattle.rules.specs.Text.{equal, any, twice}
-use Rattle.rules.specs.Register.{is_foreign}
-use Rattle.rules.specs.Verdict.{found, iban_beside}
-use Rattle.laws.specs.Parts.{cut, cut_all}
-use Rattle.account.specs.Part.{part_at}
-use Rattle.register_lines.specs.Places.{upto_step, upto_done, upto_all, key_in, account_in, code_in, stands_in, repeat_in}
-use Rattle.register.specs.Whole.{accounts_in, codes_in, found_in, foreign_in, foreign_from, beside_in, again_in}
+use Rattle.rules.specs.Register.{Account, is_foreign}
+use Rattle.rules.specs.Verdict.{found, no_account, iban_beside}
+use Rattle.laws.specs.Parts.{cut}
+use Rattle.laws.specs.Slices.{part_cut}
+use Rattle.register_lines.specs.Places.{upto_step, upto_done, upto_all, key_in, code_in, stands_in, repeat_in}
+use Rattle.register.specs.Whole.{accounts_in, codes_in, foreign_in, foreign_from, beside_in, again_in}
 use Rattle.register.specs.Agree.{ibans_of}
 
 -- the first line's IBAN before those of the account lines
@@ -31,7 +31,7 @@ module _ (s : List ℕ) (n at k m : ℕ) (x : Bool) (inv : foreign_from s n at k
   module _ (h : k < m) (t : Bool) (u : t ≡ stands_in s 22 38 (take (at + 35 * k + 11 + 22 - (at + 35 * k + 11)) (drop (at + 35 * k + 11) s)) 24 0 n) where
     own : is_foreign (accounts_in s n) (code_in s (at + 35 * k)) ≡ not t
     unfolding is_foreign code_in stands_in
-    own = rw (ibans_of, u, part_at s (at + 35 * k + 11) 22)
+    own = rw (ibans_of, u, part_cut s (at + 35 * k + 11) (at + 35 * k + 11 + 22) (omega arith))
 
     pub foreign_here : t ≡ false → true ≡ x
     unfolding foreign_from any
@@ -47,30 +47,27 @@ module _ (s : List ℕ) (n at k m : ℕ) (x : Bool) (inv : foreign_from s n at k
 
 -- ---- the searches
 
-whole : (c : List ℕ) (n : ℕ) → length c ≡ n → cut c 0 (0 + n) ≡ c
-whole c n e = let q : 0 + n ≡ length c = omega arith in rw (q, cut_all c)
-
-module _ (s : List ℕ) (i n : ℕ) (c : List ℕ) (x : Option ℕ) (inv : found_in c s i n ≡ x) where
-  module _ (l : length c ≡ 22) (h : i < n) (t : Bool) (u : t ≡ equal (cut s (24 + 38 * i) (24 + 38 * i + 22)) (cut c 0 (0 + 22))) where
-    its : t ≡ equal (cut s (24 + 38 * i) (24 + 38 * i + 22)) c
-    its = rw (whole c 22 l) at u
+module _ (xs : List Account) (i : ℕ) (c : List ℕ) (x : Option ℕ) (inv : found c i (drop i xs) ≡ x) where
+  module _ (h : i < length xs) (t : Bool) (u : t ≡ equal (get_or xs i no_account).iban c) where
+    next : drop i xs ≡ get_or xs i no_account ∷ drop (i + 1) xs
+    next = rw (add-one i) (drop-cons xs i no_account h)
 
     pub found_here : t ≡ true → some i ≡ x
-    unfolding found_in account_in found
-    found_here d = rw (upto_step 38 24 i n h, ← its, d) at inv
+    unfolding found
+    found_here d = rw (next, ← u, d) at inv
 
-    pub found_more : t ≡ false → found_in c s (i + 1) n ≡ x
-    unfolding found_in account_in found
-    found_more d = rw (upto_step 38 24 i n h, ← its, d) at inv
+    pub found_more : t ≡ false → found c (i + 1) (drop (i + 1) xs) ≡ x
+    unfolding found
+    found_more d = rw (next, ← u, d) at inv
 
-  pub found_end : n ≤ i → none ≡ x
-  unfolding found_in found
-  found_end h = rw (upto_done 38 24 i n h) at inv
+  pub found_end : length xs ≤ i → none ≡ x
+  unfolding found
+  found_end h = let e : drop i xs ≡ [] = drop_of_length-le xs {i = i} h in rw e at inv
 
 module _ (s : List ℕ) (at j m : ℕ) (c : List ℕ) (x : Option (List ℕ)) (inv : beside_in c s at j m ≡ x) where
-  module _ (l : length c ≡ 10) (h : j < m) (t : Bool) (u : t ≡ equal (cut s (at + 35 * j) (at + 35 * j + 10)) (cut c 0 (0 + 10))) where
+  module _ (h : j < m) (t : Bool) (u : t ≡ equal (take (at + 35 * j + 10 - (at + 35 * j)) (drop (at + 35 * j) s)) c) where
     this : t ≡ equal (cut s (at + 35 * j) (at + 35 * j + 10)) c
-    this = rw (whole c 10 l) at u
+    this = rw (part_cut s (at + 35 * j) (at + 35 * j + 10) (omega arith)) at u
 
     pub beside_here : t ≡ true → some (cut s (at + 35 * j + 11) (at + 35 * j + 11 + 22)) ≡ x
     unfolding beside_in code_in iban_beside

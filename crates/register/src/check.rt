@@ -2,24 +2,13 @@
 ghost use Rattle.std.specs.Prelude.{◌≡◌, ◌+◌, ◌*◌, ◌≤◌, length};
 ghost use Rattle.rules.specs.Text.{is_some};
 ghost use Rattle.rules.specs.Register.{register, old_register};
-ghost use Rattle.register.specs.Whole.{foreign_in, again_in, lines_test, closes_at};
+ghost use Rattle.register.specs.Whole.{foreign_in, again_in, lines_test};
 
-use crate::{ACCOUNT_LINE, CODE_LINE, FIRST_LINE, LAST_LINE};
+use crate::{ACCOUNT_LINE, CODE_LINE, FIRST_LINE};
 use register_lines::{AccountLine, CodeLine, Section, first_line_passes, lines_from, put_marks};
 
 // The longest text that passes: a first line, 40 account lines, 40 code lines and the last line.
 pub const LONGEST: usize = 2949;
-
-// Is the last line all that stands from a place on?
-fn closes_at(text: &[u8], at: usize) -> bool
-    requires { at ≤ length text.now }
-    ensures { result ≡ closes_at text.now at }
-{
-    if text.len() - at != LAST_LINE {
-        return false;
-    }
-    text::equal_parts(text, at, b"END\r\n", 0, 5)
-}
 
 // Does an IBAN appear twice in the first line and the account lines?
 fn iban_again(accounts: &Section<AccountLine>) -> bool
@@ -78,7 +67,7 @@ pub fn register_passes(text: &[u8]) -> bool
     let n = lines_from::<AccountLine>(text, FIRST_LINE as usize);
     let at = FIRST_LINE + ACCOUNT_LINE * n;
     let m = lines_from::<CodeLine>(text, at as usize);
-    if !closes_at(text, (at + CODE_LINE * m) as usize) {
+    if !text::equal(&text[(at + CODE_LINE * m) as usize..], b"END\r\n") {
         return false;
     }
     lines_pass(text, n, m)

@@ -5,7 +5,7 @@ mod check;
 mod search;
 
 pub use check::{LONGEST, old_register_passes, register_passes};
-pub use search::{account_high, account_low, account_place, find_account, find_code, has_codes};
+pub use search::Register;
 
 // How many bytes a line of each kind has.
 const FIRST_LINE: u32 = 24;
@@ -13,5 +13,3 @@ const FIRST_LINE: u32 = 24;
 const ACCOUNT_LINE: u32 = 38;
 
 const CODE_LINE: u32 = 35;
-
-const LAST_LINE: usize = 5;

@@ -1,11 +1,13 @@
 -- The two forms of the lines behind the first: a line that stands has its room, and within it its key.
-use Rattle.std.specs.Prelude.{◌≡◌, refl, Bool, true, false, List, ℕ, ◌+◌, ◌-◌, ◌≤◌, ◌<◌, length}
-use Rattle.std.proofs.Common.{sym, arith}
+use Rattle.std.specs.Prelude.{◌≡◌, Bool, true, false, List, ℕ, ◌+◌, ◌-◌, ◌≤◌, ◌<◌, length, take, drop}
+use Rattle.std.proofs.Common.{◌∙◌, arith}
 use Rattle.rules.specs.Text.{fits}
 use Rattle.laws.specs.Parts.{cut, cut_size}
-use Rattle.laws.specs.Tests.{and_left, and_right}
+use Rattle.laws.specs.Tests.{and_left, and_right, not_holds}
+use Rattle.laws.specs.Slices.{rest_whole}
 use Rattle.laws.specs.Reading.{fits_length}
 use Rattle.register_lines.specs.Blocks.{crlf}
+use Rattle.register_lines.specs.Alike.{Alike, front_alike, rest_alike, account_alike, code_alike}
 use Rattle.register_lines.specs.Places.{ends_at, form_at, account_stands, code_form, code_stands}
 
 -- a form of lines: their width, how many bytes tell one from others, and what stands at a place
@@ -14,6 +16,7 @@ pub record FormOf (width key : ℕ) (standing : List ℕ → ℕ → Bool) : Typ
   pub key_small : key ≤ 22
   pub small : width ≤ 38
   pub room : (s : List ℕ) (at : ℕ) → standing s at ≡ true → at + width ≤ length s
+  pub alone : (x s : List ℕ) (at : ℕ) → Alike x s at width → standing x 0 ≡ standing s at
 
 -- ---- a line that stands there has its room
 
@@ -36,18 +39,20 @@ pub code_room : (s : List ℕ) (at : ℕ) → code_stands s at ≡ true → at +
 code_room s at h = omega (arith, ends_room s (at + 33) (code_ended s at h))
 
 pub account_form_of : FormOf 38 22 account_stands
-account_form_of = record { within = omega arith; key_small = omega arith; small = omega arith; room = account_room }
+account_form_of = record { within = omega arith; key_small = omega arith; small = omega arith; room = account_room; alone = λ x s at w. account_alike w (omega arith) }
 
 pub code_form_of : FormOf 35 10 code_stands
-code_form_of = record { within = omega arith; key_small = omega arith; small = omega arith; room = code_room }
+code_form_of = record { within = omega arith; key_small = omega arith; small = omega arith; room = code_room; alone = λ x s at w. code_alike w (omega arith) }
 
--- a line, by its room and its tests
-module _ (w z : ℕ) (standing : List ℕ → ℕ → Bool) (f : FormOf w z standing) (s : List ℕ) (at : ℕ) where
-  pub line_unroomed : at ≤ length s → length s - at < w → false ≡ standing s at
-  line_unroomed l h = go (standing s at) refl
-    where
-      go : (t : Bool) → standing s at ≡ t → false ≡ standing s at
-      go false k = sym k
-      go true k = absurd (omega (arith, f.room s at k))
+-- a line with which a text begins, by its room and its tests; one at a place
+module _ (w z : ℕ) (standing : List ℕ → ℕ → Bool) (f : FormOf w z standing) (s : List ℕ) where
+  pub line_unroomed : length s < w → false ≡ standing s 0
+  line_unroomed h = not_holds (standing s 0) (λ k. omega (arith, f.room s 0 k))
 
-pub ruleset forms = (line_unroomed)
+  pub line_roomed : (v : ℕ) → v ≡ w → (t : Bool) → t ≡ standing (take v s) 0 → t ≡ standing s 0
+  line_roomed v e t u = u ∙ f.alone (take v s) s 0 (front_alike s v w (omega arith))
+
+  pub line_rest : (at : ℕ) (t : Bool) → t ≡ standing (take (length s - at) (drop at s)) 0 → t ≡ standing s at
+  line_rest at t u = rw (rest_whole s at) at u ∙ f.alone (drop at s) s at (rest_alike s at w)
+
+pub ruleset forms = (line_unroomed, line_roomed, line_rest)

@@ -2,6 +2,7 @@ pub mod Blocks
 pub mod AccountLine
 pub mod Places
 pub mod Formed
+pub mod Alike
 pub mod Lines
 pub mod Forms
 pub mod Counts

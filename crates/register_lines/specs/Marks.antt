@@ -5,7 +5,7 @@ use Rattle.std.proofs.Common.{ap, ◌∙◌, add-one, zero-add, mul-suc, mul-le-
 use Prim.Native.Nat.{ℕ, zero, suc, ◌+◌, ◌-◌, ◌*◌, ◌≤◌, ◌<◌}
 use native.Mathlib.Omega.{arith}
 use Rattle.rules.specs.Text.{equal, any, twice}
-use Rattle.laws.specs.Parts.{cut, cut_length, cut_all}
+use Rattle.laws.specs.Parts.{cut_length}
 use Rattle.laws.specs.Equal.{equal_true}
 use Rattle.laws.specs.Tests.{not_holds}
 use Rattle.account.specs.Part.{part_at}
@@ -165,13 +165,6 @@ pub key_is : (s : List ℕ) (at z : ℕ) → take (at + z - at) (drop at s) ≡ 
 unfolding key_in
 key_is = part_at
 
--- the whole of two keys
-pub keys_equal : (key other : List ℕ) (z : ℕ) (r : Bool) → length key ≡ z → length other ≡ z → r ≡ equal (cut key 0 (0 + z)) (cut other 0 (0 + z)) → r ≡ equal key other
-keys_equal key other z r h k e =
-    let a : cut key 0 (0 + z) ≡ key = rw (zero-add, ← h, cut_all key) in
-    let b : cut other 0 (0 + z) ≡ other = rw (zero-add, ← k, cut_all other) in
-    rw (a, b) at e
-
 -- ---- a key among lines
 
 module _ (s : List ℕ) (z w : ℕ) (key : List ℕ) (at i n : ℕ) (x : Bool) (inv : stands_in s z w key at i n ≡ x) where
@@ -204,4 +197,4 @@ module _ (s : List ℕ) (z w at i n : ℕ) (x : Bool) (inv : repeat_in s z w at 
   unfolding repeat_in keys_in twice
   repeat_end h = rw (upto_done w at i n h) at inv
 
-pub ruleset marks = (marking_start, marking_end, marking_low, marking_more, making_start, making_end, making_next, making_room, making_key, making_small, making_more, place_small, place_room, line_small, line_size, line_mark, mark_other, keys_equal, stands_here, stands_more, stands_end, repeat_here, repeat_more, repeat_end)
+pub ruleset marks = (marking_start, marking_end, marking_low, marking_more, making_start, making_end, making_next, making_room, making_key, making_small, making_more, place_small, place_room, line_small, line_size, line_mark, mark_other, stands_here, stands_more, stands_end, repeat_here, repeat_more, repeat_end)

@@ -4,8 +4,8 @@ ghost use Rattle.register_lines.specs.Places.{account_stands, code_stands};
 ghost use Rattle.register_lines.specs.Forms.{FormOf, account_form_of, code_form_of};
 ghost use Rattle.register_lines.specs.Counts.{LinesFrom};
 
-use crate::lines::{bounds_at, ends_at, in_order};
-use text::{Alnum, Digit, leading_at};
+use crate::lines::{are_bounds, in_order, is_end};
+use text::{Alnum, Digit, is_all};
 
 // A form of lines.
 pub trait LineForm {
@@ -22,9 +22,10 @@ pub trait LineForm {
     // Does a line stand at a place of a text?
     ghost standing: { List ℕ → ℕ → Bool };
 
-    fn stands(text: &[u8], at: usize) -> bool
-        requires { at + WIDTH ≤ length text.now }
-        ensures { result ≡ standing text.now at };
+    // Is it a line?
+    fn stands(line: &[u8]) -> bool
+        requires { length line.now ≡ WIDTH }
+        ensures { result ≡ standing line.now 0 };
 
     ghost form: { FormOf WIDTH KEY standing };
 }
@@ -44,17 +45,17 @@ impl LineForm for AccountLine {
     ghost standing = { account_stands };
 
     // An IBAN that passes, its bounds, its end, low at most high?
-    fn stands(text: &[u8], at: usize) -> bool {
-        if !account::iban_passes(&text[at..at + 22]) {
+    fn stands(line: &[u8]) -> bool {
+        if !account::iban_passes(&line[..22]) {
             return false;
         }
-        if !bounds_at(text, at + 22) {
+        if !are_bounds(&line[22..36]) {
             return false;
         }
-        if !ends_at(text, at + 36) {
+        if !is_end(&line[36..38]) {
             return false;
         }
-        in_order(text, at + 22)
+        in_order(&line[22..36])
     }
 
     ghost form = { account_form_of };
@@ -75,38 +76,37 @@ impl LineForm for CodeLine {
     ghost standing = { code_stands };
 
     // Ten digits, a comma, 22 letters or digits, its end?
-    fn stands(text: &[u8], at: usize) -> bool {
-        if leading_at::<Digit>(text, at, 10) < 10 {
+    fn stands(line: &[u8]) -> bool {
+        if !is_all::<Digit>(&line[..10]) {
             return false;
         }
-        if text[at + 10] != b',' {
+        if line[10] != b',' {
             return false;
         }
-        if leading_at::<Alnum>(text, at + 11, 22) < 22 {
+        if !is_all::<Alnum>(&line[11..33]) {
             return false;
         }
-        ends_at(text, at + 33)
+        is_end(&line[33..35])
     }
 
     ghost form = { code_form_of };
 }
 
-// Does a line of the form stand there?
-fn line_stands<F: LineForm>(text: &[u8], at: usize) -> bool
-    requires { at ≤ length text.now }
-    ensures { result ≡ F.standing text.now at }
+// Does a text begin with a line of the form?
+fn line_begins<F: LineForm>(rest: &[u8]) -> bool
+    ensures { result ≡ F.standing rest.now 0 }
 {
-    text.len() - at >= F::WIDTH as usize && F::stands(text, at)
+    rest.len() >= F::WIDTH as usize && F::stands(&rest[..F::WIDTH as usize])
 }
 
-// How many lines of the form stand there one behind the other, 40 at most.
+// How many lines of the form stand at a place one behind the other, 40 at most. (A place of the text and not what is left of it: where lines stand in a register is told by places.)
 pub fn lines_from<F: LineForm>(text: &[u8], at: usize) -> u32
     requires { at ≤ length text.now }
     ensures { LinesFrom F.standing F.WIDTH text.now at result }
 {
     let mut place = at;
     for i in 0..40u32 {
-        if !line_stands::<F>(text, place) {
+        if !line_begins::<F>(&text[place..]) {
             return i;
         }
         place += F::WIDTH as usize;

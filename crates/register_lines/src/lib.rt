@@ -6,5 +6,5 @@ mod lines;
 mod section;
 
 pub use forms::{AccountLine, CodeLine, LineForm, lines_from};
-pub use lines::{bound_at, first_line_passes};
+pub use lines::{bound, first_line_passes};
 pub use section::{Section, put_marks};

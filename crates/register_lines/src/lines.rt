@@ -1,48 +1,51 @@
 // A single line of the register.
-ghost use Rattle.std.specs.Prelude.{◌≡◌, true, ◌+◌, ◌≤◌, leb, length};
+ghost use Rattle.std.specs.Prelude.{◌≡◌, true, leb, length};
 ghost use Rattle.register_lines.specs.Places.{ends_at, bound_at, first_in};
 ghost use Rattle.register_lines.specs.Formed.{bounds_at};
+ghost use Rattle.register_lines.specs.AccountLine.{bound};
 
-// The bound at a place: six digits.
-pub fn bound_at(text: &[u8], at: usize) -> u64
-    requires { at + 6 ≤ length text.now }
-    ensures { result ≡ bound_at text.now at }
+use text::{Digit, is_all};
+
+// The number of a bound's six digits.
+pub fn bound(digits: &[u8]) -> u64
+    requires { length digits.now ≡ 6 }
+    ensures { result ≡ bound digits.now }
 {
-    text::read_digits(&text[at..at + 6]).unwrap_or(0)
+    text::read_digits(digits).unwrap_or(0)
 }
 
-// Do two bounds of six digits stand there, a comma before each?
-pub fn bounds_at(text: &[u8], at: usize) -> bool
-    requires { at + 14 ≤ length text.now }
-    ensures { result ≡ bounds_at text.now at }
+// Are they two bounds of six digits, a comma before each?
+pub fn are_bounds(part: &[u8]) -> bool
+    requires { length part.now ≡ 14 }
+    ensures { result ≡ bounds_at part.now 0 }
 {
-    if text[at] != b',' {
+    if part[0] != b',' {
         return false;
     }
-    if text::leading_at::<text::Digit>(text, at + 1, 6) < 6 {
+    if !is_all::<Digit>(&part[1..7]) {
         return false;
     }
-    if text[at + 7] != b',' {
+    if part[7] != b',' {
         return false;
     }
-    text::leading_at::<text::Digit>(text, at + 8, 6) == 6
+    is_all::<Digit>(&part[8..14])
 }
 
-// Is the first of them at most the second?
-pub fn in_order(text: &[u8], at: usize) -> bool
-    requires room { at + 14 ≤ length text.now }
-    requires bounds { bounds_at text.now at ≡ true }
-    ensures { result ≡ leb (bound_at text.now (at + 1)) (bound_at text.now (at + 8)) }
+// Is the first of two bounds at most the second?
+pub fn in_order(part: &[u8]) -> bool
+    requires size { length part.now ≡ 14 }
+    requires bounds { bounds_at part.now 0 ≡ true }
+    ensures { result ≡ leb (bound_at part.now 1) (bound_at part.now 8) }
 {
-    text::small_digits(text, at + 1, 6) <= text::small_digits(text, at + 8, 6)
+    text::small_value(&part[1..7]) <= text::small_value(&part[8..14])
 }
 
-// Does the line end there, by CR LF?
-pub fn ends_at(text: &[u8], at: usize) -> bool
-    requires { at + 2 ≤ length text.now }
-    ensures { result ≡ ends_at text.now at }
+// Are they a line's end, CR LF?
+pub fn is_end(two: &[u8]) -> bool
+    requires { length two.now ≡ 2 }
+    ensures { result ≡ ends_at two.now 0 }
 {
-    text[at] == b'\r' && text[at + 1] == b'\n'
+    two[0] == b'\r' && two[1] == b'\n'
 }
 
 // Does the first line pass: the temporary account's IBAN?
@@ -53,7 +56,7 @@ pub fn first_line_passes(text: &[u8]) -> bool
         return false;
     }
     if account::iban_passes(&text[0..22]) {
-        return ends_at(text, 22);
+        return is_end(&text[22..24]);
     }
     false
 }

@@ -20,6 +20,7 @@ fn mark_of(key: &[u8]) -> u32
 }
 
 // The marks of the IBANs or codes of n lines of a form, the first at a place.
+// By a place in the text: a slice that moves on from line to line has a length of 64 bits to keep beside it.
 pub fn put_marks<F: LineForm>(text: &[u8], at: usize, n: u32, marks: &mut [u32; 40])
     requires few { n ≤ 40 }
     requires room { at + F.WIDTH * n ≤ length text.now }
@@ -73,7 +74,7 @@ impl<'a, F: LineForm> Section<'a, F> {
         &self.text[place..place + F::KEY as usize]
     }
 
-    // Is the IBAN or code, which has the mark, that of line i?
+    // Is the IBAN or code, which has the mark, that of line i? (Its size is a clause here as in `has`: a struct of both for two private methods would be no plainer.)
     fn is_key(&self, key: &[u8], mark: u32, i: u32) -> bool
         requires size { length key.now ≡ F.KEY }
         requires marked { mark ≡ mark_of key.now }
@@ -83,7 +84,7 @@ impl<'a, F: LineForm> Section<'a, F> {
         if self.marks[i as usize] != mark {
             return false;
         }
-        text::equal_from_end(key, 0, self.key(i), 0, F::KEY)
+        text::equal_backward(key, self.key(i))
     }
 
     // Is it that of one of the lines from line `first` on?

@@ -1,4 +1,4 @@
-// The moves of a register's text from the old form to the new and back.
+// The moves of a register's text from the old form to the new and back. Each way has its own functions: 19 is asked of the new form alone, and one way writes a last line where the other leaves it out.
 #![tactic(auto)]
 
 mod newer;

@@ -2,9 +2,10 @@
 ghost use Rattle.std.specs.Prelude.{◌≡◌};
 ghost use Rattle.rules.specs.Calls.{first_of};
 ghost use Rattle.rules.specs.Moves.{with_end, newer_stops};
-ghost use Rattle.laws.specs.Writing.{Wrote};
+ghost use Rattle.put.specs.Writes.{Writes};
 ghost use Rattle.refusal.specs.Numbers.{stop_of};
 
+use put::Writer;
 use refusal::Refusal;
 
 // 9 or 16, the first that holds, with so much room for the text.
@@ -21,9 +22,9 @@ pub fn newer_stop(text: &[u8], room: usize) -> Result<(), Refusal>
 }
 
 // A register's text and the last line.
-pub fn put_newer(output: &mut [u8], text: &[u8]) -> usize
-    ensures { Wrote (with_end text.now) 0 output.old result output.new }
+pub fn put_newer(w: &mut Writer, text: &[u8])
+    ensures { Writes (with_end text.now) w.old w.new }
 {
-    let at = put::put_bytes(output, 0, text);
-    put::put_bytes(output, at, b"END\r\n")
+    w.put_bytes(text);
+    w.put_bytes(b"END\r\n");
 }

@@ -2,11 +2,13 @@
 ghost use Rattle.std.specs.Prelude.{◌≡◌, ◌≤◌, length};
 ghost use Rattle.rules.specs.Calls.{first_of};
 ghost use Rattle.rules.specs.Moves.{without_end, older_stops};
-ghost use Rattle.laws.specs.Writing.{Wrote};
+ghost use Rattle.put.specs.Writes.{Writes};
 ghost use Rattle.register_moves.specs.Stops.{way_stops};
 ghost use Rattle.refusal.specs.Numbers.{stop_of};
 
+use put::Writer;
 use refusal::Refusal;
+use register::Register;
 
 // 19 or 16, the first that holds: of code lines in the way, and of a text that does not fit.
 fn way_stop(coded: bool, fits: bool) -> Result<(), Refusal>
@@ -28,14 +30,14 @@ pub fn older_stop(text: &[u8], room: usize) -> Result<(), Refusal>
     if !register::register_passes(text) {
         return Err(Refusal::BadRegister);
     }
-    let coded = register::has_codes(text);
+    let coded = Register::passed(text).has_codes();
     way_stop(coded, text.len() - 5 <= room)
 }
 
 // A register's text without its last line.
-pub fn put_older(output: &mut [u8], text: &[u8]) -> usize
+pub fn put_older(w: &mut Writer, text: &[u8])
     requires { 5 ≤ length text.now }
-    ensures { Wrote (without_end text.now) 0 output.old result output.new }
+    ensures { Writes (without_end text.now) w.old w.new }
 {
-    put::put_bytes(output, 0, &text[0..text.len() - 5])
+    w.put_bytes(&text[0..text.len() - 5]);
 }

@@ -49,7 +49,7 @@ fn replay_input(
     Ok(())
 }
 
-// The replay of standard input with so many bytes of output: a window of 65,536 bytes, and room for an answer's line and the output.
+// The replay of standard input with so many bytes of output: a window of 65,536 bytes, and room for an answer's line and the output. (The room is a number of the command line, and its limit a clause up to the array that it is taken of.)
 pub fn replay(rt: &(impl Input + Print), room: usize) -> io::Result<()>
     requires { room ≤ 1048576 }
 {

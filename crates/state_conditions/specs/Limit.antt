@@ -15,14 +15,14 @@ use Rattle.engine_laws.specs.Positions.{Good, all_good}
 use Rattle.position.specs.declared.Position as P
 use Rattle.engine.specs.Totals.{TotalsOf, begun}
 use Rattle.details.specs.Message.{message_in}
-use Rattle.conditions.specs.Books.{Books, amount_if}
+use Rattle.conditions.specs.Books.{Books, is_transfer, amount_if}
 use Rattle.conditions.specs.Tally.{TallyAt, DetailsTallied}
 use Rattle.conditions.specs.declared.booking.Booking.{Booking}
 use Rattle.conditions.specs.declared.tally.Tally.{Tally}
 
 -- of both totals, as the code tests it
 unfoldable pub over_by : P.Position → Booking → Bool
-over_by t b = not (leb (t.transferred + amount_if b.transfer b.amount) limit) || not (leb (t.detailed + amount_if (not b.transfer) b.amount) limit)
+over_by t b = not (leb (t.transferred + amount_if (is_transfer b.kind) b.amount) limit) || not (leb (t.detailed + amount_if (not (is_transfer b.kind)) b.amount) limit)
 
 -- it is the message's 15
 pub over_is : (s area : List ℕ) (b : Booking) → Books s (message_in s) b → (o : Option P.Position) → TotalsOf (decode area).positions b.key o → over_by (begun b.key o) b ≡ over_limit (decode area) (message_in s)

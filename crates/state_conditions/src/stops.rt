@@ -1,53 +1,50 @@
 // The conditions 11 to 15, "stopped by the state".
-ghost use Rattle.std.specs.Prelude.{◌≡◌, true, not, ◌+◌, ◌*◌, ◌^◌, ◌<◌, ◌≤◌, leb};
+ghost use Rattle.std.specs.Prelude.{◌≡◌, not, ◌+◌, ◌*◌, ◌^◌, ◌<◌, ◌≤◌, leb};
 ghost use Rattle.std.proofs.Math.Option.{some};
-ghost use Rattle.rules.specs.Text.{is_some, any};
+ghost use Rattle.rules.specs.Text.{any};
 ghost use Rattle.rules.specs.Engine.{limit, same_reference};
 ghost use Rattle.rules.specs.Calls.{first_of, own_reference, limit_stops};
-ghost use Rattle.rules.specs.Area.{holds, decode};
+ghost use Rattle.rules.specs.Area.{decode};
 ghost use Rattle.details.specs.Message.{message_in};
-ghost use Rattle.conditions.specs.Books.{Books, amount_if, misdated_by};
+ghost use Rattle.conditions.specs.Books.{Books, is_transfer, amount_if, misdated_by};
 ghost use Rattle.engine.specs.Totals.{TotalsOf, begun};
 ghost use Rattle.refusal.specs.Numbers.{stop_of};
 ghost use Rattle.state_conditions.specs.Limit.{over_by};
 ghost use Rattle.state_conditions.specs.Stops.{addition_by, rest_number};
 
-use conditions::Booking;
+use conditions::{Booking, Kind};
+use engine::{BankReference, Engine};
 use position::{LIMIT, Position};
 use refusal::Refusal;
 
 // 11: an MT103 not dated on the day, an MT101 dated after it?
 fn is_misdated(b: Booking, day: u32) -> bool
-    ensures { result ≡ misdated_by b.transfer b.key.date day }
+    ensures { result ≡ misdated_by (is_transfer b.kind) b.key.date day }
 {
-    let date = b.key.date;
-    if b.transfer {
-        return date != day;
+    match b.kind {
+        Kind::Transfer => b.key.date != day,
+        Kind::Order(_) => day < b.key.date,
     }
-    if date <= day {
-        return false;
-    }
-    true
 }
 
 // What a message adds to transferred.
 pub fn transferred_by(b: Booking) -> u64
-    ensures { result ≡ amount_if b.transfer b.amount }
+    ensures { result ≡ amount_if (is_transfer b.kind) b.amount }
 {
-    if b.transfer {
-        return b.amount;
+    match b.kind {
+        Kind::Transfer => b.amount,
+        Kind::Order(_) => 0,
     }
-    0
 }
 
 // What it adds to detailed.
 pub fn detailed_by(b: Booking) -> u64
-    ensures { result ≡ amount_if (not b.transfer) b.amount }
+    ensures { result ≡ amount_if (not (is_transfer b.kind)) b.amount }
 {
-    if b.transfer {
-        return 0;
+    match b.kind {
+        Kind::Transfer => 0,
+        Kind::Order(_) => b.amount,
     }
-    b.amount
 }
 
 // What it adds to its position.
@@ -88,7 +85,7 @@ fn is_over(t: Position, b: Booking) -> bool
 }
 
 // 14 or 15, the first that holds, with n positions open.
-fn rest_number(n: u32, before: Option<Position>, b: Booking) -> Result<(), Refusal>
+fn rest_stop(n: u32, before: Option<Position>, b: Booking) -> Result<(), Refusal>
     requires transferred_bound { (begun b.key before).transferred < 2 ^ 48 }
     requires detailed_bound { (begun b.key before).detailed < 2 ^ 48 }
     requires amount_bound { b.amount ≤ 16 * 10 ^ 16 }
@@ -111,36 +108,34 @@ fn rest_number(n: u32, before: Option<Position>, b: Booking) -> Result<(), Refus
 }
 
 // Was its field 20 accepted today from this sender?
-fn already_accepted(s: &[u8], area: &[u8], b: Booking) -> bool
-    requires area_value { is_some (holds area.now) ≡ true }
-    requires books { Books s.now (message_in s.now) b }
-    ensures { result ≡ any (same_reference (own_reference (message_in s.now))) (decode area.now).references }
+fn already_accepted(s: &[u8], engine: Engine, b: Booking) -> bool
+    requires { Books s.now (message_in s.now) b }
+    ensures { result ≡ any (same_reference (own_reference (message_in s.now))) (decode engine.entry.area.now).references }
 {
-    let p = b.reference;
-    engine::is_used(area, b.key.bank, &s[p.start as usize..p.end as usize])
+    let field = b.reference.of(s);
+    engine.is_used(BankReference::new(b.key.bank, field))
 }
 
 // 11 to 15, the first that holds, the message's position being open or missing.
-pub fn state_number(
+pub fn state_stop(
     s: &[u8],
-    area: &[u8],
+    engine: Engine,
     b: Booking,
     before: Option<Position>,
 ) -> Result<(), Refusal>
-    requires area_value { is_some (holds area.now) ≡ true }
     requires books { Books s.now (message_in s.now) b }
-    requires totals_of { TotalsOf (decode area.now).positions b.key before }
-    ensures { stop_of result ≡ first_of (limit_stops (decode area.now) (some (message_in s.now))) }
+    requires totals_of { TotalsOf (decode engine.area.now).positions b.key before }
+    ensures { stop_of result ≡ first_of (limit_stops (decode engine.entry.area.now) (some (message_in s.now))) }
 {
-    let h = engine::header_of(area);
+    let h = engine.header();
     if is_misdated(b, h.day) {
         return Err(Refusal::Misdated);
     }
-    if already_accepted(s, area, b) {
+    if already_accepted(s, engine, b) {
         return Err(Refusal::AlreadyAccepted);
     }
     if 64 <= h.references {
         return Err(Refusal::TooManyMessages);
     }
-    rest_number(h.positions, before, b)
+    rest_stop(h.positions, before, b)
 }

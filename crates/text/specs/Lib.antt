@@ -1,2 +1,4 @@
-pub mod Answers
-pub mod Numbers
+pub mod Backward
+pub mod Patterns
+pub mod Placing
+pub mod Order

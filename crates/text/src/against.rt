@@ -1,51 +1,46 @@
-// Two parts of one length compared with each other: equal bytes, and bytes against a pattern.
-ghost use Rattle.std.specs.Prelude.{◌≡◌, ◌+◌, ◌≤◌, length};
+// Two texts compared with each other: equal bytes, their order, and bytes against a pattern.
+ghost use Rattle.std.specs.Prelude.{◌≡◌, length, take};
 ghost use Rattle.rules.specs.Text.{equal, text_before, fits, fits_sign};
-ghost use Rattle.laws.specs.Parts.{cut};
 
 use crate::classes::{Alnum, Class, Digit, Letter};
 
-// Are the n bytes from a and the n bytes of t from b equal?
-pub fn equal_parts(s: &[u8], a: usize, t: &[u8], b: usize, n: u32) -> bool
-    requires left_in_bounds { a + n ≤ length s.now }
-    requires right_in_bounds { b + n ≤ length t.now }
-    ensures { result ≡ equal (cut s.now a (a + n)) (cut t.now b (b + n)) }
+// Are both texts equal?
+pub fn equal(s: &[u8], t: &[u8]) -> bool
+    ensures { result ≡ equal s.now t.now }
 {
-    s[a..a + n as usize] == t[b..b + n as usize]
+    s == t
 }
 
-// Are they equal? Compared from the last byte on.
-pub fn equal_from_end(s: &[u8], a: usize, t: &[u8], b: usize, n: u32) -> bool
-    requires left_in_bounds { a + n ≤ length s.now }
-    requires right_in_bounds { b + n ≤ length t.now }
-    ensures { result ≡ equal (cut s.now a (a + n)) (cut t.now b (b + n)) }
+// Are two texts of one length equal? Compared from the last byte on, where IBANs of one bank, codes and references of one sender differ: by `==` a message with 16 credited takes 608,019 instructions, of 515,000.
+pub fn equal_backward(s: &[u8], t: &[u8]) -> bool
+    requires { length s.now ≡ length t.now }
+    ensures { result ≡ equal s.now t.now }
 {
-    for k in (0..n).rev() {
-        if s[a + k as usize] != t[b + k as usize] {
+    for k in (0..s.len()).rev() {
+        if s[k] != t[k] {
             return false;
         }
     }
     true
 }
 
-// Are the bytes from a up to e and the bytes of t from b up to f equal?
-pub fn same_parts(s: &[u8], a: usize, e: usize, t: &[u8], b: usize, f: usize) -> bool
-    requires a_le_e { a ≤ e }
-    requires e_in_bounds { e ≤ length s.now }
-    requires b_le_f { b ≤ f }
-    requires f_in_bounds { f ≤ length t.now }
-    ensures { result ≡ equal (cut s.now a e) (cut t.now b f) }
+// Does the one text stand before the other, in byte order? By `<` of slices a refusal by 1 takes 111,581 instructions, of 110,000.
+pub fn precedes(s: &[u8], t: &[u8]) -> bool
+    ensures { result ≡ text_before s.now t.now }
 {
-    s[a..e] == t[b..f]
+    for k in 0..s.len().min(t.len()) {
+        if s[k] != t[k] {
+            return s[k] < t[k];
+        }
+    }
+    s.len() < t.len()
 }
 
-// Do the m bytes from a stand before the n bytes of t from b, in byte order?
-pub fn is_before(s: &[u8], a: usize, m: u32, t: &[u8], b: usize, n: u32) -> bool
-    requires m_in_bounds { a + m ≤ length s.now }
-    requires n_in_bounds { b + n ≤ length t.now }
-    ensures { result ≡ text_before (cut s.now a (a + m)) (cut t.now b (b + n)) }
+// Do the first bytes fit the pattern, as many as it has? Not where fewer are there.
+pub fn begins_as(pattern: &[u8], s: &[u8]) -> bool
+    ensures { result ≡ fits pattern.now (take (length pattern.now) s.now) }
 {
-    s[a..a + m as usize] < t[b..b + n as usize]
+    pattern.len() <= s.len() && pattern.iter().zip(s).all(|(p, c)| fits_sign(*p, *c))
 }
 
 // A byte against the sign of its place: n a digit, a a letter, c a letter or digit, any other sign itself.
@@ -58,26 +53,4 @@ pub fn fits_sign(p: u8, c: u8) -> bool
         b'c' => Alnum::has(c),
         _ => p == c,
     }
-}
-
-// Do the n bytes from a fit the n signs of p from b?
-fn fits_part(p: &[u8], b: usize, s: &[u8], a: usize, n: usize) -> bool
-    requires signs_in_bounds { b + n ≤ length p.now }
-    requires bytes_in_bounds { a + n ≤ length s.now }
-    ensures { result ≡ fits (cut p.now b (b + n)) (cut s.now a (a + n)) }
-{
-    for k in 0..n {
-        if !fits_sign(p[b + k], s[a + k]) {
-            return false;
-        }
-    }
-    true
-}
-
-// Do the bytes from at on fit the pattern, as many as it has? Not where fewer are left.
-pub fn fits_pattern(p: &[u8], s: &[u8], at: usize) -> bool
-    requires { at ≤ length s.now }
-    ensures { result ≡ fits p.now (cut s.now at (at + length p.now)) }
-{
-    p.len() <= s.len() - at && fits_part(p, 0, s, at, p.len())
 }

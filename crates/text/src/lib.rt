@@ -4,9 +4,7 @@
 mod against;
 mod classes;
 mod numbers;
-mod places;
 
-pub use against::{equal_from_end, equal_parts, fits_pattern, fits_sign, is_before, same_parts};
+pub use against::{begins_as, equal, equal_backward, fits_sign, precedes};
 pub use classes::{Alnum, Class, Digit, Letter, Text, is_all, is_run, leading};
-pub use numbers::{digits_value, number_at, read_be, read_digits, small_digits, with_digit};
-pub use places::leading_at;
+pub use numbers::{big_endian, read_digits, small_value, value_of};

@@ -3,7 +3,9 @@
 
 use conditions::Booking;
 use forms::{DETAIL_21, Span};
+use lines::{LineReader, Message};
 use refusal::Refusal;
+use register::Register;
 use std::io::{self, Read};
 use verdict::{Judged, NO_DETAIL};
 
@@ -16,32 +18,24 @@ fn say_part(rt: &impl Print, s: &[u8], p: Span) -> io::Result<()> {
     Ok(())
 }
 
-// The details from first on: field 21's line, and the amount that is kept.
-fn say_details(rt: &impl Print, s: &[u8], kept: &[Judged], first: usize) -> io::Result<()> {
-    let mut at = first;
+// The details that the reader comes to: field 21's line, and the amount that is kept.
+fn say_details(rt: &impl Print, reader: &mut LineReader, kept: &[Judged]) -> io::Result<()> {
     for judged in kept {
-        if s.len() < at || 4096 < s.len() {
-            return Ok(());
-        }
-        let Some(d) = forms::read_detail(s, at) else {
+        let text = reader.text;
+        let Some(d) = forms::read_detail(reader) else {
             return Ok(());
         };
-        say_part(rt, s, d.spans[DETAIL_21])?;
+        say_part(rt, text, d.spans[DETAIL_21])?;
         print!(rt; " {}", judged.detail.amount)?;
-        at = d.next;
     }
     Ok(())
 }
 
-// Where the details of an MT101 begin, behind its field 20.
-fn first_detail(s: &[u8]) -> usize {
-    if s.len() < 23 || 4096 < s.len() {
-        return 0;
-    }
-    match forms::read_rows(s, 23, 0, 1) {
-        Some(rows) => rows.next,
-        None => 0,
-    }
+// The reader of an MT101 behind its field 20, where the details begin.
+fn behind_field_20(s: &[u8]) -> Option<LineReader<'_>> {
+    let mut reader = Message::framed(s)?.body();
+    forms::read_rows(&mut reader, 0, 1)?;
+    Some(reader)
 }
 
 // The answer of the check, and the details that it kept.
@@ -57,8 +51,11 @@ fn say_checked(
             print!(rt; " 0")?;
             say_part(rt, s, b.reference)?;
             print!(rt; " {} {}", b.key.date, b.amount)?;
-            let n = kept.len().min(b.count as usize);
-            say_details(rt, s, &kept[..n], first_detail(s))
+            let n = kept.len().min(b.count() as usize);
+            match behind_field_20(s) {
+                Some(mut reader) => say_details(rt, &mut reader, &kept[..n]),
+                None => Ok(()),
+            }
         }
     }
 }
@@ -67,7 +64,7 @@ fn say_checked(
 fn say_message(rt: &impl Print, s: &[u8], text: &[u8]) -> io::Result<()> {
     let mut kept = [NO_DETAIL; 16];
     if register::register_passes(text) {
-        let r = conditions::check_message(s, text, &mut kept);
+        let r = conditions::check_message(s, Register::passed(text), &mut kept);
         say_checked(rt, s, r, &kept)?;
     }
     Ok(())

@@ -3,6 +3,8 @@
 
 ghost use Rattle.std.specs.Prelude.{◌≡◌, ◌+◌, length};
 
+use register::Register;
+use std::fmt;
 use std::io::{self, Read};
 use verdict::{Cause, Verdict};
 
@@ -14,25 +16,38 @@ fn until<'a>(s: &'a [u8], stops: &[u8]) -> (&'a [u8], &'a [u8])
     s.split_at(n)
 }
 
-// The cause of a return.
-fn cause_says(c: Cause) -> &'static str {
-    match c {
-        Cause::WrongShape => "shape",
-        Cause::WrongControl => "control",
-        Cause::NotInRegister => "not in the register",
-        Cause::OutOfBounds => "outside its bounds",
+// The cause of a return, as it is printed.
+#[derive(Clone, Copy)]
+struct Said(Cause);
+
+impl fmt::Display for Said {
+    fn fmt<W: fmt::Write>(&self, f: &mut fmt::Formatter<W>) -> fmt::Result {
+        match self.0 {
+            Cause::WrongShape => write!(f, "shape"),
+            Cause::WrongControl => write!(f, "control"),
+            Cause::NotInRegister => write!(f, "not in the register"),
+            Cause::OutOfBounds => write!(f, "outside its bounds"),
+        }
     }
 }
 
-// A verdict.
-fn say_verdict(rt: &impl Print, v: Verdict) -> io::Result<()> {
-    match v {
-        Verdict::Credited(i) => print!(rt; "credited to line {i}"),
-        Verdict::CreditedByCode(i, c) => {
-            let cause = cause_says(c);
-            print!(rt; "credited by its code to line {i}, not returned: {cause}")
+// A verdict, as it is printed.
+#[derive(Clone, Copy)]
+struct Judged(Verdict);
+
+impl fmt::Display for Judged {
+    fn fmt<W: fmt::Write>(&self, f: &mut fmt::Formatter<W>) -> fmt::Result {
+        match self.0 {
+            Verdict::Credited(i) => write!(f, "credited to line {i}"),
+            Verdict::CreditedByCode(i, c) => {
+                write!(
+                    f,
+                    "credited by its code to line {i}, not returned: {}",
+                    Said(c)
+                )
+            }
+            Verdict::Returned(c) => write!(f, "returned: {}", Said(c)),
         }
-        Verdict::Returned(c) => print!(rt; "returned: {}", cause_says(c)),
     }
 }
 
@@ -41,8 +56,9 @@ fn try_field(rt: &impl Print, text: &[u8], line: &[u8]) -> io::Result<()> {
     if register::register_passes(text) {
         let (field, others) = until(line, b"|");
         let code = others.strip_prefix(b"|").unwrap_or(others);
-        let v = verdict::judge(text, field, 0, field.len());
-        say_verdict(rt, verdict::by_code(text, code, v, 0, code.len()))?;
+        let register = Register::passed(text);
+        let v = verdict::judge(register, field);
+        print!(rt; "{}", Judged(verdict::by_code(register, v, code)))?;
     } else {
         rt.write_all(b"no register")?;
     }

@@ -5,6 +5,7 @@ ghost use Rattle.std.specs.Prelude.{◌≤◌, length};
 
 use outgoing_number::Reference;
 use position::{Key, Position};
+use put::Writer;
 use std::io;
 use written::Book;
 
@@ -16,32 +17,39 @@ fn say(rt: &impl Print, out: &[u8], n: usize) -> io::Result<()> {
     Ok(())
 }
 
+// What the posting lines of a call share, by the bank's BIC.
+fn book_of(day: u32, bic: [u8; 8], date: u32) -> Book {
+    Book {
+        day,
+        key: Key {
+            bank: u64::from_be_bytes(bic),
+            date,
+        },
+    }
+}
+
 // Transfer, credit and return of the listing.
 fn try_postings(rt: &impl Print) -> io::Result<()> {
     let mut out = [0u8; 256];
-    let book = Book {
-        day: 60302,
-        key: Key {
-            bank: u64::from_be_bytes(*b"AAAABGSF"),
-            date: 60302,
-        },
-    };
-    let a = written::put_from_bank(&mut out, 0, book, b"BG80BNBG96611020345678", 10000);
-    let b = written::put_to_account(
-        &mut out,
-        a,
+    let mut w = Writer::new(&mut out);
+    let book = book_of(60302, *b"AAAABGSF", 60302);
+    written::put_from_bank(&mut w, book, b"BG80BNBG96611020345678", 10000);
+    written::put_to_account(
+        &mut w,
         book,
         b"BG80BNBG96611020345678",
         b"BG56BNBG96613000000001",
         6000,
     );
-    let c = written::put_to_bank(&mut out, b, book, b"BG80BNBG96611020345678", 5400);
-    say(rt, &out, c)
+    written::put_to_bank(&mut w, book, b"BG80BNBG96611020345678", 5400);
+    let n = w.at;
+    say(rt, &out, n)
 }
 
 // A turn to 040607.
 fn try_turn(rt: &impl Print) -> io::Result<()> {
     let mut out = [0u8; 1024];
+    let mut w = Writer::new(&mut out);
     let bank = u64::from_be_bytes(*b"ZHSRPL8S");
     let p = Position {
         key: Key { bank, date: 40305 },
@@ -53,47 +61,52 @@ fn try_turn(rt: &impl Print) -> io::Result<()> {
         transferred: 766367971,
         detailed: 2,
     };
-    let a = written::put_correction_posting(&mut out, 0, 40607, b"BG18BNBG96611633648985", p);
-    let b = written::put_correction_posting(&mut out, a, 40607, b"BG18BNBG96611633648985", q);
+    written::put_correction_posting(&mut w, 40607, b"BG18BNBG96611633648985", p);
+    written::put_correction_posting(&mut w, 40607, b"BG18BNBG96611633648985", q);
     let r = Reference {
         day: 40607,
         number: 1,
     };
-    let c = written::put_correction(&mut out, b, r, b"BG18BNBG96611633648985", p);
+    written::put_correction(&mut w, r, b"BG18BNBG96611633648985", p);
     let s = Reference {
         day: 40607,
         number: 2,
     };
-    let d = written::put_correction(&mut out, c, s, b"BG18BNBG96611633648985", q);
-    say(rt, &out, d)
+    written::put_correction(&mut w, s, b"BG18BNBG96611633648985", q);
+    let n = w.at;
+    say(rt, &out, n)
 }
 
 // The listing's MT199, without its returned detail.
 fn try_only_part(rt: &impl Print) -> io::Result<()> {
     let mut out = [0u8; 256];
+    let mut w = Writer::new(&mut out);
     let bank = u64::from_be_bytes(*b"AAAABGSF");
     let r = Reference {
         day: 60302,
         number: 1,
     };
-    let a = written::put_opened199(&mut out, 0, r, 1, bank, 1);
-    let b = written::put_position79(&mut out, a, 60302, 10000, 11400);
-    let c = written::put_closed79(&mut out, b, 1, 1);
-    say(rt, &out, c)
+    written::put_opened199(&mut w, r, 1, bank, 1);
+    written::put_position79(&mut w, 60302, 10000, 11400);
+    written::put_closed79(&mut w, 1, 1);
+    let n = w.at;
+    say(rt, &out, n)
 }
 
 // The second part of an MT199 whose first is 000003.
 fn try_second_part(rt: &impl Print) -> io::Result<()> {
     let mut out = [0u8; 256];
+    let mut w = Writer::new(&mut out);
     let bank = u64::from_be_bytes(*b"FBBMXFIK");
     let r = Reference {
         day: 51108,
         number: 4,
     };
-    let a = written::put_opened199(&mut out, 0, r, 3, bank, 2);
-    let b = written::put_position79(&mut out, a, 51108, 0, 39876122005479);
-    let c = written::put_closed79(&mut out, b, 2, 2);
-    say(rt, &out, c)
+    written::put_opened199(&mut w, r, 3, bank, 2);
+    written::put_position79(&mut w, 51108, 0, 39876122005479);
+    written::put_closed79(&mut w, 2, 2);
+    let n = w.at;
+    say(rt, &out, n)
 }
 
 // A return, by its number and amount and the lines of 52D and 50H.
@@ -109,19 +122,15 @@ fn say_return(
     requires { 22 ≤ length temporary.now }
 {
     let mut out = [0u8; 512];
-    let a = written::put_return(&mut out, 0, book, temporary, n, v, lines52d, lines50h);
-    say(rt, &out, a)
+    let mut w = Writer::new(&mut out);
+    written::put_return(&mut w, book, temporary, n, v, lines52d, lines50h);
+    let n = w.at;
+    say(rt, &out, n)
 }
 
 // The return of the listing.
 fn try_return(rt: &impl Print) -> io::Result<()> {
-    let book = Book {
-        day: 60302,
-        key: Key {
-            bank: u64::from_be_bytes(*b"AAAABGSF"),
-            date: 60302,
-        },
-    };
+    let book = book_of(60302, *b"AAAABGSF", 60302);
     say_return(
         rt,
         book,
@@ -135,13 +144,7 @@ fn try_return(rt: &impl Print) -> io::Result<()> {
 
 // Five stotinki, returned on a later day than the centralisation date, from another temporary account, to a payer of three further lines.
 fn try_small_return(rt: &impl Print) -> io::Result<()> {
-    let book = Book {
-        day: 40607,
-        key: Key {
-            bank: u64::from_be_bytes(*b"ZHSRPL8S"),
-            date: 40305,
-        },
-    };
+    let book = book_of(40607, *b"ZHSRPL8S", 40305);
     say_return(
         rt,
         book,
@@ -155,13 +158,7 @@ fn try_small_return(rt: &impl Print) -> io::Result<()> {
 
 // The largest amount of 15 characters, to a branch and a payer whose lines have bytes up to 255.
 fn try_large_return(rt: &impl Print) -> io::Result<()> {
-    let book = Book {
-        day: 51108,
-        key: Key {
-            bank: u64::from_be_bytes(*b"FBBMXFIK"),
-            date: 51107,
-        },
-    };
+    let book = book_of(51108, *b"FBBMXFIK", 51107);
     say_return(
         rt,
         book,

@@ -7,12 +7,12 @@ use Rattle.rules.specs.Engine.{Position, has_details}
 use Rattle.rules.specs.Written.{corrected, correction_posting, correction, correction_postings, corrections, corrected_count}
 use Rattle.rules.specs.Register.{register_of}
 use Rattle.rules.specs.Area.{decode, positions_place, record_size}
-use Rattle.laws.specs.Writing.{Wrote, Left, left_turn, left_none, furthest}
-use Rattle.laws.specs.Pieces.{left_all}
+use Rattle.laws.specs.Writing.{furthest}
+use Rattle.put.specs.declared.parts.Writer.{Writer}
+use Rattle.put.specs.Writes.{Writes, Unwritten, unwritten_all, unwritten_turn, unwritten_none}
 use Rattle.engine_laws.specs.Decoded.{decoded_room}
 use Rattle.position.specs.Values.{position_value}
 use Rattle.position.specs.declared.Position as P
-use Rattle.outgoing_number.specs.declared.Numbered.{Numbered}
 use Rattle.outgoing_number.specs.declared.Outgoing.{Outgoing}
 use Rattle.outgoing_number.specs.declared.Reference.{Reference}
 use Rattle.outgoing_number.specs.Issue.{Steps}
@@ -47,25 +47,22 @@ module _ (area : List ℕ) (n : ℕ) where
 -- ---- the posting lines
 
 -- those of the positions from the i-th on are left to write
-pub record PostingsLeft (day : ℕ) (t area : List ℕ) (n at : ℕ) (start : List ℕ) (i o : ℕ) (out : List ℕ) : Type 0 where
-  pub text : Left (correction_postings day t (rest area n i)) o out (correction_postings day t (positions_from area 0 n)) at start
+pub record PostingsLeft (day : ℕ) (t area : List ℕ) (n : ℕ) (start : Writer) (i : ℕ) (w : Writer) : Type 0 where
+  pub text : Unwritten (correction_postings day t (rest area n i)) w (correction_postings day t (positions_from area 0 n)) start
 
-pub postings_all : (day : ℕ) (t area : List ℕ) (n at : ℕ) {start : List ℕ} → length start ≤ furthest → PostingsLeft day t area n at start 0 at start
-postings_all day t area n at h = record { text = rw (rest_all area n) (left_all _ h) }
-
-module _ {day : ℕ} {t area : List ℕ} {n at i o : ℕ} {start out : List ℕ} (l : PostingsLeft day t area n at start i o out) where
+module _ {day : ℕ} {t area : List ℕ} {n i : ℕ} {start w : Writer} (l : PostingsLeft day t area n start i w) where
   module _ (h : i < n) {q : P.Position} (r : PositionAt area (positions_place + record_size * i) q) where
-    pub postings_more : true ≡ corrected (position_value q) → {o' : ℕ} {out' : List ℕ} → Wrote (correction_posting day t (position_value q)) o out o' out' → PostingsLeft day t area n at start (i + 1) o' out'
+    pub postings_more : true ≡ corrected (position_value q) → {w' : Writer} → Writes (correction_posting day t (position_value q)) w w' → PostingsLeft day t area n start (i + 1) w'
     unfolding correction_postings
-    postings_more u w = record { text = left_turn (rw (rest_next area n h, ← r.value, ← u) at l.text) w }
+    postings_more u v = record { text = unwritten_turn (rw (rest_next area n h, ← r.value, ← u) at l.text) v }
 
-    pub postings_skip : false ≡ corrected (position_value q) → PostingsLeft day t area n at start (i + 1) o out
+    pub postings_skip : false ≡ corrected (position_value q) → PostingsLeft day t area n start (i + 1) w
     unfolding correction_postings
     postings_skip u = record { text = rw (rest_next area n h, ← r.value, ← u) at l.text }
 
-  pub postings_end : n ≤ i → Wrote (correction_postings day t (positions_from area 0 n)) at start o out
+  pub postings_end : (decode area).positions ≡ positions_from area 0 n → n ≤ i → Writes (correction_postings day t (decode area).positions) start w
   unfolding correction_postings
-  postings_end h = left_none (rw (rest_none area n h) at l.text)
+  postings_end e h = rw e (unwritten_none (rw (rest_none area n h) at l.text))
 
 -- ---- the messages
 
@@ -73,34 +70,31 @@ module _ {day : ℕ} {t area : List ℕ} {n at i o : ℕ} {start out : List ℕ}
 abbrev pub temporary_at : List ℕ → List ℕ
 temporary_at area = (register_of (decode area).register).temporary
 
--- the messages of the n positions, and the count that they came to
-pub record CorrectionsPut (day n : ℕ) (area : List ℕ) (at : ℕ) (start : List ℕ) (r : Numbered) (out : List ℕ) : Type 0 where
-  pub wrote : Wrote (corrections day (temporary_at area) 0 (positions_from area 0 n)) at start r.at out
-  pub count : r.count ≡ corrected_count (positions_from area 0 n)
+-- the messages of the positions, and the count that they came to
+pub record CorrectionsPut (day : ℕ) (area : List ℕ) (old : Writer) (count : ℕ) (new : Writer) : Type 0 where
+  pub writes : Writes (corrections day (temporary_at area) 0 (decode area).positions) old new
+  pub counted : count ≡ corrected_count (decode area).positions
 
 -- by the outgoing number as it is kept, the messages of the positions from the i-th on are left to write
-pub record CorrectionsLeft (day n : ℕ) (area : List ℕ) (at : ℕ) (start : List ℕ) (i : ℕ) (x : Outgoing) (o : ℕ) (out : List ℕ) : Type 0 where
+pub record CorrectionsLeft (day n : ℕ) (area : List ℕ) (start : Writer) (i : ℕ) (x : Outgoing) (w : Writer) : Type 0 where
   pub on_day : x.day ≡ day
   pub few : x.count ≤ i
   pub count : x.count + corrected_count (rest area n i) ≡ corrected_count (positions_from area 0 n)
-  pub text : Left (corrections day (temporary_at area) x.count (rest area n i)) o out (corrections day (temporary_at area) 0 (positions_from area 0 n)) at start
+  pub text : Unwritten (corrections day (temporary_at area) x.count (rest area n i)) w (corrections day (temporary_at area) 0 (positions_from area 0 n)) start
 
-pub corrections_all : (day n : ℕ) (area : List ℕ) (at : ℕ) {start : List ℕ} → length start ≤ furthest → CorrectionsLeft day n area at start 0 (record { day = day; count = 0 }) at start
-corrections_all day n area at h = record { on_day = refl; few = omega arith; count = rw (rest_all area n) (omega arith); text = rw (rest_all area n) (left_all _ h) }
-
-module _ {day n : ℕ} {area : List ℕ} {at : ℕ} {start : List ℕ} {i : ℕ} {x : Outgoing} {o : ℕ} {out : List ℕ} (l : CorrectionsLeft day n area at start i x o out) where
+module _ {day n : ℕ} {area : List ℕ} {start : Writer} {i : ℕ} {x : Outgoing} {w : Writer} (l : CorrectionsLeft day n area start i x w) where
   module _ (h : i < n) {q : P.Position} (p : PositionAt area (positions_place + record_size * i) q) where
     pub corrections_more : true ≡ corrected (position_value q) → {r : Reference} {x' : Outgoing} → Steps x r x' → {t : List ℕ} → t ≡ temporary_at area
-        → {o' : ℕ} {out' : List ℕ} → Wrote (correction r.day t r.number (position_value q)) o out o' out' → CorrectionsLeft day n area at start (i + 1) x' o' out'
+        → {w' : Writer} → Writes (correction r.day t r.number (position_value q)) w w' → CorrectionsLeft day n area start (i + 1) x' w'
     unfolding corrections corrected_count
-    corrections_more u s e w = rw s.kept record {
+    corrections_more u s e v = rw s.kept record {
       on_day = l.on_day;
       few = omega (arith, l.few);
       count = omega (arith, rw (rest_next area n h, ← p.value, ← u) at l.count);
-      text = left_turn (rw (rest_next area n h, ← p.value, ← u) at l.text) (rw (s.reference, l.on_day, e) at w);
+      text = unwritten_turn (rw (rest_next area n h, ← p.value, ← u) at l.text) (rw (s.reference, l.on_day, e) at v);
     }
 
-    pub corrections_skip : false ≡ corrected (position_value q) → CorrectionsLeft day n area at start (i + 1) x o out
+    pub corrections_skip : false ≡ corrected (position_value q) → CorrectionsLeft day n area start (i + 1) x w
     unfolding corrections corrected_count
     corrections_skip u = record {
       on_day = l.on_day;
@@ -109,8 +103,8 @@ module _ {day n : ℕ} {area : List ℕ} {at : ℕ} {start : List ℕ} {i : ℕ}
       text = rw (rest_next area n h, ← p.value, ← u) at l.text;
     }
 
-  pub corrections_end : n ≤ i → CorrectionsPut day n area at start (record { at = o; count = x.count }) out
+  pub corrections_end : (decode area).positions ≡ positions_from area 0 n → n ≤ i → CorrectionsPut day area start x.count w
   unfolding corrections corrected_count
-  corrections_end h = record { wrote = left_none (rw (rest_none area n h) at l.text); count = omega (arith, rw (rest_none area n h) at l.count) }
+  corrections_end e h = record { writes = rw e (unwritten_none (rw (rest_none area n h) at l.text)); counted = rw e (omega (arith, rw (rest_none area n h) at l.count)) }
 
 pub ruleset turning = (decoded_room, corrected_none, corrected_told)

@@ -1,12 +1,10 @@
 // What a turn refunds and collects.
-ghost use Rattle.std.specs.Prelude.{◌≡◌, true, ◌+◌, ◌^◌, ◌<◌, ◌≤◌, length};
-ghost use Rattle.rules.specs.Text.{is_some};
-ghost use Rattle.rules.specs.Area.{decode, holds, texts_place};
+ghost use Rattle.std.specs.Prelude.{◌+◌, ◌^◌, ◌<◌};
+ghost use Rattle.rules.specs.Area.{decode};
 ghost use Rattle.position.specs.Values.{position_value};
-ghost use Rattle.engine.specs.Positions.{positions_from};
 ghost use Rattle.turn_text.specs.Sums.{SumsOf};
 
-use engine::{header_of, nth_position};
+use engine::Engine;
 use position::Position;
 
 // The sums of a turn.
@@ -37,27 +35,17 @@ impl Sums {
     }
 }
 
-// The sums of the first n positions.
-fn sums_of(area: &[u8], n: u32) -> Sums
-    requires n_bound { n ≤ 32 }
-    requires texts_place_in_bounds { texts_place ≤ length area.now }
-    ensures { SumsOf (positions_from area.now 0 n) result }
+// The sums of a turn.
+pub fn turn_sums(engine: Engine) -> Sums
+    ensures { SumsOf (decode engine.entry.area.now).positions result }
 {
+    let n = engine.header().positions;
     let mut s = Sums {
         refunded: 0,
         collected: 0,
     };
     for i in 0..n {
-        s = s.with_position(nth_position(area, i));
+        s = s.with_position(engine.position(i));
     }
     s
-}
-
-// The sums of a turn.
-pub fn turn_sums(area: &[u8]) -> Sums
-    requires { is_some (holds area.now) ≡ true }
-    ensures { SumsOf (decode area.now).positions result }
-{
-    let h = header_of(area);
-    sums_of(area, h.positions)
 }

@@ -1,21 +1,22 @@
 -- The details of a message with their verdicts, as the code holds them.
-use Rattle.std.specs.Prelude.{◌≡◌, true, false, List, ℕ, ◌<◌, ◌≤◌, length, get_or, set}
-use Rattle.std.proofs.Common.{ap, ◌∙◌, arith, get_or-set_same, get_or-set_other}
+use Rattle.std.specs.Prelude.{◌≡◌, refl, true, false, List, ℕ, zero, suc, ◌<◌, ◌≤◌, length, get_or, set}
+use Rattle.std.proofs.Common.{arith, get_or-set_same, get_or-set_other}
+use Rattle.std.proofs.Math.Logic.{∥∥₁_elim}
+use Rattle.std.proofs.Math.Option.{Option, none, some}
+use Rattle.std.proofs.Props.{props}
 use Rattle.std.proofs.lemmas.List.{get_or_default}
 use Rattle.rules.specs.Text.{is_some}
 use Rattle.rules.specs.Messages as M
 use Rattle.rules.specs.Calls as C
 use Rattle.rules.specs.Forms.{detail_code, detail59}
-use Rattle.rules.specs.Messages.{past}
+use Rattle.rules.specs.Messages.{Message, read, details_of, past}
 use Rattle.rules.specs.Register.{register, register_of}
-use Rattle.rules.specs.Verdict as paper
+use Rattle.rule_laws.specs.Messages.{DetailRead, DetailsRead, DetailsRead.last, DetailsRead.more, ReadAs, ReadAs.transfer, ReadAs.order, read_as}
 use Rattle.rules.specs.Verdict.{verdict, by_code, is_returned, is_listed199}
-use Rattle.forms.specs.Spans.{span_of, no_span, SpanIn, span_line}
-use Rattle.forms.specs.Fields.{Behind, behind_in, behind_bytes}
+use Rattle.forms.specs.Spans.{span_of, no_span, span_line}
 use Rattle.forms.specs.Details.{DetailAt, detail_in}
-use Rattle.forms.specs.declared.rows.Span.{Span}
 use Rattle.forms.specs.declared.detail.Detail.{Detail}
-use Rattle.details.specs.Message.{details_in, detail_at}
+use Rattle.details.specs.Message.{or_none, message_in, details_in, detail_at}
 use Rattle.details.specs.Kept.{KeptOf, kept_of, kept_told}
 use Rattle.verdict.specs.Answers.{verdict_of}
 use Rattle.verdict.specs.declared.Cause.TheVariants.{WrongShape}
@@ -46,6 +47,46 @@ pub record KeptIn (s : List ℕ) (kept : List Judged) : Type 0 where
 pub record JudgedIn (text s : List ℕ) (kept : List Judged) : Type 0 where
   pub kept_in : KeptIn s kept
   pub verdicts : (i : ℕ) → i < length kept → verdict_of (judged_at kept i).verdict ≡ C.verdict_of (register_of text) (detail_at (details_in s) i)
+
+-- ---- that they are kept has one proof at most, but for how each was read, and that is told by the message
+
+details_each : {ds : List M.Detail} → DetailsRead ds → (i : ℕ) → i < length ds → DetailRead (detail_at ds i)
+details_each (last d) zero h = d
+details_each (last d) (suc i) h = absurd (omega arith)
+details_each (more d r) zero h = d
+details_each (more d r) (suc i) h = details_each r i (omega arith)
+
+detail_of_read : {s : List ℕ} {m : Message} → ReadAs s m → (i : ℕ) → i < length (details_of m) → DetailRead (detail_at (details_of m) i)
+unfolding details_of
+detail_of_read (transfer t) i h = absurd (omega arith)
+detail_of_read (order o) i h = details_each o.details i h
+
+detail_told : (s : List ℕ) (i : ℕ) → i < length (details_in s) → DetailRead (detail_at (details_in s) i)
+unfolding message_in or_none details_of
+detail_told s = go (read s) refl
+  where
+    go : (o : Option Message) → read s ≡ o → (i : ℕ) → i < length (details_of (or_none o)) → DetailRead (detail_at (details_of (or_none o)) i)
+    go none e i h = absurd (omega arith)
+    go (some m) e i h = detail_of_read (read_as s m e) i h
+
+module _ (s : List ℕ) (kept : List Judged) (t : ∥ KeptIn s kept ∥₁) where
+  same_count : length kept ≡ length (details_in s)
+  same_count = ∥∥₁_elim t (hlevel props) (λ k. k.count)
+
+  pub kept_in : KeptIn s kept
+  kept_in = record {
+    count = same_count;
+    few = ∥∥₁_elim t (hlevel props) (λ k. k.few);
+    each = λ i h. record {
+      read = detail_told s i (omega (arith, same_count));
+      amount = ∥∥₁_elim t (hlevel props) (λ k. (k.each i h).amount);
+      reference = ∥∥₁_elim t (hlevel props) (λ k. (k.each i h).reference);
+      payer = ∥∥₁_elim t (hlevel props) (λ k. (k.each i h).payer);
+      branch = ∥∥₁_elim t (hlevel props) (λ k. (k.each i h).branch);
+      account = ∥∥₁_elim t (hlevel props) (λ k. (k.each i h).account);
+      baeref = ∥∥₁_elim t (hlevel props) (λ k. (k.each i h).baeref);
+    };
+  }
 
 -- each, read with any value behind the last
 module _ (s : List ℕ) (kept : List Judged) (k : KeptIn s kept) (i : ℕ) (h : i < length kept) (other : Judged) where
@@ -80,17 +121,6 @@ module _ (text s : List ℕ) (d : Detail) {at : ℕ} (w : DetailAt s at d) {v : 
 
 pub kept_other : (text s : List ℕ) (kept : List Judged) (n : ℕ) (j : Judged) (e : M.Detail) (i : ℕ) → i < n → JudgedAs text s e (judged_at kept i) → JudgedAs text s e (judged_at (set kept n j) i)
 kept_other text s kept n j e i l k = rw (get_or-set_other kept n i j no_judged (λ z. omega arith)) k
-
--- ---- 59's line, and that with the code
-
-module _ (s : List ℕ) (p q : Span) (w : SpanIn s p) (b : Behind p 5 q) where
-  pub account_in_lem : SpanIn s q
-  account_in_lem = behind_in s p 5 w q b
-
-  pub verdict_behind : (text code : List ℕ) {u : paper.Verdict} (v : Verdict) → u ≡ verdict (register_of text) (span_of s q) → verdict_of v ≡ by_code (register_of text) code u → verdict_of v ≡ by_code (register_of text) code (verdict (register_of text) (past ":59:/" (span_of s p)))
-  verdict_behind text code v f g = g ∙ ap (by_code (register_of text) code) (f ∙ ap (verdict (register_of text)) (behind_bytes s p 5 w q b))
-
-pub ruleset detailing = (account_in_lem, verdict_behind)
 
 -- ---- is it listed? is it returned?
 

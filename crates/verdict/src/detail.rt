@@ -1,24 +1,24 @@
 // A detail with its verdict.
-ghost use Rattle.std.specs.Prelude.{◌≡◌, true, ◌<◌, slice_set};
-ghost use Rattle.rules.specs.Text.{is_some};
+ghost use Rattle.std.specs.Prelude.{◌≡◌, ◌<◌, slice_set};
 ghost use Rattle.rules.specs.Messages.{past};
-ghost use Rattle.rules.specs.Register.{register, register_of};
+ghost use Rattle.rules.specs.Register.{register_of};
 ghost use Rattle.rules.specs.Verdict.{verdict, by_code};
-ghost use Rattle.forms.specs.Spans.{span_of, SpanIn};
 ghost use Rattle.details.specs.Kept.{kept_of};
 ghost use Rattle.verdict.specs.Answers.{verdict_of};
 
 use crate::{Cause, Verdict, by_code, judge};
 use details::Kept;
 use forms::{Detail, Span, behind};
+use register::Register;
 
-// What is kept of a detail, and its verdict.
+// What is kept of a detail, and its verdict. That all of them are a message's is a clause (`KeptIn`): an array of a type with the message in it would hold its slice 16 times.
 #[derive(Clone, Copy)]
 pub struct Judged {
     pub detail: Kept,
     pub verdict: Verdict,
 }
 
+// The line of a detail that is not there.
 const NO_LINE: Span = Span { start: 0, end: 0 };
 
 // What stands where no detail is kept.
@@ -35,15 +35,11 @@ pub const NO_DETAIL: Judged = Judged {
 };
 
 // A detail judged by 59's line, and by the second line behind 50H's account.
-pub fn judge_line(text: &[u8], s: &[u8], account: Span, code: Span) -> Verdict
-    requires text_passes { is_some (register text.now) ≡ true }
-    requires account_within { SpanIn s.now account }
-    requires code_within { SpanIn s.now code }
-    ensures { verdict_of result ≡ by_code (register_of text.now) (span_of s.now code) (verdict (register_of text.now) (past ":59:/" (span_of s.now account))) }
+pub fn judge_line(register: Register, account: &[u8], code: &[u8]) -> Verdict
+    ensures { verdict_of result ≡ by_code (register_of register.entry.text.now) code.now (verdict (register_of register.entry.text.now) (past ":59:/" account.now)) }
 {
-    let p = behind(account, 5);
-    let v = judge(text, s, p.start as usize, p.end as usize);
-    by_code(text, s, v, code.start as usize, code.end as usize)
+    let v = judge(register, behind(account, 5));
+    by_code(register, v, code)
 }
 
 // Detail i is kept with its verdict.

@@ -2,15 +2,18 @@
 #![tactic(auto)]
 
 mod detail;
+mod message;
 
-ghost use Rattle.std.specs.Prelude.{◌≡◌, true, ◌<◌, ◌≤◌, length};
-ghost use Rattle.rules.specs.Text.{is_some};
-ghost use Rattle.rules.specs.Register.{register, register_of};
+ghost use Rattle.std.specs.Prelude.{◌≡◌, ◌||◌, true, [], ◌<◌, length};
+ghost use Rattle.rules.specs.Text.{ascii, equal, fits};
+ghost use Rattle.rules.specs.Register.{register_of};
 ghost use Rattle.rules.specs.Verdict.{account_at, shaped, in_bounds, verdict, by_code, is_returned, is_listed199};
-ghost use Rattle.laws.specs.Parts.{cut};
 ghost use Rattle.verdict.specs.Answers.{verdict_of};
 
 pub use detail::{Judged, NO_DETAIL, judge_line, keep};
+pub use message::Details;
+use register::Register;
+use text::begins_as;
 
 // Why a detail is returned: the first cause that holds.
 #[derive(Clone, Copy, PartialEq, Eq)]
@@ -29,9 +32,9 @@ pub enum Cause {
 #[derive(Clone, Copy, PartialEq, Eq)]
 pub enum Verdict {
     // Credited: the account line found, counted from 0.
-    Credited(usize),
+    Credited(u8),
     // Credited by its code: the account line found, and the cause for which it would have been returned.
-    CreditedByCode(usize, Cause),
+    CreditedByCode(u8, Cause),
     // Returned: the cause.
     Returned(Cause),
 }
@@ -62,60 +65,53 @@ impl Verdict {
     }
 }
 
-// Is the part an IBAN, alone or followed by `PAY` and six digits?
-fn is_shaped(s: &[u8], a: usize, b: usize) -> bool
-    requires a_le_b { a ≤ b }
-    requires b_in_bounds { b ≤ length s.now }
-    ensures { result ≡ shaped (cut s.now a b) }
+// Is what stands behind an IBAN nothing, or `PAY` and six digits?
+fn is_code_or_nothing(rest: &[u8]) -> bool
+    ensures { result ≡ (equal rest.now [] || fits (ascii "PAYnnnnnn") rest.now) }
 {
-    let n = b - a;
-    if n == 22 {
-        return account::iban_shape(&s[a..a + 22]);
+    if rest.is_empty() {
+        return true;
     }
-    if n != 31 {
+    rest.len() == 9 && begins_as(b"PAYnnnnnn", rest)
+}
+
+// Is the part an IBAN, alone or followed by `PAY` and six digits?
+fn is_shaped(part: &[u8]) -> bool
+    ensures { result ≡ shaped part.now }
+{
+    if part.len() < 22 {
         return false;
     }
-    if account::iban_shape(&s[a..a + 22]) {
-        return text::fits_pattern(b"PAYnnnnnn", s, a + 22);
-    }
-    false
+    account::iban_shape(&part[..22]) && is_code_or_nothing(&part[22..])
 }
 
 // Is the code behind the IBAN within the bounds of account line i? A missing code is.
-fn is_in_bounds(text: &[u8], i: usize, s: &[u8], a: usize, b: usize) -> bool
-    requires text_value { is_some (register text.now) ≡ true }
-    requires i_in_bounds { i < length (register_of text.now).accounts }
-    requires a_le_b { a ≤ b }
-    requires b_in_bounds { b ≤ length s.now }
-    requires b_value { shaped (cut s.now a b) ≡ true }
-    ensures { result ≡ in_bounds (account_at (register_of text.now) i) (cut s.now a b) }
+fn is_in_bounds(register: Register, i: usize, part: &[u8]) -> bool
+    requires listed { i < length (register_of register.text.now).accounts }
+    requires shaped { shaped part.now ≡ true }
+    ensures { result ≡ in_bounds (account_at (register_of register.entry.text.now) i) part.now }
 {
-    if b - a == 22 {
+    if part.len() == 22 {
         return true;
     }
-    let code = register_lines::bound_at(s, a + 25);
-    if code < register::account_low(text, i) {
-        return false;
-    }
-    code <= register::account_high(text, i)
+    let code = register_lines::bound(&part[25..]);
+    register.low(i) <= code && code <= register.high(i)
 }
 
-// The verdict on the bytes from a up to b, without codes.
-pub fn judge(text: &[u8], s: &[u8], a: usize, b: usize) -> Verdict
-    requires text_value { is_some (register text.now) ≡ true }
-    requires a_le_b { a ≤ b }
-    requires b_in_bounds { b ≤ length s.now }
-    ensures { verdict_of result ≡ verdict (register_of text.now) (cut s.now a b) }
+// The verdict on field 59 behind its slash, without codes.
+pub fn judge(register: Register, part: &[u8]) -> Verdict
+    ensures { verdict_of result ≡ verdict (register_of register.entry.text.now) part.now }
 {
-    if !is_shaped(s, a, b) {
+    if !is_shaped(part) {
         return Verdict::Returned(Cause::WrongShape);
     }
-    if !account::iban_control(&s[a..a + 22]) {
+    let iban = &part[..22];
+    if !account::iban_control(iban) {
         return Verdict::Returned(Cause::WrongControl);
     }
-    match register::find_account(text, &s[a..a + 22]) {
+    match register.find_account(iban) {
         Some(i) => {
-            if is_in_bounds(text, i, s, a, b) {
+            if is_in_bounds(register, i as usize, part) {
                 return Verdict::Credited(i);
             }
             Verdict::Returned(Cause::OutOfBounds)
@@ -124,15 +120,12 @@ pub fn judge(text: &[u8], s: &[u8], a: usize, b: usize) -> Verdict
     }
 }
 
-// The verdict v; where it returns the detail and the bytes from a up to b are a code of the register, credited by that.
-pub fn by_code(text: &[u8], s: &[u8], v: Verdict, a: usize, b: usize) -> Verdict
-    requires text_value { is_some (register text.now) ≡ true }
-    requires a_le_b { a ≤ b }
-    requires b_in_bounds { b ≤ length s.now }
-    ensures { verdict_of result ≡ by_code (register_of text.now) (cut s.now a b) (verdict_of v) }
+// The verdict v; where it returns the detail and the bytes are a code of the register, credited by that.
+pub fn by_code(register: Register, v: Verdict, code: &[u8]) -> Verdict
+    ensures { verdict_of result ≡ by_code (register_of register.entry.text.now) code.now (verdict_of v) }
 {
     match v {
-        Verdict::Returned(c) => match register::find_code(text, &s[a..b]) {
+        Verdict::Returned(c) => match register.find_code(code) {
             Some(i) => Verdict::CreditedByCode(i, c),
             None => v,
         },

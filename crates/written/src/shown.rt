@@ -4,24 +4,25 @@ ghost use Rattle.rules.specs.Text.{fixed};
 ghost use Rattle.rules.specs.Amounts.{written};
 ghost use Rattle.rules.specs.Engine.{bic};
 ghost use Rattle.rules.specs.Written.{reference};
-ghost use Rattle.laws.specs.Writing.{Wrote};
+ghost use Rattle.put.specs.Writes.{Writes};
 
 use outgoing_number::Reference;
+use put::Writer;
 
 pub trait Shown {
     // The text that it is shown as.
     ghost text: { Self → List ℕ };
 
-    fn put(self, out: &mut [u8], at: usize) -> usize
-        ensures { Wrote (text self) at out.old result out.new };
+    fn put(self, w: &mut Writer)
+        ensures { Writes (text self) w.old w.new };
 }
 
 // A text, as it stands.
 impl Shown for &[u8] {
     ghost text = { λ s. s.now };
 
-    fn put(self, out: &mut [u8], at: usize) -> usize {
-        put::put_bytes(out, at, self)
+    fn put(self, w: &mut Writer) {
+        w.put_bytes(self);
     }
 }
 
@@ -32,8 +33,8 @@ pub struct Bank(pub u64);
 impl Shown for Bank {
     ghost text = { λ b. bic b.0 };
 
-    fn put(self, out: &mut [u8], at: usize) -> usize {
-        put::put_be(out, at, 8, self.0)
+    fn put(self, w: &mut Writer) {
+        w.put_be(8, self.0);
     }
 }
 
@@ -44,8 +45,8 @@ pub struct Date(pub u32);
 impl Shown for Date {
     ghost text = { λ d. fixed 6 d.0 };
 
-    fn put(self, out: &mut [u8], at: usize) -> usize {
-        put::put_fixed(out, at, 6, self.0 as u64)
+    fn put(self, w: &mut Writer) {
+        w.put_fixed(6, self.0 as u64);
     }
 }
 
@@ -53,10 +54,10 @@ impl Shown for Date {
 impl Shown for Reference {
     ghost text = { λ r. reference r.day r.number };
 
-    fn put(self, out: &mut [u8], at: usize) -> usize {
-        let a = put::put_fixed(out, at, 6, self.day as u64);
-        let b = put::put_bytes(out, a, b"GA");
-        put::put_fixed(out, b, 6, self.number as u64)
+    fn put(self, w: &mut Writer) {
+        w.put_fixed(6, self.day as u64);
+        w.put_bytes(b"GA");
+        w.put_fixed(6, self.number as u64);
     }
 }
 
@@ -70,7 +71,7 @@ pub struct Amount {
 impl Shown for Amount {
     ghost text = { λ a. written (a.mark ∷ []) a.stotinki };
 
-    fn put(self, out: &mut [u8], at: usize) -> usize {
-        put::put_amount(out, at, self.mark, self.stotinki)
+    fn put(self, w: &mut Writer) {
+        w.put_amount(self.mark, self.stotinki);
     }
 }

@@ -2,8 +2,8 @@ use Rattle.std.proofs.Common.{rules}
 use Rattle.money.specs.Sums.{sums}
 use Rattle.money.proofs.read_levs.Goals as goal
 
-pub digits_value-v-requires-clause-n_value : goal.digits_value-v-requires-clause-n_value
-digits_value-v-requires-clause-n_value c = search (sums, rules)
+pub value_of-v-requires-clause-each : goal.value_of-v-requires-clause-each
+value_of-v-requires-clause-each c = search (sums, rules)
 
 pub read_decimals-requires : goal.read_decimals-requires
 read_decimals-requires c = search (sums, rules)

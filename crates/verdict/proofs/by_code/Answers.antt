@@ -1,14 +1,13 @@
 -- `verdict::by_code` meets its contract: only a verdict that returns the detail asks for the code, and it stays where none is found.
 use Rattle.verdict.specs.Judging.{judging}
-use Rattle.account.specs.Part.{part_cut}
 use borrow.Author.Rules.{rules}
 use Rattle.verdict.proofs.by_code.Goals as goal
 
 pub returns-in-Some : goal.returns-in-Some
-returns-in-Some c = let f = rw (part_cut c.args.s.now c.args.a c.args.b c.requires.a_le_b) at c.find_code.ensures in search (judging, rules)
+returns-in-Some c = search (judging, rules)
 
 pub returns-in-None : goal.returns-in-None
-returns-in-None c = let f = rw (part_cut c.args.s.now c.args.a c.args.b c.requires.a_le_b) at c.find_code.ensures in search (judging, rules)
+returns-in-None c = search (judging, rules)
 
 pub returns-in-Credited : goal.returns-in-Credited
 returns-in-Credited c = search (judging, rules)

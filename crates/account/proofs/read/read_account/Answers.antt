@@ -6,8 +6,8 @@ use Rattle.account.proofs.read.read_account.Goals as goal
 pub returns-then-iban_shape : goal.returns-then-iban_shape
 returns-then-iban_shape c = search (readings, rules)
 
-pub returns-then-fits_pattern : goal.returns-then-fits_pattern
-returns-then-fits_pattern c = search (readings, rules)
+pub returns-then-begins_as : goal.returns-then-begins_as
+returns-then-begins_as c = search (readings, rules)
 
 pub returns : goal.returns
 returns c = search (readings, rules)

@@ -6,8 +6,8 @@ use Rattle.account.proofs.shape.is_bic.Goals as goal
 pub returns-then-s-ne8 : goal.returns-then-s-ne8
 returns-then-s-ne8 c = search (shapes, rules)
 
-pub returns-then-leading_at-eq6 : goal.returns-then-leading_at-eq6
-returns-then-leading_at-eq6 c = search (shapes, rules)
+pub returns-then-is_all : goal.returns-then-is_all
+returns-then-is_all c = search (shapes, rules)
 
-pub returns-else-leading_at-eq6 : goal.returns-else-leading_at-eq6
-returns-else-leading_at-eq6 c = search (shapes, rules)
+pub returns-else-is_all : goal.returns-else-is_all
+returns-else-is_all c = search (shapes, rules)

@@ -1,5 +1,6 @@
 -- `banking_days::list::is_listed` meets its contract: the dates of a list that passes stand seven bytes apart, each as the six digits of its number.
-use Rattle.banking_days.specs.Seeking.{seeks}
+use Rattle.put.specs.Writes.{wrote_at}
+use Rattle.banking_days.specs.Seeking.{seeks, listed_by}
 use borrow.Author.Rules.{rules}
 use Rattle.banking_days.proofs.list.is_listed.Goals as goal
 
@@ -7,4 +8,4 @@ pub returns-then-list-gt-LONGEST : goal.returns-then-list-gt-LONGEST
 returns-then-list-gt-LONGEST c = search (seeks, rules)
 
 pub returns : goal.returns
-returns c = search (seeks, rules)
+returns c = listed_by _ _ _ c.requires (wrote_at c.put_fixed.ensures c.new-w.ensures.output c.new-w.ensures.place (search rules)) (search rules) c.stands_in.ensures

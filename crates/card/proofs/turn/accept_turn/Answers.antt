@@ -1,25 +1,11 @@
 -- The text fits, so that the output is the text and what stood behind it; sums, count and area are those of the turn.
-use Rattle.card.specs.Turn.{turning}
 use borrow.Author.Rules.{rules}
+use Rattle.std.proofs.Common.{arith}
+use Rattle.card.specs.Turn.{turned_done}
+use Rattle.card.specs.Minus.{difference_is}
 use Rattle.card.proofs.turn.accept_turn.Goals as goal
 
-pub put_turn_text-text-requires : goal.put_turn_text-text-requires
-put_turn_text-text-requires c = search (turning, rules)
-
-pub turn_sums-sums-requires : goal.turn_sums-sums-requires
-turn_sums-sums-requires c = search (turning, rules)
-
-pub minus-requires : goal.minus-requires
-minus-requires c = search (turning, rules)
-
-pub turn_area-requires : goal.turn_area-requires
-turn_area-requires c = search (turning, rules)
-
-pub shape_of-area : goal.shape_of-area
-shape_of-area c = search (turning, rules)
-
-pub shape_of-output : goal.shape_of-output
-shape_of-output c = search (turning, rules)
-
 pub returns : goal.returns
-returns c = search (turning, rules)
+returns c =
+    let s = rw c.held-engine.ensures at c.turn_sums-sums.ensures in
+    turned_done c.args.day c.turn_sums-sums.result c.requires.fits (rw c.held-engine.ensures at c.put_turn_text-count.ensures) c.new-w.ensures.output c.new-w.ensures.place (search rules) s (difference_is _ _ (omega (arith, s.refunded_small)) (omega (arith, s.collected_small))) c.turn_area.ensures

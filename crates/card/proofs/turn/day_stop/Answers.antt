@@ -1,25 +1,9 @@
 -- 3, and then 11 and 17 by the header's day and the engine's own holiday list.
-use Rattle.card.specs.Turn.{stopping}
-use borrow.Author.Rules.{rules}
+use Rattle.card.specs.Turn.{stop_date, stop_later}
 use Rattle.card.proofs.turn.day_stop.Goals as goal
 
-pub exists-requires : goal.exists-requires
-exists-requires c = search (stopping, rules)
-
 pub returns-then-not-exists : goal.returns-then-not-exists
-returns-then-not-exists c = search (stopping, rules)
-
-pub header_of-h-requires : goal.header_of-h-requires
-header_of-h-requires c = search (stopping, rules)
-
-pub holidays_text-requires : goal.holidays_text-requires
-holidays_text-requires c = search (stopping, rules)
-
-pub is_banking_day-banking-requires : goal.is_banking_day-banking-requires
-is_banking_day-banking-requires c = search (stopping, rules)
-
-pub later_stop-requires : goal.later_stop-requires
-later_stop-requires c = search (stopping, rules)
+returns-then-not-exists c = stop_date _ _ c.args.engine.holds _ c.exists.ensures c.if-not-exists.true
 
 pub returns : goal.returns
-returns c = search (stopping, rules)
+returns c = stop_later _ _ c.args.engine.holds _ c.exists.ensures c.if-not-exists.false _ c.header.ensures c.holidays.ensures _ c.is_banking_day-banking.ensures c.later_stop.ensures

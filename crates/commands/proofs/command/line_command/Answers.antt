@@ -1,7 +1,7 @@
 -- The line's letter says which command it is.
 use Rattle.std.proofs.Common.{sym}
 use Rattle.commands.specs.Letters.{letter_room}
-use Rattle.commands.specs.Numbers.{rest_is}
+use Rattle.laws.specs.Slices.{rest_whole}
 use Rattle.commands.specs.Lines.{by_text, by_turn, by_open, by_none}
 use Rattle.commands.proofs.command.line_command.Goals as goal
 
@@ -12,7 +12,7 @@ pub slice_bounds-text_command-start : goal.slice_bounds-text_command-start
 slice_bounds-text_command-start c = letter_room _ _ (sym c.in-Some.ensures)
 
 pub returns-in-Some : goal.returns-in-Some
-returns-in-Some c = by_text _ _ c.in-Some.ensures (rw rest_is at c.text_command.ensures)
+returns-in-Some c = by_text _ _ c.in-Some.ensures (rw rest_whole at c.text_command.ensures)
 
 pub returns-in-Some-strip_prefix : goal.returns-in-Some-strip_prefix
 returns-in-Some-strip_prefix c = by_turn _ _ c.in_default.ensures c.in-Some-strip_prefix.ensures.cases c.turn_command.ensures

@@ -11,8 +11,8 @@ loop-c-init c = search (numbers, rules)
 pub returns-then-not-has : goal.returns-then-not-has
 returns-then-not-has c = search (numbers, rules)
 
-pub with_digit-n-requires-clause-v_bound : goal.with_digit-n-requires-clause-v_bound
-with_digit-n-requires-clause-v_bound c = search (numbers, rules)
+pub overflow_sub-n : goal.overflow_sub-n
+overflow_sub-n c = search (numbers, rules)
 
 pub returns-then-n-gt8192 : goal.returns-then-n-gt8192
 returns-then-n-gt8192 c = search (numbers, rules)

@@ -5,8 +5,8 @@ use Rattle.commands.proofs.window.first_length.Goals as goal
 pub returns-then-is_some : goal.returns-then-is_some
 returns-then-is_some c = search (seeking, rules)
 
-pub returns-then-fits_pattern : goal.returns-then-fits_pattern
-returns-then-fits_pattern c = search (seeking, rules)
+pub returns-then-begins_as : goal.returns-then-begins_as
+returns-then-begins_as c = search (seeking, rules)
 
 pub returns : goal.returns
 returns c = search (seeking, rules)

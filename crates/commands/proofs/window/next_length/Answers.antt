@@ -10,6 +10,6 @@ returns-then-w-e-eq44 c = search (seeking, rules)
 pub returns : goal.returns
 returns c =
     elim c.else-e-w.branch [
-      | else-e-w-via-then-e-w+else-w-e-eq44 w ↦ next_none _ _ _ c.requires.within c.leading_at.ensures w.if-e-w.true w.if-w-e-eq44.false
-      | else-e-w-via-else-e-w w ↦ next_end _ _ _ c.requires.within c.leading_at.ensures w.if-e-w.false
+      | else-e-w-via-then-e-w+else-w-e-eq44 w ↦ next_none _ _ _ c.requires c.leading.ensures.count w.if-e-w.true w.if-w-e-eq44.false
+      | else-e-w-via-else-e-w w ↦ next_end _ _ _ c.requires c.leading.ensures.count w.if-e-w.false
     ]

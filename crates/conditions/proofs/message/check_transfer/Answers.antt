@@ -7,8 +7,8 @@ use Rattle.conditions.proofs.message.check_transfer.Goals as goal
 pub returns-in_default : goal.returns-in_default
 returns-in_default c = transfer_formless _ _ (c.in_default.ensures {u = tt})
 
-pub booking_of-requires-clause-date_bound : goal.booking_of-requires-clause-date_bound
-booking_of-requires-clause-date_bound c = transfer_date _ c.args.temporary.now _ (c.in-Some.ensures {u = tt})
+pub booking_of-requires : goal.booking_of-requires
+booking_of-requires c = transfer_date _ c.args.temporary.now _ (c.in-Some.ensures {u = tt})
 
 pub returns-in_err-transfer_stop : goal.returns-in_err-transfer_stop
 returns-in_err-transfer_stop c =

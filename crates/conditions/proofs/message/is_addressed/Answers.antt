@@ -6,8 +6,8 @@ use Rattle.conditions.proofs.message.is_addressed.Goals as goal
 pub returns-then-is_type : goal.returns-then-is_type
 returns-then-is_type c = search (checking, rules)
 
-pub returns-then-equal_parts : goal.returns-then-equal_parts
-returns-then-equal_parts c = search (checking, rules)
+pub returns-then-equal : goal.returns-then-equal
+returns-then-equal c = search (checking, rules)
 
 pub returns : goal.returns
 returns c = search (checking, rules)

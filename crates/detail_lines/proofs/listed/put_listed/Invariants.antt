@@ -3,4 +3,4 @@ use Rattle.detail_lines.specs.Listed.{RowsLeft}
 use Rattle.detail_lines.proofs.listed.put_listed.Given as goal
 
 abbrev pub invariant-loop-i : goal.invariant-loop-i
-invariant-loop-i l = RowsLeft l.s l.kept l.first l.most l.at l.initial.out l.i l.left l.o l.out
+invariant-loop-i l = RowsLeft l.s l.kept l.first l.most l.initial.w l.i l.left l.w

@@ -3,8 +3,8 @@ use borrow.Author.Rules.{rules}
 use Rattle.engine.specs.References.{used}
 use Rattle.engine.proofs.reference.ends_at.Goals as goal
 
-pub returns-then-j-e : goal.returns-then-j-e
-returns-then-j-e c = search (used, rules)
+pub returns-then-n-padded : goal.returns-then-n-padded
+returns-then-n-padded c = search (used, rules)
 
-pub returns-else-j-e : goal.returns-else-j-e
-returns-else-j-e c = search (used, rules)
+pub returns-else-n-padded : goal.returns-else-n-padded
+returns-else-n-padded c = search (used, rules)

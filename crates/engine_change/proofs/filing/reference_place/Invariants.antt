@@ -6,4 +6,4 @@ use Rattle.engine.specs.References.{of_bank}
 use Rattle.engine_change.proofs.filing.reference_place.Given as goal
 
 abbrev pub invariant-loop-i : goal.invariant-loop-i
-invariant-loop-i l = PutBehind (filed (of_bank l.bank l.reference)) (decode l.area).references l.i
+invariant-loop-i l = PutBehind (filed (of_bank l.reference.bank l.reference.text.now)) (decode l.area).references l.i

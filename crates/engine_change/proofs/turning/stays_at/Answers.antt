@@ -3,8 +3,5 @@ use Rattle.engine_change.specs.Sets.{turning}
 use borrow.Author.Rules.{rules}
 use Rattle.engine_change.proofs.turning.stays_at.Goals as goal
 
-pub overflow_add-at : goal.overflow_add-at
-overflow_add-at c = search (turning, rules)
-
 pub returns : goal.returns
 returns c = search (turning, rules)

@@ -1,13 +1,10 @@
--- Senders compared as they were read, and texts where they are the same.
-use Rattle.engine_laws.specs.Ways.{filing}
-use borrow.Author.Rules.{rules}
+-- By sender, and where the senders are equal by text.
+use Rattle.engine.specs.References.{sender_same, sender_other}
+use Rattle.engine_check.specs.References.{filed_told}
 use Rattle.engine_check.proofs.accepted.stands_before.Goals as goal
 
 pub returns-then-sender-other : goal.returns-then-sender-other
-returns-then-sender-other c = search (filing, rules)
-
-pub returns-then-other-sender : goal.returns-then-other-sender
-returns-then-other-sender c = search (filing, rules)
+returns-then-sender-other c = filed_told _ _ c.filed_at-sender.ensures.sender c.filed_at-sender.ensures.text c.filed_at-other.ensures.sender c.filed_at-other.ensures.text (sender_same _ _ _ _ c.if-sender-other.true _ c.precedes.ensures)
 
 pub returns : goal.returns
-returns c = search (filing, rules)
+returns c = filed_told _ _ c.filed_at-sender.ensures.sender c.filed_at-sender.ensures.text c.filed_at-other.ensures.sender c.filed_at-other.ensures.text (sender_other _ _ _ _ c.if-sender-other.false)

@@ -1,7 +1,6 @@
--- `engine_check::accepted::text_fits` meets its contract: the bytes of a text at first tell where the text ends.
-use borrow.Author.Rules.{rules}
-use Rattle.engine_laws.specs.Texts.{ended_text}
+-- The bytes of a text at first tell where the text ends.
+use Rattle.engine_check.specs.References.{text_told}
 use Rattle.engine_check.proofs.accepted.text_fits.Goals as goal
 
 pub returns : goal.returns
-returns c = search (ended_text, rules)
+returns c = text_told _ _ c.requires c.leading.ensures.count c.ended_fits.ensures

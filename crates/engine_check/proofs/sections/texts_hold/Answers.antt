@@ -1,6 +1,7 @@
 -- The texts in their order, and zeros from the end of the last one on.
 use Rattle.engine_laws.specs.Tests.{texts_test}
 use Rattle.engine_check.specs.Read.{read}
+use Rattle.engine_check.specs.Zeros.{zeros_part}
 use Rattle.engine_laws.specs.Ways.{calling, lettering}
 use borrow.Author.Rules.{rules}
 use Rattle.engine_check.proofs.sections.texts_hold.Goals as goal
@@ -18,8 +19,11 @@ list_holds-requires c = search (read, rules)
 pub returns-then-not-list_holds : goal.returns-then-not-list_holds
 returns-then-not-list_holds c = search (read, rules)
 
-pub zeros_hold-requires-clause-a_le_b : goal.zeros_hold-requires-clause-a_le_b
-zeros_hold-requires-clause-a_le_b c = search (read, rules)
-
 pub returns : goal.returns
-returns c = search (read, rules)
+returns c = search (read, zeros_part, rules)
+
+pub slice_bounds-all_zero-count : goal.slice_bounds-all_zero-count
+slice_bounds-all_zero-count c = search (read, rules)
+
+pub slice_bounds-all_zero-start : goal.slice_bounds-all_zero-start
+slice_bounds-all_zero-start c = search (read, rules)

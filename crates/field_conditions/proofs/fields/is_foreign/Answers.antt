@@ -1,16 +1,9 @@
--- Too few bytes for an account, one that does not pass, or as its bank's four bytes are.
-use Rattle.std.proofs.Common.{rules}
-use Rattle.field_conditions.specs.Fields.{fielding}
+-- The account is what stands behind six bytes of the line, its bank four bytes behind the first four.
+use Rattle.field_conditions.specs.Fields.{payer_passes}
 use Rattle.field_conditions.proofs.fields.is_foreign.Goals as goal
 
-pub returns-then-e-a : goal.returns-then-e-a
-returns-then-e-a c = search (fielding, rules)
-
-pub returns-then-equal_parts : goal.returns-then-equal_parts
-returns-then-equal_parts c = search (fielding, rules)
-
-pub returns-then-iban_passes : goal.returns-then-iban_passes
-returns-then-iban_passes c = search (fielding, rules)
-
-pub returns : goal.returns
-returns c = search (fielding, rules)
+pub returns-else-not-iban_passes : goal.returns-else-not-iban_passes
+returns-else-not-iban_passes c =
+    let account = rw (c.front-account.ensures, c.behind.ensures) at c.iban_passes.ensures in
+    let bank = rw (c.front-bank.ensures, c.behind-2.ensures, c.front-account.ensures, c.behind.ensures, c.front.ensures, c.behind-else-not-iban_passes.ensures) at c.equal.ensures in
+    payer_passes _ _ _ account c.if-not-iban_passes.false _ bank

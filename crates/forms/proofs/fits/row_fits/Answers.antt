@@ -3,8 +3,8 @@ use Rattle.std.proofs.Common.{rules}
 use Rattle.forms.specs.Fits.{fitting}
 use Rattle.forms.proofs.fits.row_fits.Goals as goal
 
-pub returns-then-e-a : goal.returns-then-e-a
-returns-then-e-a c = search (fitting, rules)
+pub returns-then-line-size : goal.returns-then-line-size
+returns-then-line-size c = search (fitting, rules)
 
 pub returns-then-head_fits : goal.returns-then-head_fits
 returns-then-head_fits c = search (fitting, rules)

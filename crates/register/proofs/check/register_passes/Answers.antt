@@ -9,8 +9,8 @@ returns-then-not-first_line_passes c = search (checking, rules)
 pub lines_from-n-requires : goal.lines_from-n-requires
 lines_from-n-requires c = search (checking, rules)
 
-pub returns-then-not-closes_at : goal.returns-then-not-closes_at
-returns-then-not-closes_at c = search (checking, rules)
+pub returns-then-not-equal : goal.returns-then-not-equal
+returns-then-not-equal c = search (checking, rules)
 
 pub returns : goal.returns
 returns c = search (checking, rules)

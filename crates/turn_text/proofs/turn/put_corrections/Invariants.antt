@@ -3,4 +3,4 @@ use Rattle.turn_text.specs.Turn.{CorrectionsLeft}
 use Rattle.turn_text.proofs.turn.put_corrections.Given as goal
 
 abbrev pub invariant-loop-i : goal.invariant-loop-i
-invariant-loop-i l = CorrectionsLeft l.day l.n l.area l.at l.initial.out l.i l.outgoing l.o l.out
+invariant-loop-i l = CorrectionsLeft l.day l.n l.engine.area.now l.initial.w l.i l.outgoing l.w

@@ -1,7 +1,6 @@
--- Posting lines, then messages, of the positions that the area has.
-use Rattle.std.proofs.Common.{rules}
+-- Posting lines, then messages.
 use Rattle.turn_text.specs.Area.{turn_wrote}
 use Rattle.turn_text.proofs.turn.put_turn_text.Goals as goal
 
 pub returns : goal.returns
-returns c = search (turn_wrote, rules)
+returns c = turn_wrote c.put_correction_postings.ensures c.put_corrections.ensures

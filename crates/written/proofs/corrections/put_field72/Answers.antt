@@ -1,8 +1,8 @@
 -- `written::corrections::put_field72` meets its contract: the five rows in their order, RELREF with the position's own date.
 use Rattle.rules.specs.Written.{field72}
-use Rattle.laws.specs.Pieces.{wrote_5}
+use Rattle.put.specs.Writes.{writes_5}
 use Rattle.written.proofs.corrections.put_field72.Goals as goal
 
 pub returns : goal.returns
 unfolding field72
-returns c = wrote_5 c.put_baeref_row-a.ensures c.put_field-b.ensures c.put_bytes-c.ensures c.put_field-d.ensures c.put_detailed_row.ensures
+returns c = writes_5 c.put_baeref_row.ensures c.put_field.ensures c.put_bytes.ensures c.put_field-2.ensures c.put_detailed_row.ensures

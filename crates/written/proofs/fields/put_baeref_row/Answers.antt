@@ -1,8 +1,8 @@
 -- `written::fields::put_baeref_row` meets its contract: tag, day, number and line end.
 use Rattle.rules.specs.Written.{baeref_row}
-use Rattle.laws.specs.Pieces.{wrote_4}
+use Rattle.put.specs.Writes.{writes_4}
 use Rattle.written.proofs.fields.put_baeref_row.Goals as goal
 
 pub returns : goal.returns
 unfolding baeref_row
-returns c = search wrote_4
+returns c = search writes_4

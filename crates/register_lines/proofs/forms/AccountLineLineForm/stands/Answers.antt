@@ -6,11 +6,11 @@ use Rattle.register_lines.proofs.forms.AccountLineLineForm.stands.Goals as goal
 pub returns-then-not-iban_passes : goal.returns-then-not-iban_passes
 returns-then-not-iban_passes c = search (lining, rules)
 
-pub returns-then-not-bounds_at : goal.returns-then-not-bounds_at
-returns-then-not-bounds_at c = search (lining, rules)
+pub returns-then-not-are_bounds : goal.returns-then-not-are_bounds
+returns-then-not-are_bounds c = search (lining, rules)
 
-pub returns-then-not-ends_at : goal.returns-then-not-ends_at
-returns-then-not-ends_at c = search (lining, rules)
+pub returns-then-not-is_end : goal.returns-then-not-is_end
+returns-then-not-is_end c = search (lining, rules)
 
 pub returns : goal.returns
 returns c = search (lining, rules)

@@ -1,9 +1,0 @@
--- `register::search::account_count` meets its contract. The loop's invariant: from its place on there are code lines alone.
-use Rattle.register.specs.Searching.{Ending}
-use Rattle.register.proofs.search.account_count.Given as goal
-
-abbrev pub invariant-loop-end : goal.invariant-loop-end
-invariant-loop-end l = Ending l.text l.end
-
-abbrev pub decreases-loop-end : goal.decreases-loop-end
-decreases-loop-end l = l.end
