@@ -9,11 +9,11 @@ use native.Mathlib.Omega.{arith}
 use Rattle.std.proofs.Math.ListN.{length}
 use Rattle.std.proofs.lemmas.Bool.{lt-leb}
 use Rattle.rules.specs.Text.{is_digit, is_letter, is_alnum, between, every}
-use Rattle.rules.specs.Accounts.{with_sign, numeral, remainder, control, iban_shape}
+use Rattle.rules.specs.Accounts.{with_sign, numeral, remainder, control, iban_shape, passes}
 use Rattle.laws.specs.Tests.{between_low, between_high}
 use Rattle.laws.specs.Reading.{digit_low, digit_high}
-use Rattle.laws.specs.Every.{every_take, every_drop, every_within, every_first}
-use Rattle.laws.specs.Parts.{cut_all}
+use Rattle.laws.specs.Every.{every_take, every_drop, every_within, every_first, every_head, every_at}
+use Rattle.laws.specs.Parts.{cut_all, cut, cut_join, cut_two}
 use Rattle.rule_laws.specs.Groups.{iban_length}
 use Rattle.rule_laws.specs.Signs.{iban_alnum}
 use Rattle.account.specs.Shape.{Shaped, shape_told}
@@ -59,8 +59,33 @@ carried_on u v r t m xs ys p q = record {
   most = q.most;
 }
 
+carried_cut : (s : List ℕ) (i k e u v r t m : ℕ) → i + k ≤ e → Carried u (cut s i (i + k)) t v → Carried v (cut s (i + k) e) m r → Carried u (cut s i e) m r
+carried_cut s i k e u v r t m h p q = rw (cut_join s i k e h) at (carried_on u v r t m (cut s i (i + k)) (cut s (i + k) e) p q)
+
 carried_fold : (v : ℕ) (cs : List ℕ) (t r : ℕ) → Carried v cs t r → Carried v cs 96 (r % 97)
 carried_fold v cs t r p = record { same = mod-mod r 97 ∙ p.same; most = omega arith }
+
+four_bytes : (s : List ℕ) (i : ℕ) → i + 4 ≤ length s → cut s i (i + 4) ≡ get_or s i 0 ∷ get_or s (i + 1) 0 ∷ get_or s (i + 2) 0 ∷ get_or s (i + 3) 0 ∷ []
+four_bytes s i l =
+    let e : i + 2 + 2 ≡ i + 4 = omega arith in
+    let f : i + 2 + 1 ≡ i + 3 = omega arith in
+    sym (cut_join s i 2 (i + 4) (omega arith)) ∙ rw (cut_two s i (omega arith), ← e, cut_two s (i + 2) (omega arith), f)
+
+-- r is the number of a sign, by the byte that is 0 among its like
+pub record Sign (c null top r : ℕ) : Type 0 where
+  pub value : r ≡ c - null
+  pub most : r ≤ top
+
+pub digit_is : (c : ℕ) → is_digit c ≡ true → Sign c 48 9 (c - 48)
+digit_is c h = let l : c ≤ 57 = digit_high c h in record { value = refl; most = omega arith }
+
+pub letter_is : (c : ℕ) → is_letter c ≡ true → Sign c 55 35 (c - 55)
+unfolding is_letter
+letter_is c h = let l : c ≤ 90 = between_high 65 90 c h in record { value = refl; most = omega arith }
+
+pub letter_low : (c : ℕ) → is_letter c ≡ true → 55 ≤ c
+unfolding is_letter
+letter_low c h = let l : 65 ≤ c = between_low 65 90 c h in omega arith
 
 -- ---- a letter or digit: which of them, by its byte
 
@@ -77,35 +102,131 @@ letter_not : (c : ℕ) → is_letter c ≡ true → is_digit c ≡ false
 unfolding is_digit is_letter
 letter_not c h = let l : 65 ≤ c = between_low 65 90 c h in rw (le-leb 48 c (omega arith), lt-leb c 57 (omega arith))
 
+-- the number of two digits
+pub record Two (c d r : ℕ) : Type 0 where
+  pub value : r ≡ (c - 48) * 10 + (d - 48)
+  pub most : r ≤ 99
+
+pub two_is : (c d x y : ℕ) → Sign c 48 9 x → Sign d 48 9 y → Two c d (x * 10 + y)
+two_is c d x y p q = record { value = rw (p.value, q.value); most = omega (arith, p.most, q.most) }
+
+pub pair_carried : (s : List ℕ) (i v r : ℕ) → every is_digit (cut s i (i + 2)) ≡ true → i + 2 ≤ length s → Two (get_or s i 0) (get_or s (i + 1) 0) r → Carried v (cut s i (i + 2)) (v * 3 + 99) (v * 3 + r)
+unfolding numeral with_sign
+pair_carried s i v r w l t =
+    let c : ℕ = get_or s i 0 in
+    let d : ℕ = get_or s (i + 1) 0 in
+    let same : (v * 3 + ((c - 48) * 10 + (d - 48))) % 97 ≡ ((v * 10 + (c - 48)) * 10 + (d - 48)) % 97 = omega arith in record {
+      same = rw (cut_two s i l, every_head is_digit s i 2 w l refl, every_at is_digit s i 2 w l 1 refl, t.value) same;
+      most = omega (arith, t.most);
+    }
+
+pub letters_carried : (s : List ℕ) (i x y z w : ℕ) → every is_letter (cut s i (i + 4)) ≡ true → i + 4 ≤ length s
+    → Sign (get_or s i 0) 55 35 x → Sign (get_or s (i + 1) 0) 55 35 y → Sign (get_or s (i + 2) 0) 55 35 z → Sign (get_or s (i + 3) 0) 55 35 w
+    → Carried 0 (cut s i (i + 4)) 1400 (x * 27 + y * 9 + z * 3 + w)
+unfolding numeral with_sign
+letters_carried s i x y z w p l a b c d =
+    let same : (x * 27 + y * 9 + z * 3 + w) % 97 ≡ ((((0 * 100 + x) * 100 + y) * 100 + z) * 100 + w) % 97 = omega arith in record {
+      same =
+          rw (
+            four_bytes s i l,
+            letter_not _ (every_head is_letter s i 4 p l refl),
+            letter_not _ (every_at is_letter s i 4 p l 1 refl),
+            letter_not _ (every_at is_letter s i 4 p l 2 refl),
+            letter_not _ (every_at is_letter s i 4 p l 3 refl),
+            ← a.value,
+            ← b.value,
+            ← c.value,
+            ← d.value,
+          )
+          same;
+      most = omega (arith, a.most, b.most, c.most, d.most);
+    }
+
+module _ (v c : ℕ) (h : is_alnum c ≡ true) where
+  module _ (l : c < 58) where
+    pub sign_digit : is_digit c ≡ true
+    unfolding is_alnum
+    sign_digit = either_low c (is_digit c) refl h (omega arith)
+
+    pub carried_digit : (x : ℕ) → Sign c 48 9 x → Carried v (c ∷ []) (v * 10 + 35) (v * 10 + x)
+    unfolding numeral with_sign
+    carried_digit x w = record { same = rw (sign_digit, ← w.value); most = omega (arith, w.most) }
+
+  module _ (l : 58 ≤ c) where
+    pub sign_letter : is_letter c ≡ true
+    unfolding is_alnum
+    sign_letter = either_high c (is_digit c) refl h (omega arith)
+
+    pub carried_letter : (x : ℕ) → Sign c 55 35 x → Carried v (c ∷ []) (v * 10 + 35) (v * 3 + x)
+    unfolding numeral with_sign
+    carried_letter x w =
+        let same : (v * 3 + x) % 97 ≡ (v * 100 + x) % 97 = omega arith in
+        record { same = rw (letter_not c sign_letter, ← w.value) same; most = omega (arith, w.most) }
+
+-- by what the code makes of its byte
 module _ (c : ℕ) (h : is_alnum c ≡ true) where
   module _ (l : c ≤ 57) where
     digit : is_digit c ≡ true
     unfolding is_alnum
     digit = either_low c (is_digit c) refl h l
 
-    pub sign_digit : 48 ≤ c
-    sign_digit = digit_low c digit
+    pub digit_least : 48 ≤ c
+    digit_least = digit_low c digit
 
-    pub carried_digit : (v : ℕ) → Carried v (c ∷ []) (v * 10 + 35) (v * 10 + (c - 48))
+    pub digit_carried : (v : ℕ) → Carried v (c ∷ []) (v * 10 + 35) (v * 10 + (c - 48))
     unfolding numeral with_sign
-    carried_digit v = record { same = rw digit; most = omega arith }
+    digit_carried v = record { same = rw digit; most = omega arith }
 
   module _ (l : 57 < c) where
     letter : is_letter c ≡ true
     unfolding is_alnum
     letter = either_high c (is_digit c) refl h l
 
-    pub sign_letter : 65 ≤ c
+    pub letter_least : 65 ≤ c
     unfolding is_letter
-    sign_letter = between_low 65 90 c letter
+    letter_least = between_low 65 90 c letter
 
-    pub carried_letter : (v : ℕ) → Carried v (c ∷ []) (v * 10 + 35) (v * 3 + (c - 65 + 10))
+    pub letter_carried : (v : ℕ) → Carried v (c ∷ []) (v * 10 + 35) (v * 3 + (c - 65 + 10))
     unfolding numeral with_sign is_letter
-    carried_letter v =
-        let low : 65 ≤ c = sign_letter in
+    letter_carried v =
+        let low : 65 ≤ c = letter_least in
         let high : c ≤ 90 = between_high 65 90 c letter in
         let same : (v * 3 + (c - 65 + 10)) % 97 ≡ (v * 100 + (c - 55)) % 97 = omega arith in
         record { same = rw (letter_not c letter) same; most = omega arith }
+
+-- ---- runs of them
+
+module _ (s : List ℕ) (i : ℕ) where
+  pub signs_2 : (u v r t m : ℕ) → i + 2 ≤ length s → Carried u (get_or s i 0 ∷ []) t v → Carried v (get_or s (i + 1) 0 ∷ []) m r → Carried u (cut s i (i + 2)) 96 (r % 97)
+  signs_2 u v r t m l p q = rw (cut_two s i l) (carried_fold u _ m r (carried_on u v r t m (get_or s i 0 ∷ []) (get_or s (i + 1) 0 ∷ []) p q))
+
+  runs_2 : (k j u v r t m : ℕ) → i + k ≡ j → Carried u (cut s i (i + k)) t v → Carried v (cut s j (j + 2)) m r → Carried u (cut s i (i + k + 2)) m r
+  runs_2 k j u v r t m e p q = carried_cut s i k (i + k + 2) u v r t m (omega arith) p (rw e q)
+
+  pub runs_6 : (u v w r t m n : ℕ) → Carried u (cut s i (i + 2)) t v → Carried v (cut s (i + 2) (i + 2 + 2)) m w → Carried w (cut s (i + 4) (i + 4 + 2)) n r → Carried u (cut s i (i + 6)) 96 (r % 97)
+  runs_6 u v w r t m n p q x =
+      let e : i + 2 + 2 ≡ i + 4 = omega arith in
+      let f : i + 4 + 2 ≡ i + 6 = omega arith in
+      carried_fold u (cut s i (i + 6)) n r (rw f at (runs_2 4 (i + 4) u w r m n refl (rw e at (runs_2 2 (i + 2) u v w t m refl p q)) x))
+
+  pub runs_8 : (u v w x r t m n o : ℕ) → Carried u (cut s i (i + 2)) t v → Carried v (cut s (i + 2) (i + 2 + 2)) m w → Carried w (cut s (i + 4) (i + 4 + 2)) n x
+      → Carried x (cut s (i + 6) (i + 6 + 2)) o r → Carried u (cut s i (i + 8)) o r
+  runs_8 u v w x r t m n o p q y z =
+      let e : i + 2 + 2 ≡ i + 4 = omega arith in
+      let f : i + 4 + 2 ≡ i + 6 = omega arith in
+      let g : i + 6 + 2 ≡ i + 8 = omega arith in
+      rw g at (runs_2 6 (i + 6) u x r n o refl (rw f at (runs_2 4 (i + 4) u w x m n refl (rw e at (runs_2 2 (i + 2) u v w t m refl p q)) y)) z)
+
+-- bank, branch and account, one behind the other
+pub runs_tail : (s : List ℕ) (at v w r t m n : ℕ) → Carried 0 (cut s (at + 4) (at + 4 + 4)) t v → Carried v (cut s (at + 8) (at + 8 + 6)) m w → Carried w (cut s (at + 14) (at + 14 + 8)) n r
+    → Carried 0 (cut s (at + 4) (at + 22)) n r
+runs_tail s at v w r t m n p q x =
+    let e : at + 4 + 4 ≡ at + 8 = omega arith in
+    let f : at + 8 + 6 ≡ at + 14 = omega arith in
+    let g : at + 4 + 10 ≡ at + 14 = omega arith in
+    let h : at + 14 + 8 ≡ at + 22 = omega arith in
+    let a : Carried 0 (cut s (at + 4) (at + 14)) m w = carried_cut s (at + 4) 4 (at + 14) 0 v w t m (omega arith) p (rw e (rw f at q)) in
+    carried_cut s (at + 4) 10 (at + 22) 0 w r m n (omega arith) (rw g a) (rw g (rw h at x))
 
 -- ---- sign by sign
 
@@ -161,4 +282,15 @@ module _ (s : List ℕ) (h : iban_shape s ≡ true) where
       pub control_high : 2 ≤ control_digits s → leb (control_digits s) 98 ≡ control s
       control_high l = rw (parts, eq-eqb _ 1 e, le-leb 2 (control_digits s) l)
 
-pub ruleset controls = (sign_digit, carried_digit, sign_letter, carried_letter, carrying_start, carrying_more, tail_sign, third_digit, fourth_digit, control_not, control_low, control_high)
+-- ---- shape, then control
+
+module _ (cs : List ℕ) (t : Bool) (u : t ≡ iban_shape cs) where
+  pub passes_shaped : t ≡ true → (r : Bool) → r ≡ control cs → r ≡ passes cs
+  unfolding passes
+  passes_shaped d r e = rw (← u, d) e
+
+  pub passes_not : t ≡ false → false ≡ passes cs
+  unfolding passes
+  passes_not d = rw (← u, d)
+
+pub ruleset controls = (digit_least, digit_carried, letter_least, letter_carried, carrying_start, carrying_more, tail_sign, third_digit, fourth_digit, control_not, control_low, control_high)

@@ -1,5 +1,5 @@
 -- An account read: the papers' reading for each case of the code's, a law for each way that the code goes, and the compact form made character by character.
-use Rattle.std.specs.Prelude.{◌≡◌, refl, Option, Some, Bool, true, false, List, ℕ, zero, suc, ◌+◌, ◌*◌, ◌/◌, ◌≤◌, ◌<◌, get_or, set, take, drop, replicate}
+use Rattle.std.specs.Prelude.{◌≡◌, refl, Option, Some, Bool, true, false, List, ℕ, zero, suc, ◌+◌, ◌-◌, ◌*◌, ◌/◌, ◌≤◌, ◌<◌, get_or, set, take, drop, replicate}
 use Rattle.std.proofs.Common.{sym, ◌∙◌, arith, length-set, length-take, take_all, take-take, take-suc, take-suc-set}
 use Rattle.std.proofs.Math.Option as M
 use Rattle.std.proofs.Math.Option.{none, some, map}
@@ -9,6 +9,7 @@ use Rattle.std.proofs.lemmas.List.{drop-take}
 use Rattle.rules.specs.Text.{ascii, fits, given, otherwise}
 use Rattle.rules.specs.Accounts as paper
 use Rattle.rules.specs.Accounts.{iban_shape, joined_groups, compact, grouped_shape, read_compact, read_grouped, read_account}
+use Rattle.laws.specs.Parts.{cut, cut_length, cut_take}
 use Rattle.laws.specs.Tests.{not_holds}
 use Rattle.laws.specs.Told.{told}
 use Rattle.rule_laws.specs.Groups.{joined_length, joined_at, iban_length, grouped_length, shape_compact}
@@ -46,9 +47,54 @@ module _ (cs : List ℕ) where
     unfolding read_account read_compact read_grouped
     read_groups f = rw (o.other, groups, f)
 
-    pub read_none : v ≡ false → none ≡ read_account cs
+    pub no_groups : v ≡ false → none ≡ read_account cs
     unfolding read_account read_compact read_grouped
-    read_none f = rw (o.other, groups, f)
+    no_groups f = rw (o.other, groups, f)
+
+-- too few bytes for a form
+few_compact : (cs : List ℕ) → length cs < 22 → read_compact cs ≡ none
+unfolding read_compact
+few_compact cs h = let e : false ≡ iban_shape (take 22 cs) = not_holds _ (λ q. omega (arith, iban_length _ q, length-take 22 cs)) in rw (← e)
+
+few_grouped : (cs : List ℕ) → length cs < 27 → read_grouped cs ≡ none
+unfolding read_grouped
+few_grouped cs h = let e : false ≡ grouped_shape (take 27 cs) = not_holds _ (λ q. omega (arith, grouped_length _ q, length-take 27 cs)) in rw (← e)
+
+-- the pattern of the grouped form
+pub grouped_told : (s : List ℕ) (at : ℕ) (t : Bool) → t ≡ fits (ascii "BGnn aaaa nnnn nncc cccc cc") (cut s at (at + 27)) → t ≡ grouped_shape (cut s at (at + 27))
+unfolding grouped_shape
+grouped_told s at t e = e
+
+-- of the bytes between two places
+module _ (s : List ℕ) (a b : ℕ) (l : b ≤ length s) where
+  pub read_few : b - a < 22 → none ≡ read_account (cut s a b)
+  unfolding read_account
+  read_few h = let n : length (cut s a b) ≡ b - a = cut_length s a b l in rw (few_compact (cut s a b) (omega arith), few_grouped (cut s a b) (omega arith))
+
+  module _ (t : Bool) (u : t ≡ iban_shape (cut s a (a + 22))) (h : 22 ≤ b - a) where
+    shape : iban_shape (take 22 (cut s a b)) ≡ t
+    shape = ap iban_shape (cut_take s a b 22 (omega arith)) ∙ sym u
+
+    pub read_compact_lem : t ≡ true → some record { iban = take 22 (cut s a b); used = 22 } ≡ read_account (cut s a b)
+    unfolding read_account read_compact
+    read_compact_lem e = rw (shape, e)
+
+    module _ (e : t ≡ false) where
+      pub read_between : b - a < 27 → none ≡ read_account (cut s a b)
+      unfolding read_account read_compact
+      read_between k = let n : length (cut s a b) ≡ b - a = cut_length s a b l in rw (shape, e, few_grouped (cut s a b) (omega arith))
+
+      module _ (k : 27 ≤ b - a) (v : Bool) (w : v ≡ grouped_shape (cut s a (a + 27))) where
+        in_grouped : grouped_shape (take 27 (cut s a b)) ≡ v
+        in_grouped = ap grouped_shape (cut_take s a b 27 (omega arith)) ∙ sym w
+
+        pub read_grouped_lem : v ≡ true → some record { iban = compact (cut s a b); used = 27 } ≡ read_account (cut s a b)
+        unfolding read_account read_compact read_grouped
+        read_grouped_lem f = rw (shape, e, in_grouped, f)
+
+        pub read_none : v ≡ false → none ≡ read_account (cut s a b)
+        unfolding read_account read_compact read_grouped
+        read_none f = rw (shape, e, in_grouped, f)
 
 -- ---- what is known of an account that was read
 
@@ -90,6 +136,9 @@ module _ (cs : List ℕ) (q : Option AccountForm) (e : map (account_of cs) (told
     unfolding used_by
     compact_shape = used_compact _ _ cs (rw w at used)
 
+    pub compact_room : 22 ≤ length cs
+    compact_room = omega (arith, iban_length _ compact_shape, length-take 22 cs)
+
   module _ (w : q ≡ Some Grouped) where
     in_groups : grouped_shape (take 27 cs) ≡ true
     unfolding used_by
@@ -102,6 +151,9 @@ module _ (cs : List ℕ) (q : Option AccountForm) (e : map (account_of cs) (told
     module _ (iban : List ℕ) (i : iban ≡ compact cs) where
       pub iban_room : length iban ≡ 22
       iban_room = ap length i ∙ joined_length 5 cs grouped_room
+
+      pub iban_shape_lem : iban_shape iban ≡ true
+      iban_shape_lem = ap iban_shape (i ∙ sym (joined_front 5 cs)) ∙ shape_compact (take 27 cs) in_groups
 
 -- ---- the compact form
 
@@ -130,4 +182,4 @@ module _ (cs : List ℕ) (k : ℕ) (iban : List ℕ) (w : Joining cs k iban) (l 
       let n : length (compact cs) ≡ 22 = joined_length 5 cs l in
       sym (take_all 22 iban (omega (arith, w.size))) ∙ (rw e at w).same ∙ take_all 22 (compact cs) (omega arith)
 
-pub ruleset readings = (read_whole, few_bytes, other_shape, read_groups, read_none, joining_start, joining_more, joining_end)
+pub ruleset readings = (read_whole, few_bytes, other_shape, read_groups, no_groups, joining_start, joining_more, joining_end)

@@ -1,4 +1,6 @@
 // The control of an IBAN: a number that has the remainder by 97 of the signs read so far, 100 being 3.
+#![tactic(auto, using(crate::specs::Control::controls))]
+
 ghost use Rattle.std.specs.Prelude.{◌≡◌, true, [], ◌∷◌, ◌+◌, ◌*◌, ◌≤◌};
 ghost use Rattle.rules.specs.Text.{is_alnum};
 ghost use Rattle.rules.specs.Accounts.{iban_shape, control};

@@ -1,4 +1,6 @@
 // An account with which a part begins, in either form: 22 characters, or groups of four with single spaces and a last group of two.
+#![tactic(auto, using(crate::specs::Read::readings))]
+
 ghost use Rattle.std.specs.Prelude.{◌≡◌, ◌≤◌, length};
 ghost use Rattle.std.proofs.Math.Option.{map};
 ghost use Rattle.rules.specs.Accounts.{compact, read_account};

@@ -1,4 +1,6 @@
 // The shapes of a BIC and an IBAN, run by run.
+#![tactic(auto, using(crate::specs::Shape::shapes))]
+
 ghost use Rattle.std.specs.Prelude.{◌≡◌, length};
 ghost use Rattle.rules.specs.Accounts.{is_bic, iban_shape};
 ghost use Rattle.account.specs.Shape.{iban_head, iban_tail};

@@ -1,20 +1,20 @@
 -- The check of a holiday list: what is left of it gives the answer, a law for each way out of the loop; and a list of at most 419 bytes passes where its dates rise.
-use Rattle.std.specs.Prelude.{◌≡◌, refl, Bool, true, false, ◌&&◌, not, cond, List, [], ◌∷◌, ◌++◌, ℕ, ◌+◌, ◌-◌, ◌≤◌, ◌<◌, leb, eqb, length, get_or, take, drop}
-use Rattle.std.proofs.Common.{sym, ap, ◌∙◌, arith, length-append, take-append-drop, take_all, take_at, drop-cons, le-leb, leb-true, leb-false}
+use Rattle.std.specs.Prelude.{◌≡◌, refl, Bool, true, false, ◌&&◌, not, List, [], ◌∷◌, ◌++◌, ℕ, ◌+◌, ◌-◌, ◌≤◌, ◌<◌, leb, length, get_or, take, drop}
+use Rattle.std.proofs.Common.{sym, ap, ◌∙◌, arith, length-append, take-append-drop, take_all, take_at, drop-cons, drop-drop, le-leb, leb-true, leb-false}
 use Rattle.std.proofs.Math.Option.{Option, none, some, map}
 use Rattle.std.proofs.lemmas.List.{get_or_at}
 use Rattle.std.proofs.Math.Seq.{get_or-drop}
+use Rattle.std.specs.List.{IsSplitAt}
 use Rattle.std.proofs.lemmas.Bool.{lt-leb}
 use Rattle.rules.specs.Text.{then, given, is_some, read_each, ordered}
 use Rattle.rules.specs.Dates.{date}
 use Rattle.rules.specs.Lines.{parted}
 use Rattle.rules.specs.BankingDays.{earlier_date, holidays}
 use Rattle.rules.specs.Calls.{holds_of}
-use Rattle.laws.specs.Parts.{cut, from, from_all, from_take, from_drop, from_length}
 use Rattle.laws.specs.Tests.{never, none_some, not_holds, cond_left}
 use Rattle.std.specs.Prelude as P
 use Rattle.std.specs.Prelude.{Some, None}
-use Rattle.laws.specs.Slices.{part_cut}
+use Rattle.laws.specs.Slices.{rest_whole}
 use Rattle.laws.specs.Told.{told}
 use Rattle.rule_laws.specs.Options.{some_is}
 use Rattle.rule_laws.specs.Commas.{parted_last, parted_next, PartsRead, PartsRead.one, PartsRead.next, parts_read}
@@ -96,62 +96,48 @@ next_rises last d p rest h l = rw (parted_next p rest (date_part p d h), h) (go 
 behind_six : (cs : List ℕ) → 6 < length cs → get_or cs 6 0 ≡ 44 → cs ≡ take 6 cs ++ 44 ∷ drop 7 cs
 behind_six cs l h = sym (take-append-drop 6 cs) ∙ ap (λ (r : List ℕ). take 6 cs ++ r) (drop-cons cs 6 0 l ∙ ap (λ (c : ℕ). c ∷ drop 7 cs) h)
 
--- ---- the loop: x is what the whole list is, and the bytes from a place are left
+-- ---- the loop: x is what the whole list is, and cs is left of it
 
-module _ (list : List ℕ) (at last : ℕ) (x : Bool) (inv : rising last (from list at) ≡ x) where
-  stops : (FirstDate last (from list at) → ⊥) → false ≡ x
-  stops f = not_holds (rising last (from list at)) (λ h. f (first_date_lem last (from list at) (risen last (from list at) h))) ∙ inv
+module _ (cs : List ℕ) (last : ℕ) (x : Bool) (inv : rising last cs ≡ x) where
+  stops : (FirstDate last cs → ⊥) → false ≡ x
+  stops f = not_holds (rising last cs) (λ h. f (first_date_lem last cs (risen last cs h))) ∙ inv
 
-  six_bytes : take 6 (from list at) ≡ cut list at (at + 6)
-  six_bytes = from_take list at 6
+  pub rise_short : length cs < 6 → false ≡ x
+  rise_short h = stops (λ f. omega (arith, f.long))
 
-  pub rise_end : length list ≤ at → false ≡ x
-  rise_end h = stops (λ f. omega (arith, f.long, from_length list at))
-
-  pub rise_short : length list - at < 6 → false ≡ x
-  rise_short h = stops (λ f. omega (arith, f.long, from_length list at))
-
-  -- q is the date that those six are
-  module _ (q : P.Option ℕ) (w : told q ≡ date (take (at + 6 - at) (drop at list))) where
-    told_six : date (take 6 (from list at)) ≡ told q
-    told_six = ap date (six_bytes ∙ sym (part_cut list at (at + 6) (omega arith))) ∙ sym w
+  -- six bytes of it are the date q, and others stand behind
+  module _ (six behind : List ℕ) (s : IsSplitAt cs 6 six behind) (q : P.Option ℕ) (w : told q ≡ date six) where
+    told_six : date (take 6 cs) ≡ told q
+    told_six = ap date (sym s.1) ∙ sym w
 
     pub rise_unread : q ≡ None → false ≡ x
     rise_unread e = stops (λ f. none_some (sym (ap told e) ∙ sym told_six ∙ f.read))
 
-  module _ (q : P.Option ℕ) (w : told q ≡ date (take (at + 6 - at) (drop at list))) (d : ℕ) (u : q ≡ Some d) where
-    read : date (take 6 (from list at)) ≡ some d
-    read = told_six q w ∙ ap told u
+    module _ (d : ℕ) (u : q ≡ Some d) where
+      read : date (take 6 cs) ≡ some d
+      read = told_six ∙ ap told u
 
-    pub rise_early : d ≤ last → false ≡ x
-    rise_early h = stops (λ f. let e : d ≡ f.day = some_is (sym read ∙ f.read) in omega (arith, f.after))
+      pub rise_early : d ≤ last → false ≡ x
+      rise_early h = stops (λ f. let e : d ≡ f.day = some_is (sym read ∙ f.read) in omega (arith, f.after))
 
-    module _ (l : last < d) where
-      pub rise_last : length list - at ≡ 6 → true ≡ x
-      rise_last h =
-          let a : take 6 (from list at) ≡ from list at = take_all 6 (from list at) (omega (arith, from_length list at)) in
-          sym (one_rises last d (from list at) (rw a at read) l) ∙ inv
+      module _ (l : last < d) where
+        pub rise_last : length behind < 1 → true ≡ x
+        rise_last h = let a : take 6 cs ≡ cs = take_all 6 cs (omega (arith, s.4)) in sym (one_rises last d cs (rw a at read) l) ∙ inv
 
-      module _ (n : (length list - at ≡ 6 → ⊥)) (m : 6 ≤ length list - at) where
-        more_bytes : 6 < length (from list at)
-        more_bytes = let k : 6 < length list - at = omega arith in rw (from_length list at) k
+        module _ (n : 1 ≤ length behind) where
+          more_bytes : 6 < length cs
+          more_bytes = omega (arith, s.4)
 
-        seventh : get_or (from list at) 6 0 ≡ get_or list (at + 6) 0
-        unfolding from
-        seventh = get_or-drop at list 6 0
+          seventh : get_or behind 0 0 ≡ get_or cs 6 0
+          seventh = ap (λ (b : List ℕ). get_or b 0 0) s.2 ∙ get_or-drop 6 cs 0 0
 
-        pub rise_bad : (get_or list (at + 6) 0 ≡ 44 → ⊥) → false ≡ x
-        rise_bad b = stops (λ f. b (sym seventh ∙ f.behind more_bytes))
+          pub rise_bad : (get_or behind 0 0 ≡ 44 → ⊥) → false ≡ x
+          rise_bad b = stops (λ f. b (seventh ∙ f.behind more_bytes))
 
-        pub rise_more : get_or list (at + 6) 0 ≡ 44 → rising d (from list (at + 7)) ≡ x
-        rise_more b =
-            rw (← from_drop list at 7)
-            (sym (next_rises last d (take 6 (from list at)) (drop 7 (from list at)) read l)
-            ∙ ap (rising last) (sym (behind_six (from list at) more_bytes (seventh ∙ b)))
-            ∙ inv)
-
-pub rise_start : (list : List ℕ) → rising 0 (from list 0) ≡ rising 0 list
-rise_start list = rw (from_all list)
+          pub rise_more : get_or behind 0 0 ≡ 44 → rising d (take (length behind - 1) (drop 1 behind)) ≡ x
+          rise_more b =
+              let e : take (length behind - 1) (drop 1 behind) ≡ drop 7 cs = rest_whole behind 1 ∙ ap (drop 1) s.2 ∙ drop-drop 1 6 cs in
+              rw e (sym (next_rises last d (take 6 cs) (drop 7 cs) read l) ∙ ap (rising last) (sym (behind_six cs more_bytes (sym seventh ∙ b))) ∙ inv)
 
 -- ---- a list that passes
 
@@ -185,4 +171,4 @@ passes_rising (c ∷ cs) r n l e = e ∙ go (read_each date (parted (c ∷ cs)))
         pick true = refl
         pick false = refl
 
-pub ruleset rises = (rise_start, rise_end, rise_short, rise_unread, rise_early, rise_last, rise_bad, rise_more, passes_empty, passes_long, passes_rising)
+pub ruleset rises = (rise_short, rise_unread, rise_early, rise_last, rise_bad, rise_more, passes_empty, passes_long, passes_rising)

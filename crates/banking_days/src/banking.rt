@@ -7,6 +7,7 @@ use crate::list::is_listed;
 use crate::weekday::is_weekend;
 
 // Is an existing day neither a Saturday nor a Sunday nor a date of the list?
+#[tactic(auto, using(crate::specs::Seeking::seeks))]
 pub fn is_banking_day(list: &[u8], day: u32) -> bool
     requires { exists day ≡ true }
     ensures { Banking list.now day result }

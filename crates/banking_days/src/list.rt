@@ -10,38 +10,31 @@ use put::Writer;
 // The bytes of the longest list: 60 dates of six digits, and a comma between two.
 pub const LONGEST: usize = 419;
 
-// Are the bytes dates that are parted by commas, each later than the last?
-// A `while`: each way out goes by how many bytes are left, which chunks of seven tell no plainer.
+// Are the bytes dates that are parted by commas, each later than the last? (Six bytes at a time: parted at its commas by `split`, 60 holidays take 3,844 instructions, 6.9 %, more in an opening.)
 fn dates_rise(list: &[u8]) -> bool
-    requires { length list.now ≤ 65535 }
     ensures { result ≡ rising 0 list.now }
 {
-    let n = list.len() as u32;
-    let mut last: u32 = 0;
-    let mut at: u32 = 0;
-    while at < n {
-        if n - at < 6 {
-            return false;
-        }
-        let Some(date) = calendar::read_date(&list[at as usize..at as usize + 6]) else {
+    let mut last = 0;
+    let mut rest = list;
+    while let Some((six, behind)) = rest.split_at_checked(6) {
+        let Some(date) = calendar::read_date(six) else {
             return false;
         };
         if date <= last {
             return false;
         }
-        if n - at == 6 {
-            return true;
-        }
-        if list[at as usize + 6] != b',' {
-            return false;
+        match behind {
+            [] => return true,
+            [b',', more @ ..] => rest = more,
+            _ => return false,
         }
         last = date;
-        at += 7;
     }
     false
 }
 
 // Is the text a holiday list? An empty one is.
+#[tactic(auto, using(crate::specs::Rising::rises))]
 pub fn list_passes(list: &[u8]) -> bool
     ensures { result ≡ is_some (holidays list.now) }
 {
@@ -54,7 +47,8 @@ pub fn list_passes(list: &[u8]) -> bool
     dates_rise(list)
 }
 
-// Are six bytes those of one of the dates of a list?
+// Are six bytes those of one of the dates of a list? (By places and not by chunks of seven, with which 60 holidays take 910 instructions, 1.6 %, more in an opening.)
+#[tactic(auto, using(crate::specs::Seeking::seeks))]
 fn stands_in(list: &[u8], six: &[u8; 6]) -> bool
     requires { length list.now ≤ 65535 }
     ensures { result ≡ stands_from six.now list.now 0 }

@@ -20,6 +20,7 @@ fn days_before(year: u16, month: u16) -> u16
 }
 
 // How many days there are from 1 January 2000 to an existing date: 365 for each year, and one for each leap year.
+#[tactic(auto, using(crate::specs::Weekdays::weekdays))]
 fn days_to(day: u32) -> u16
     requires { Existing day }
     ensures { result ≡ days_to day }

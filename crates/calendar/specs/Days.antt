@@ -1,5 +1,5 @@
 -- Which dates exist, and the date that six digits are, one law for each way that the code goes.
-use Rattle.std.specs.Prelude.{◌≡◌, refl, Bool, true, false, ◌&&◌, cond, List, [], ◌∷◌, ℕ, ◌+◌, ◌-◌, ◌*◌, ◌/◌, ◌%◌, ◌≤◌, ◌<◌, leb, length, get_or, take, drop}
+use Rattle.std.specs.Prelude.{◌≡◌, refl, Bool, true, false, ◌&&◌, cond, List, [], ◌∷◌, ℕ, ◌+◌, ◌-◌, ◌*◌, ◌/◌, ◌%◌, ◌≤◌, ◌<◌, leb, length, get_or, take, drop, ◌^◌}
 use Rattle.std.proofs.Common.{sym, ap, ◌∙◌}
 use Rattle.std.proofs.Math.Option.{none, some}
 use native.Mathlib.Omega.{arith}
@@ -7,9 +7,10 @@ use borrow.Author.Tests.{le-leb, lt-leb, eq-eqb, ne_eqb}
 use Rattle.rules.specs.Text.{between, is_digit, every, digits, digits_from}
 use Rattle.rules.specs.Dates.{month_lengths, leap_row, month_length, exists, date}
 use Rattle.laws.specs.Parts.{cut, cut_all, cut_two}
-use Rattle.laws.specs.Tests.{none_some, and_left, between_low}
+use Rattle.laws.specs.Tests.{none_some}
 use Rattle.laws.specs.Reading.{digit_low, digit_small}
-use Rattle.laws.specs.Every.{every_take, every_drop, every_head, every_at}
+use Rattle.laws.specs.Every.{every_front, every_piece, every_take, every_drop, every_head, every_at}
+use Rattle.laws.specs.Places.{Passed, passed_all}
 use Rattle.laws.specs.Slices.{part_cut}
 use Rattle.laws.specs.Values.{Valued, valued, digits_take, behind_digits, every_none}
 
@@ -82,18 +83,40 @@ module _ (s : List ℕ) (l : length s ≡ 2) (w : every is_digit s ≡ true) whe
   pair : cut s 0 (0 + 2) ≡ s
   pair = rw l at (cut_all s)
 
-  pub first_digit : is_digit (get_or s 0 0) ≡ true
-  first_digit = every_head is_digit s 0 2 (rw pair w) (omega arith) refl
+  pub pair_first : is_digit (get_or s 0 0) ≡ true
+  pair_first = every_head is_digit s 0 2 (rw pair w) (omega arith) refl
 
-  pub second_digit : is_digit (get_or s 1 0) ≡ true
-  second_digit = every_at is_digit s 0 2 (rw pair w) (omega arith) 1 refl
+  pub pair_second : is_digit (get_or s 1 0) ≡ true
+  pair_second = every_at is_digit s 0 2 (rw pair w) (omega arith) 1 refl
 
   pub two_value : some ((get_or s 0 0 - 48) * 10 + (get_or s 1 0 - 48)) ≡ digits s
   unfolding digits_from
-  two_value = rw (← pair) (rw (cut_two s 0 (omega arith), first_digit, second_digit) (ap some (omega arith)))
+  two_value = rw (← pair) (rw (cut_two s 0 (omega arith), pair_first, pair_second) (ap some (omega arith)))
 
   pub two_small : (get_or s 0 0 - 48) * 10 + (get_or s 1 0 - 48) < 100
-  two_small = omega (arith, digit_small _ first_digit, digit_small _ second_digit)
+  two_small = omega (arith, digit_small _ pair_first, digit_small _ pair_second)
+
+-- at a place
+module _ (s : List ℕ) (a : ℕ) (w : every is_digit (cut s a (a + 2)) ≡ true) (l : a + 2 ≤ length s) where
+  pub first_digit : is_digit (get_or s a 0) ≡ true
+  first_digit = every_head is_digit s a 2 w l refl
+
+  pub second_digit : is_digit (get_or s (a + 1) 0) ≡ true
+  second_digit = every_at is_digit s a 2 w l 1 refl
+
+  pub two_digits : Valued s a 2 ((get_or s a 0 - 48) * 10 + (get_or s (a + 1) 0 - 48))
+  unfolding digits_from
+  two_digits = valued s a 2 _ l (rw (cut_two s a l, first_digit, second_digit) (ap some (omega arith)))
+
+-- the room for one digit, for the tens, for both
+pub digit_fits : (c : ℕ) → is_digit c ≡ true → c - 48 < 2 ^ 16
+digit_fits c h = omega (arith, digit_small c h)
+
+pub tens_fit : (c : ℕ) → is_digit c ≡ true → (c - 48) * 10 < 2 ^ 16
+tens_fit c h = omega (arith, digit_small c h)
+
+pub two_fit : (c d : ℕ) → is_digit c ≡ true → is_digit d ≡ true → (c - 48) * 10 + (d - 48) < 2 ^ 16
+two_fit c d h k = omega (arith, digit_small c h, digit_small d k)
 
 -- behind a number
 two_behind : (c d x y : ℕ) → digits_from 0 (c ∷ d ∷ []) ≡ some y → digits_from x (c ∷ d ∷ []) ≡ some (x * 100 + y)
@@ -114,6 +137,18 @@ two_more s a k x y p q l =
 
 -- ---- six bytes that are digits: those of the year, of the month, of the day
 
+-- at a place
+module _ (s : List ℕ) (a r : ℕ) (w : Passed is_digit s a 6 r) (h : 6 ≤ r) where
+  pub year_digits : every is_digit (cut s a (a + 2)) ≡ true
+  year_digits = every_front is_digit s a 6 (passed_all is_digit s a 6 r w h) 2 refl
+
+  pub month_digits : every is_digit (cut s (a + 2) (a + 2 + 2)) ≡ true
+  month_digits = every_piece is_digit s a 6 (passed_all is_digit s a 6 r w h) 2 2 refl
+
+  pub day_digits : every is_digit (cut s (a + 4) (a + 4 + 2)) ≡ true
+  day_digits = every_piece is_digit s a 6 (passed_all is_digit s a 6 r w h) 4 2 refl
+
+-- alone
 module _ (s : List ℕ) (h : length s ≡ 6) where
   whole : cut s 0 (0 + 6) ≡ s
   whole = rw h at (cut_all s)
@@ -124,14 +159,14 @@ module _ (s : List ℕ) (h : length s ≡ 6) where
     date_none k = rw (eq-eqb _ _ h, ← every_none s (sym u ∙ k))
 
     module _ (k : t ≡ true) where
-      pub year_digits : every is_digit (take 2 s) ≡ true
-      year_digits = every_take is_digit 2 s (sym u ∙ k)
+      pub six_year : every is_digit (take 2 s) ≡ true
+      six_year = every_take is_digit 2 s (sym u ∙ k)
 
-      pub month_digits : every is_digit (take 2 (drop 2 s)) ≡ true
-      month_digits = every_take is_digit 2 (drop 2 s) (every_drop is_digit 2 s (sym u ∙ k))
+      pub six_month : every is_digit (take 2 (drop 2 s)) ≡ true
+      six_month = every_take is_digit 2 (drop 2 s) (every_drop is_digit 2 s (sym u ∙ k))
 
-      pub day_digits : every is_digit (take 2 (drop 4 s)) ≡ true
-      day_digits = every_take is_digit 2 (drop 4 s) (every_drop is_digit 4 s (sym u ∙ k))
+      pub six_day : every is_digit (take 2 (drop 4 s)) ≡ true
+      six_day = every_take is_digit 2 (drop 4 s) (every_drop is_digit 4 s (sym u ∙ k))
 
   module _ (y m d : ℕ) (e : some y ≡ digits (take 2 s)) (f : some m ≡ digits (take 2 (drop 2 s))) (g : some d ≡ digits (take 2 (drop 4 s))) (t : Bool) (u : t ≡ is_date y m d) where
     p : Valued s 0 2 y
@@ -168,4 +203,4 @@ pub date_other : (s : List ℕ) → (length s ≡ 6 → ⊥) → none ≡ date s
 unfolding date
 date_other s n = rw (ne_eqb _ _ n)
 
-pub ruleset days = (row_leap, row_common, length_at, no_month, late_month, no_day, by_length, no_year, by_parts, digit_low, first_digit, second_digit, two_value, two_small, year_digits, month_digits, day_digits, date_none, date_there, date_absent, date_other)
+pub ruleset days = (row_leap, row_common, length_at, no_month, late_month, no_day, by_length, no_year, by_parts, digit_low, pair_first, pair_second, two_value, two_small, six_year, six_month, six_day, date_none, date_there, date_absent, date_other)

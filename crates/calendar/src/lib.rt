@@ -1,5 +1,5 @@
 // Dates: six digits, year, month, day, in 2000 to 2099.
-#![tactic(auto)]
+#![tactic(auto, using(crate::specs::Days::days))]
 
 ghost use Rattle.std.specs.Prelude.{◌≡◌, true, ◌/◌, ◌%◌, ◌<◌, ◌≤◌, length};
 ghost use Rattle.std.proofs.Math.Option.{some};
@@ -9,7 +9,7 @@ ghost use Rattle.rules.specs.Dates.{month_length, date};
 ghost use Rattle.rules.specs.Dates as D;
 ghost use Rattle.calendar.specs.Days.{RowOf, is_date};
 
-use text::{Digit, is_all};
+use text::{Digit, is_all, small_value};
 
 // The lengths of the months, one row for leap years.
 const MONTHS: [[u8; 12]; 2] = [
@@ -77,16 +77,6 @@ pub fn exists(n: u32) -> bool
     is_date(year, month, rest - month * 100)
 }
 
-// The number of two digits.
-fn two_digits(pair: &[u8]) -> u16
-    requires two { length pair.now ≡ 2 }
-    requires each { every is_digit pair.now ≡ true }
-    ensures value { some result ≡ digits pair.now }
-    ensures small { result < 100 }
-{
-    (pair[0] - 48) as u16 * 10 + (pair[1] - 48) as u16
-}
-
 // The date that six digits are: their number, where it exists.
 pub fn read_date(s: &[u8]) -> Option<u32>
     ensures { told result ≡ date s.now }
@@ -94,9 +84,9 @@ pub fn read_date(s: &[u8]) -> Option<u32>
     if s.len() != 6 || !is_all::<Digit>(s) {
         return None;
     }
-    let year = two_digits(&s[..2]);
-    let month = two_digits(&s[2..4]);
-    let day = two_digits(&s[4..6]);
+    let year = small_value(&s[..2]) as u16;
+    let month = small_value(&s[2..4]) as u16;
+    let day = small_value(&s[4..6]) as u16;
     if is_date(year, month, day) {
         return Some(year as u32 * 10000 + (month * 100 + day) as u32);
     }

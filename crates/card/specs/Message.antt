@@ -1,5 +1,5 @@
 -- A message, one law for each way out of the call.
-use Rattle.std.specs.Prelude.{◌≡◌, Bool, true, false, not, List, ◌++◌, ℕ, ◌+◌, ◌-◌, ◌≤◌, ◌<◌, ◌^◌, eqb, ℤ, pos, length, take, drop, replicate, Option, Err}
+use Rattle.std.specs.Prelude.{◌≡◌, Bool, true, false, not, List, ◌++◌, ℕ, ◌+◌, ◌≤◌, ◌<◌, ◌^◌, eqb, ℤ, pos, length, drop, replicate, Option, Err}
 use Rattle.std.proofs.Math.Path.{refl}
 use Rattle.std.proofs.Common.{sym, ap, ◌∙◌, le-leb, ne_eqb, arith}
 use Rattle.std.proofs.Math.Option.{some}
@@ -16,11 +16,11 @@ use Rattle.laws.specs.Writing.{wrote_over, furthest}
 use Rattle.rule_laws.specs.Conditions.{numbered, first_later, first_earlier}
 use Rattle.rule_laws.specs.Clear.{LimitClear, limit_clear}
 use Rattle.engine_laws.specs.Decoded.{decoded, holds_decode}
-use Rattle.engine.specs.Totals.{LookedUp, begun}
+use Rattle.engine.specs.Totals.{TotalsOf, LookedUp, begun}
 use Rattle.engine.specs.Texts.{RegisterOf}
 use Rattle.engine_change.specs.Booking.{CanBook, booking_clear, booked_with, booked_after}
 use Rattle.engine.specs.References.{of_bank}
-use Rattle.laws.specs.Slices.{part_cut}
+use Rattle.forms.specs.Spans.{span_of}
 use Rattle.put.specs.declared.parts.Writer.{Writer}
 use Rattle.put.specs.Writes.{wrote_at}
 use Rattle.details.specs.Message.{message_in}
@@ -115,12 +115,17 @@ pub record Ready (s a : List ℕ) (b : Booking) (p : P.Position) (kept : List Ju
   pub judged : JudgedIn (decode a).register s kept
   pub leaves : Leaves a s p
 
-pub leaves_told : (a s : List ℕ) (b : Booking) → Books s (message_in s) b → (x : Option P.Position) → LookedUp (decode a).positions b.key x → (p : P.Position) → AfterOf b (begun b.key x) p → Leaves a s p
-leaves_told a s b k x y p q = record {
+-- by the totals alone
+pub leaves_by : (a s : List ℕ) (b : Booking) → Books s (message_in s) b → (x : Option P.Position) → TotalsOf (decode a).positions b.key x → (p : P.Position) → AfterOf b (begun b.key x) p → Leaves a s p
+leaves_by a s b k x y p q = record {
   same = after_is a s b k x y p q;
-  transferred_small = omega (arith, q.transferred, y.totals.transferred_small, amount_part (is_transfer b.kind) b.amount, k.small);
-  detailed_small = omega (arith, q.detailed, y.totals.detailed_small, amount_part (not (is_transfer b.kind)) b.amount, k.small);
+  transferred_small = omega (arith, q.transferred, y.transferred_small, amount_part (is_transfer b.kind) b.amount, k.small);
+  detailed_small = omega (arith, q.detailed, y.detailed_small, amount_part (not (is_transfer b.kind)) b.amount, k.small);
 }
+
+-- as they are looked up
+pub leaves_told : (a s : List ℕ) (b : Booking) → Books s (message_in s) b → (x : Option P.Position) → LookedUp (decode a).positions b.key x → (p : P.Position) → AfterOf b (begun b.key x) p → Leaves a s p
+leaves_told a s b k x y p q = leaves_by a s b k x y.totals p q
 
 module _ (s area : List ℕ) (h : is_some (holds area) ≡ true) (b : Booking) {kept : List Judged} (k : Passes s (decode area).register b kept) (p : P.Position) (q : Leaves area s p)
     (z : 0 ≡ first_of (limit_stops (decode area) (some (message_in s)))) where
@@ -150,9 +155,9 @@ module _ (s area : List ℕ) (h : is_some (holds area) ≡ true) where
           rw position_is (booking_clear (decode area) (message_in s) (decoded area h).good c.counted c.opens c.under)
 
       -- the area with the message
-      pub booked_done : {a' : List ℕ} {w : ℕ} → w ≡ (decode area).count + messages_written (decode area) (message_in s)
-          → a' ≡ encode (booked_with (decode area) (position_value p) (of_bank b.key.bank (take (b.reference.end - b.reference.start) (drop b.reference.start s))) w) ++ drop area_size area → AreaBooked s area a'
-      booked_done f c = record { area = c ∙ rw (part_cut s b.reference.start b.reference.end k.order, position_is, own_bank, k.reference, f, booked_after) refl }
+      pub booked_done : {a' field : List ℕ} {w : ℕ} → w ≡ (decode area).count + messages_written (decode area) (message_in s) → field ≡ span_of s b.reference
+          → a' ≡ encode (booked_with (decode area) (position_value p) (of_bank b.key.bank field) w) ++ drop area_size area → AreaBooked s area a'
+      booked_done f g c = record { area = c ∙ rw (g, position_is, own_bank, k.reference, f, booked_after) refl }
 
 pub sent_done : {s area : List ℕ} {b : Booking} {p : P.Position} {kept : List Judged} → Ready s area b p kept → {out out' a' : List ℕ} {w₀ w₁ : Writer} {count : ℕ} {z : ℤ} → length (message_text (decode area) (message_in s)) ≤ length out
     → TextPut (decode area) (message_in s) w₀ count w₁ → w₀.out.now ≡ out → w₀.at ≡ 0 → out' ≡ w₁.out.now → z ≡ sub_ℕ p.transferred p.detailed → AreaBooked s area a' → Sent s area out w₁.at z a' out'

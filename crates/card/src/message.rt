@@ -39,7 +39,7 @@ fn book_in(message: &[u8], area: &mut [u8], b: Booking, count: u32)
     requires count_value { count ≡ (decode area.old).count + messages_written (decode area.old) (message_in message.now) }
     ensures { AreaBooked message.now area.old area.new }
 {
-    let field = &message[b.reference.start as usize..b.reference.end as usize];
+    let field = b.reference.of(message);
     let reference = BankReference::new(b.key.bank, field);
     engine_change::book_area(area, reference, state_conditions::added_by(b), count);
 }
@@ -118,6 +118,7 @@ fn message_engine(message: &[u8], area: &mut [u8], output: &mut [u8]) -> Result<
 }
 
 // A message to any area.
+#[tactic(auto, using(crate::specs::Message::message_no_engine))]
 fn take_message(message: &[u8], area: &mut [u8], output: &mut [u8]) -> Result<Accepted, Refusal>
     ensures { Answered (card_message message.now area.old output.old) result area.new output.new }
 {

@@ -3,10 +3,12 @@ ghost use Rattle.std.specs.Prelude.{◌≡◌, [], pos};
 ghost use Rattle.rules.specs.Area.{card_newer, card_older};
 ghost use Rattle.card.specs.Answers.{Answers};
 ghost use Rattle.card.specs.Accepted.{Answered};
+ghost use Rattle.card.specs.Moves.{moved_by};
 
 use crate::answer::{Accepted, answer};
 use put::Writer;
 use refusal::Refusal;
+use register_moves::{Newer, Older, RegisterMove};
 
 // A move that wrote so many bytes: it tells no difference.
 fn moved(written: usize) -> Accepted
@@ -18,38 +20,30 @@ fn moved(written: usize) -> Accepted
     }
 }
 
-// An old register's text in the newer form.
-fn move_newer(text: &[u8], output: &mut [u8]) -> Result<Accepted, Refusal>
-    ensures { Answered (card_newer text.now output.old) result [] output.new }
+// A register's text in another form.
+fn move_text<M: RegisterMove>(text: &[u8], output: &mut [u8]) -> Result<Accepted, Refusal>
+    ensures { Answered (moved_by M.stops M.made text.now output.old) result [] output.new }
 {
-    register_moves::newer_stop(text, output.len())?;
+    M::stop(text, output.len())?;
     let mut w = Writer::new(output);
-    register_moves::put_newer(&mut w, text);
+    M::put(&mut w, text);
     Ok(moved(w.at))
 }
 
 // Moves an old register's text to the newer form.
+#[tactic(auto, unfolding(rules::specs::Area::card_newer, rules::specs::Moves::newer_call))]
 pub fn card_newer(text: &[u8], output: &mut [u8], written: &mut usize, difference: &mut i64) -> u32
     ensures { Answers (card_newer text.now output.old) result written.new difference.new [] output.new }
 {
-    let call = move_newer(text, output);
+    let call = move_text::<Newer>(text, output);
     answer(call, written, difference)
 }
 
-// A register's text in the older form.
-fn move_older(text: &[u8], output: &mut [u8]) -> Result<Accepted, Refusal>
-    ensures { Answered (card_older text.now output.old) result [] output.new }
-{
-    register_moves::older_stop(text, output.len())?;
-    let mut w = Writer::new(output);
-    register_moves::put_older(&mut w, text);
-    Ok(moved(w.at))
-}
-
 // Moves a register's text to the older form.
+#[tactic(auto, unfolding(rules::specs::Area::card_older, rules::specs::Moves::older_call))]
 pub fn card_older(text: &[u8], output: &mut [u8], written: &mut usize, difference: &mut i64) -> u32
     ensures { Answers (card_older text.now output.old) result written.new difference.new [] output.new }
 {
-    let call = move_older(text, output);
+    let call = move_text::<Older>(text, output);
     answer(call, written, difference)
 }

@@ -11,6 +11,7 @@ use crate::answer::{Accepted, answer};
 use refusal::Refusal;
 
 // 9, 18 or 17, the first that holds: of the register, of the holiday list, and of the day.
+#[tactic(auto, using(crate::specs::Opening::opening))]
 fn opening_stop(registered: bool, listed: bool, banking: bool) -> Result<(), Refusal>
     ensures { stop_of result ≡ first_of (text_stops registered listed banking) }
 {
@@ -27,6 +28,7 @@ fn opening_stop(registered: bool, listed: bool, banking: bool) -> Result<(), Ref
 }
 
 // An engine with a register, a holiday list and a day: it writes nothing.
+#[tactic(auto, using(crate::specs::Opening::opening))]
 fn open_engine(text: &[u8], list: &[u8], day: u32, area: &mut [u8]) -> Result<Accepted, Refusal>
     ensures { Answered (card_open text.now list.now day area.old) result area.new [] }
 {

@@ -42,6 +42,7 @@ fn turn_size(day: u32, engine: Engine) -> usize
 }
 
 // 11 or 17, the first that holds: of a day that is no later, and of one that is no banking day.
+#[tactic(auto, using(crate::specs::Turn::stopping))]
 fn later_stop(early: bool, banking: bool) -> Result<(), Refusal>
     ensures { stop_of result ≡ first_of (later_stops early banking) }
 {
@@ -55,6 +56,7 @@ fn later_stop(early: bool, banking: bool) -> Result<(), Refusal>
 }
 
 // 3, 11 or 17, the first that holds of a turn to a day.
+#[tactic(auto, using(crate::specs::Turn::stop_date, crate::specs::Turn::stop_later))]
 fn day_stop(day: u32, engine: Engine) -> Result<(), Refusal>
     ensures { stop_of result ≡ first_of (day_stops (decode engine.entry.area.now) day) }
 {
@@ -79,6 +81,7 @@ fn turn_engine(day: u32, area: &mut [u8], output: &mut [u8]) -> Result<Accepted,
 }
 
 // The turn of any area.
+#[tactic(auto, using(crate::specs::Turn::turn_no_engine))]
 fn make_turn(day: u32, area: &mut [u8], output: &mut [u8]) -> Result<Accepted, Refusal>
     ensures { Answered (card_turn day area.old output.old) result area.new output.new }
 {

@@ -1,27 +1,67 @@
 -- Command lines: one law for each way out of the functions that read them.
-use Rattle.std.specs.Prelude.{◌≡◌, ℕ, ◌+◌, ◌≤◌, ◌<◌, Option, Some, None, nat_eq, length, take, drop}
+use Rattle.std.specs.Prelude.{◌≡◌, ℕ, ◌+◌, ◌≤◌, ◌<◌, Option, Some, None, nat_eq, length, take, drop, Bool, ◌-◌, leb, eqb, get_or}
 use Rattle.std.specs.Cmp.Lexicographic.{pointwise}
 use Rattle.std.specs.List.{IsSplitAt}
 use Rattle.std.proofs.Math.Path.{refl, sym, ap}
 use Rattle.std.proofs.Common.{◌∙◌, length-drop}
-use Rattle.std.proofs.Math.Bool.{true, false}
+use Rattle.std.proofs.Math.Bool.{true, false, cond}
 use mathlib.Core.List.{List, [], ◌∷◌}
 use Rattle.std.proofs.Math.Option as M
 use Rattle.std.proofs.Math.Option.{none, some}
 use native.Mathlib.Omega.{arith}
 use Rattle.std.proofs.Math.Seq.{drop-drop}
-use borrow.Author.Tests.{le-leb, lt-leb}
+use borrow.Author.Tests.{le-leb, lt-leb, eq-eqb, ne_eqb}
 use Rattle.rules.specs.Text.{ascii, equal, then, added_up}
 use Rattle.rules.specs.Lines.{take_line}
 use Rattle.rules.specs.Replay as R
 use Rattle.rules.specs.Replay.{Commanded, length_of, parted_lengths, six_digits, turns, texts_in, with_texts, texts_behind, single, opening, command_of, command}
-use Rattle.laws.specs.Parts.{cut, from, from_all}
+use Rattle.laws.specs.Parts.{cut, from, from_all, cut_step, cut_length}
+use Rattle.laws.specs.Tests.{never}
 use Rattle.lines.specs.Answers.{LineAt, line_told, no_line_told}
 use Rattle.commands.specs.declared.letter.Handed.{Handed}
 use Rattle.commands.specs.Answers.{making, turn_behind, opening_behind}
-use Rattle.laws.specs.Slices.{equal_is}
-use Rattle.commands.specs.Letters.{letter_in, Stripped, text_letter, other_letter, text_read, other_read}
-use Rattle.commands.specs.Numbers.{lengths_last}
+use Rattle.laws.specs.Slices.{equal_is, rest_whole}
+use Rattle.commands.specs.Letters.{letter_in, Stripped, text_letter, other_letter, text_read, other_read, begins_with, letter_room}
+use Rattle.commands.specs.Numbers.{lengths_last, six_small}
+
+-- ---- a letter and a comma
+
+few : (l : List ℕ) (c : ℕ) → length l < 2 → false ≡ begins_with c l
+unfolding equal
+few [] c h = refl
+few (x ∷ []) c h = go (eqb x c)
+  where
+    go : (t : Bool) → false ≡ cond t false false
+    go true = refl
+    go false = refl
+few (x ∷ y ∷ l) c h = absurd (omega arith)
+
+module _ (s : List ℕ) (at e c : ℕ) where
+  pub begins_short : at ≤ e → e ≤ length s → e - at < 2 → false ≡ begins_with c (cut s at e)
+  begins_short h k l = few (cut s at e) c (rw (cut_length s at e k) l)
+
+  module _ (k : e ≤ length s) (l : 2 ≤ e - at) where
+    two : take 2 (cut s at e) ≡ get_or s at 0 ∷ get_or s (at + 1) 0 ∷ []
+    two = rw (cut_step s at e (omega arith) k, cut_step s (at + 1) e (omega arith) k) refl
+
+    pub begins_other : (get_or s at 0 ≡ c → ⊥) → false ≡ begins_with c (cut s at e)
+    unfolding equal
+    begins_other n = rw (two, ne_eqb _ _ n) refl
+
+    pub begins_comma : get_or s at 0 ≡ c → eqb (get_or s (at + 1) 0) 44 ≡ begins_with c (cut s at e)
+    unfolding equal
+    begins_comma n = rw (two, eq-eqb _ _ n) (go (eqb (get_or s (at + 1) 0) 44))
+      where
+        go : (t : Bool) → t ≡ cond t true false
+        go true = refl
+        go false = refl
+
+  pub begins_long : (t : Bool) → t ≡ begins_with c (cut s at e) → t ≡ true → at ≤ e → e + 2 ≤ length s → at + 2 ≤ e
+  begins_long t u d h k = go (leb 2 (e - at)) refl
+    where
+      go : (b : Bool) → leb 2 (e - at) ≡ b → at + 2 ≤ e
+      go true z = omega (arith, borrow.Author.Tests.leb-true 2 (e - at) z)
+      go false z = never (begins_short h (omega arith) (borrow.Author.Tests.leb-false 2 (e - at) z) ∙ sym u ∙ d)
 
 -- ---- texts behind a command line
 
@@ -162,3 +202,7 @@ module _ (s : List ℕ) (l : Option ℕ) (h : LineAt s 0 l) where
   pub command_none : l ≡ None → none ≡ command s
   unfolding command
   command_none k = let y : take_line s ≡ none = rw from_all at (no_line_told s 0 l h k).same in sym (rw y refl)
+
+pub ruleset by_kind = (letter_room, by_text, by_turn, by_open, by_none, rest_whole)
+
+pub ruleset commanding = (text_none, text_whole, turn_none, turn_day, six_small, open_short, open_other, open_no_day, open_no_lengths, open_cut, command_line, command_none, rest_whole)

@@ -2,7 +2,7 @@
 use Rattle.std.specs.Prelude.{◌≡◌, Bool, ◌&&◌, ◌==◌, not, ℕ, zero, suc, ◌+◌, ◌-◌, ◌*◌, ◌≤◌, ◌<◌, Option, Some, None, leb, eqb, length, get_or, take, drop, replicate, position}
 use Rattle.std.specs.List.{position_or_len}
 use Rattle.std.proofs.Math.Path.{refl, sym, ap}
-use Rattle.std.proofs.Common.{◌∙◌, Fits, take-append-drop, ltb-true, ltb-false, zero-add}
+use Rattle.std.proofs.Common.{◌∙◌, Fits, take-append-drop, ltb-true, ltb-false, zero-add, lt_of_le_of_lt, lit<}
 use Rattle.std.proofs.Math.Bool.{true, false, cond}
 use mathlib.Core.List.{List, [], ◌∷◌, ◌++◌}
 use Rattle.std.proofs.Math.Option as M
@@ -12,20 +12,22 @@ use Rattle.std.proofs.Math.Dec.{eqb-suc-suc, ltb}
 use Rattle.std.proofs.lemmas.List.{drop_more}
 use borrow.Author.Tests.{le-leb, lt-leb, leb-true, eqb-true, ne_eqb, not-false}
 use borrow.Author.Rules.{Fits-under}
-use mir.Syntax.{w32}
+use mir.Syntax.{w32, w64}
 use Rattle.rules.specs.Text.{ascii, is_digit, digits_from, digits, every, fits, fits_sign, then, given, read_each, added_up}
 use Rattle.rules.specs.Lines.{parted}
 use Rattle.rules.specs.Replay.{length_of, parted_lengths, six_digits}
 use Rattle.laws.specs.Parts.{cut, cut_all, from, from_all, from_step, from_done}
 use Rattle.laws.specs.Front.{front_passed_all}
 use Rattle.laws.specs.Places.{Passed}
-use Rattle.laws.specs.Reading.{digit_low, fits_length}
+use Rattle.laws.specs.Reading.{digit_low, fits_length, power}
 use Rattle.laws.specs.Numbers.{digits_small}
 use Rattle.laws.specs.Values.{digits_each}
 use Rattle.laws.specs.Patterns.{digit_sign, fits_last}
 use Rattle.laws.specs.Tests.{holds_told, none_some, never, cond_left, cond_right}
 use Rattle.rule_laws.specs.Commas.{in_part, parted_last, parted_next, AtCommas, AtCommas.alone, AtCommas.comma, at_commas, PartsRead, PartsRead.one, PartsRead.next, parts_read}
 use Rattle.rule_laws.specs.Options.{There, Came, came, Gave, gave}
+use Rattle.commands.specs.declared.room.Room.{Room}
+use Rattle.laws.specs.Slices.{rest_whole}
 
 -- the number v and the digits behind it, where it is at most 8192
 unfoldable pub limited : ℕ → List ℕ → M.Option ℕ
@@ -295,6 +297,11 @@ six_small part n u = Fits-under w32 n 1000000 (go (fits (ascii "nnnnnn") part) r
 unfoldable pub room_of : List ℕ → M.Option ℕ
 room_of cs = cond (leb 1 (length cs) && leb (length cs) 7) (then (digits cs) (λ n. given (leb n 1048576) n)) none
 
+-- its bytes, as they are read
+abbrev pub bytes_in : Option Room → M.Option ℕ
+bytes_in None = none
+bytes_in (Some room) = some room.bytes
+
 module _ (part : List ℕ) where
   pub room_empty : length part ≡ 0 → none ≡ room_of part
   unfolding room_of
@@ -322,4 +329,23 @@ module _ (part : List ℕ) where
       pub room_read : v ≤ 1048576 → some v ≡ room_of part
       room_read m = sym (room_is ∙ rw (← w, le-leb _ _ m))
 
+pub two_small : (l : List ℕ) (m n : ℕ) → some (m ∷ n ∷ []) ≡ parted_lengths 2 l → Fits w64 (m + n)
+unfolding added_up
+two_small l m n u = Fits-under w64 (m + n) 65536 (omega (arith, (lengths_read 2 l (m ∷ n ∷ []) (sym u)).limit)) tt
+
+pub room_small : (cs : List ℕ) (v : ℕ) → some v ≡ room_of cs → v ≤ 1048576
+unfolding room_of
+room_small cs v u = go (leb 1 (length cs) && leb (length cs) 7) (sym u)
+  where
+    go : (t : Bool) → cond t (then (digits cs) (λ n. given (leb n 1048576) n)) none ≡ some v → v ≤ 1048576
+    go true k = given_within (digits cs) 1048576 v k
+    go false k = none_some k
+
+-- a number that is no larger takes a further digit
+pub length_room : (v : ℕ) → v ≤ 8192 → v < power 10 17
+unfolding power
+length_room v h = lt_of_le_of_lt h (lit< tt)
+
 pub ruleset numbers = (holds_told, digit_low, length_empty, length_starts, length_large, length_more, length_bad, length_end, six_other, six_read)
+
+pub ruleset both_lengths = (lengths_one, lengths_bad, lengths_second_bad, lengths_two, rest_whole)

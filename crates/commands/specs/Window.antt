@@ -213,3 +213,5 @@ room_made s at n r {s₁} h l m w =
       same = λ more. w.same more ∙ ap (λ (x : List ℕ). command (x ++ more)) c;
       idle = λ e. w.idle (omega arith);
     }
+
+pub ruleset shortening = (shorten_none, idle_within, zeros_within, shorten_less)

@@ -1,4 +1,6 @@
 // Commands.
+#![tactic(auto, using(crate::specs::Lines::commanding))]
+
 ghost use Rattle.std.specs.Prelude.{◌≡◌};
 ghost use Rattle.rules.specs.Replay.{command_of, command, single, texts_behind};
 ghost use Rattle.commands.specs.Answers.{commanded_of, making, turn_behind, opening_behind};
@@ -61,6 +63,7 @@ fn open_command<'a>(parts: &[u8], behind: &'a [u8]) -> Option<(Command<'a>, &'a 
 }
 
 // The command of a line, and what stands behind its texts.
+#[tactic(auto, using(crate::specs::Lines::by_kind))]
 fn line_command<'a>(line: &[u8], behind: &'a [u8]) -> Option<(Command<'a>, &'a [u8])>
     ensures { commanded_of result ≡ command_of line.now behind.now }
 {
@@ -80,8 +83,6 @@ fn line_command<'a>(line: &[u8], behind: &'a [u8]) -> Option<(Command<'a>, &'a [
 pub fn read_command(input: &[u8]) -> Option<(Command<'_>, &[u8])>
     ensures { commanded_of result ≡ command input.now }
 {
-    match lines::next_line(input, 0) {
-        Some(e) => line_command(&input[..e], &input[e + 2..]),
-        None => None,
-    }
+    let e = lines::next_line(input, 0)?;
+    line_command(&input[..e], &input[e + 2..])
 }

@@ -14,6 +14,7 @@ pub enum Handed {
 }
 
 // Does the line begin with the letter and a comma?
+#[tactic(auto, using(crate::specs::Letters::letters))]
 pub fn begins(line: &[u8], letter: u8) -> bool
     ensures { result ≡ begins_with letter line.now }
 {

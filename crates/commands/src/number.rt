@@ -1,12 +1,14 @@
 // Days and lengths of command lines.
-ghost use Rattle.std.specs.Prelude.{◌≡◌, ◌==◌, ◌≤◌, IfSome, length, position};
+ghost use Rattle.std.specs.Prelude.{◌≡◌, ◌==◌, ◌≤◌, length, position};
 ghost use Rattle.rules.specs.Replay.{length_of, parted_lengths, six_digits};
 ghost use Rattle.laws.specs.Told.{told};
-ghost use Rattle.commands.specs.Numbers.{lengths_in, room_of};
+ghost use Rattle.commands.specs.Numbers.{bytes_in, lengths_in, room_of};
 
+use crate::room::Room;
 use text::{Class, Digit};
 
 // A length: one or more digits, at most 8192.
+#[tactic(auto, using(crate::specs::Numbers::numbers))]
 pub fn read_length(part: &[u8]) -> Option<u64>
     ensures { told result ≡ length_of part.now }
 {
@@ -34,6 +36,7 @@ fn comma_at(part: &[u8]) -> Option<usize>
 }
 
 // Two lengths with a comma between them: the register's and the holiday list's.
+#[tactic(auto, using(crate::specs::Numbers::both_lengths))]
 pub fn two_lengths(part: &[u8]) -> Option<(u64, u64)>
     ensures { lengths_in result ≡ parted_lengths 2 part.now }
 {
@@ -44,6 +47,7 @@ pub fn two_lengths(part: &[u8]) -> Option<(u64, u64)>
 }
 
 // A day: six digits.
+#[tactic(auto, using(crate::specs::Numbers::numbers))]
 pub fn six_digits(part: &[u8]) -> Option<u64>
     ensures { told result ≡ six_digits part.now }
 {
@@ -53,10 +57,9 @@ pub fn six_digits(part: &[u8]) -> Option<u64>
     text::read_digits(part)
 }
 
-// A room of the output: one to seven digits, at most 1,048,576.
-pub fn read_room(part: &[u8]) -> Option<usize>
-    ensures value { told result ≡ room_of part.now }
-    ensures within { IfSome result (λ room. room ≤ 1048576) }
+// The room that one to seven digits are, of 1,048,576 bytes at most.
+pub fn read_room(part: &[u8]) -> Option<Room>
+    ensures { bytes_in result ≡ room_of part.now }
 {
     if part.is_empty() || part.len() > 7 {
         return None;
@@ -65,5 +68,7 @@ pub fn read_room(part: &[u8]) -> Option<usize>
     if room > 1048576 {
         return None;
     }
-    Some(room as usize)
+    Some(Room {
+        bytes: room as usize,
+    })
 }

@@ -6,6 +6,7 @@ ghost use Rattle.commands.specs.Window.{Roomed};
 use crate::letter::letter_at;
 
 // Where the first length begins on the line that w begins with.
+#[tactic(auto, using(crate::specs::Seeking::seeking))]
 fn first_length(w: &[u8]) -> Option<usize>
     ensures { SeekingAt w.now result }
 {
@@ -52,6 +53,7 @@ fn zeros_at(part: &[u8]) -> usize
 }
 
 // Takes all zeros but one off the front of a length that the first n bytes have; answers how many bytes are left.
+#[tactic(auto, using(crate::specs::Window::shortening))]
 fn shorten(s: &mut [u8], n: usize) -> usize
     requires within { n ≤ length s.old }
     ensures { Roomed s.old 0 n result s.new }
@@ -67,6 +69,7 @@ fn shorten(s: &mut [u8], n: usize) -> usize
 }
 
 // Moves the bytes from at up to n to the front and leaves out zeros that a length begins with; answers how many bytes are left.
+#[tactic(auto, using(crate::specs::Window::room_made))]
 pub fn make_room(s: &mut [u8], at: usize, n: usize) -> usize
     requires within { (at ≤ n) × (n ≤ length s.old) }
     ensures { Roomed s.old at n result s.new }

@@ -117,3 +117,8 @@ pub order_books : (s : List ℕ) (o : Order) → Has s (mt101 o) → (p : Span) 
     → Books s (mt101 o) (booking_of s (AnMt101 count) p date sum)
 unfolding date_of transferred_by detailed_by details_of misdated
 order_books s o h p w e {date} {sum} {count} d f l = books s (mt101 o) h p w e (AnMt101 count) date sum d refl (sym f) (λ day. rw d refl) l (record { order = o; same = refl })
+
+-- made of a bank that was read
+pub booking_made : (s : List ℕ) (t : Kind) (p : Span) (v date amount : ℕ) → v ≡ big_endian (take 8 (drop 4 s))
+    → ◌≡◌ {A = Booking} (record { key = record { bank = v; date = date }; amount = amount; reference = p; kind = t }) (booking_of s t p date amount)
+booking_made s t p v date amount e = rw e

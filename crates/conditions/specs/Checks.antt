@@ -1,5 +1,5 @@
 -- The check of a message, one law for each way that the code goes.
-use Rattle.std.specs.Prelude.{◌≡◌, refl, Bool, true, false, ◌&&◌, List, ℕ, ◌-◌, ◌≤◌, ◌<◌, leb, get_or, take, drop, map, Result, Ok, Err}
+use Rattle.std.specs.Prelude.{◌≡◌, refl, Bool, true, false, List, ℕ, ◌-◌, ◌≤◌, ◌<◌, get_or, take, drop, map, Ok, Err}
 use Rattle.std.specs.Prelude as R
 use Rattle.std.proofs.Math.Path.{sym}
 use Rattle.std.proofs.Common.{ap, ◌∙◌, subst}
@@ -14,7 +14,7 @@ use Rattle.rules.specs.Engine.{slashed}
 use Rattle.rules.specs.Messages as M
 use Rattle.rules.specs.Messages.{Message, mt103, mt101, field20, details_of, reference_of, date_of, first_date, read_transfer, read_order, read, past}
 use Rattle.rules.specs.Calls.{form_stops, first_of, addressed, input_stops}
-use Rattle.laws.specs.Parts.{from}
+use Rattle.laws.specs.Parts.{cut, from}
 use Rattle.engine_laws.specs.Accepted.{Has, transfer_has, order_has}
 use Rattle.forms.specs.Table.{table, part}
 use Rattle.forms.specs.Spans.{span_of, no_span, SpanIn, within_at, within_order, lines_at, span_line}
@@ -24,6 +24,8 @@ use Rattle.forms.specs.Transfers.{TransferIn, transfer_in}
 use Rattle.forms.specs.declared.rows.Span.{Span}
 use Rattle.forms.specs.declared.transfer.Transfer as T
 use Rattle.rule_laws.specs.Lines.{body_from}
+use Rattle.register.specs.Passed.{text_first, temporary_at_lem}
+use Rattle.verdict.specs.Details.{JudgingRoom}
 use Rattle.verdict.specs.declared.detail.Judged.{Judged}
 use Rattle.field_conditions.specs.Stops.{transfer_stop, transfer_stops, low_of}
 use Rattle.conditions.specs.Walk.{named, NamedFirst, named_first, alike, named_twice}
@@ -205,6 +207,15 @@ module _ (s : List ℕ) (b : Bool) (u : b ≡ equal (take (21 - 13) (drop 13 s))
     addressed_103 k r e = rw (← v, k, ← e, received, h, and-true)
 
 -- ---- the whole message
+
+-- the temporary account stands in front of a register that passes
+module _ (text : List ℕ) {kept : List Judged} (r : JudgingRoom text kept) where
+  pub temporary_room : 22 ≤ length text
+  temporary_room = omega (arith, text_first text r.passes)
+
+  pub temporary_is : (t : List ℕ) → t ≡ take (22 - 0) (drop 0 text) → t ≡ temporary_in text
+  unfolding cut
+  temporary_is t e = e ∙ sym (temporary_at_lem text r.passes)
 
 module _ (s text : List ℕ) (b : Bool) (u : b ≡ framed s) where
   pub message_unframed : b ≡ false → {kept : List Judged} → CheckedAs s text (Err NotFramed) kept

@@ -1,6 +1,6 @@
 -- The conditions 4 to 8 of an MT101.
 use Rattle.std.specs.Prelude.{◌≡◌, refl, Bool, true, false, ◌||◌, not, cond, List, ℕ, ◌≤◌, ◌<◌, leb, eqb, length}
-use Rattle.std.proofs.Common.{ap, arith, leb-true}
+use Rattle.std.proofs.Common.{ap, arith, leb-true, le-leb}
 use Rattle.std.proofs.Math.Option.{some}
 use Rattle.std.proofs.lemmas.Bool.{lt-leb}
 use Rattle.rules.specs.Text.{equal, any, twice}
@@ -45,6 +45,9 @@ order_stops temporary bank rows ds =
 module _ (a b x y r : ℕ) where
   pub pick_over : b < a → r ≡ x → r ≡ cond (not (leb a b)) x y
   pick_over h e = rw (lt-leb a b h) e
+
+  pub pick_within : a ≤ b → r ≡ y → r ≡ cond (not (leb a b)) x y
+  pick_within h e = rw (le-leb a b h) e
 
 -- one field 21 twice is asked only of 16 details at most
 pub order_many : (n : ℕ) (b : Bool) (low : ℕ) (t t' : Bool) → (n ≤ 16 → t ≡ t') → order_stop n b low t ≡ order_stop n b low t'

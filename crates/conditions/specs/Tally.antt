@@ -1,5 +1,5 @@
 -- The details of an MT101 read, judged, kept and summed one by one, and what is then told of all of them.
-use Rattle.std.specs.Prelude.{◌≡◌, refl, Bool, true, false, cond, List, [], ◌∷◌, ◌++◌, eqb, length, get_or, take, set, Result, Ok, Err}
+use Rattle.std.specs.Prelude.{◌≡◌, refl, Bool, true, false, cond, List, [], ◌∷◌, ◌++◌, eqb, length, take, set}
 use Rattle.std.specs.Prelude as R
 use Rattle.std.proofs.Math.Path.{sym}
 use Rattle.std.proofs.Common.{ap, ◌∙◌, append_assoc, eq-eqb, ne_eqb, length-set}
@@ -163,6 +163,10 @@ module _ (s text : List ℕ) (at pos : ℕ) (t : Tally) {kept : List Judged} (m 
   -- the bytes of a message hold no more
   pub walk_few : length s ≤ 4096 → (d : Detail) {next : ℕ} → DetailUpTo s pos d next → t.count < 1024
   walk_few l d w = omega (arith, m.long, detail_long s pos d w, w.place)
+
+  pub walk_out : 4096 ≤ t.count → {kept' : List Judged} → TallyAt s text at R.None kept'
+  unfolding details
+  walk_out h = let e : 4096 - t.count ≡ 0 = omega arith in record { none_there = λ _. sym (rw e at m.left); all_there = λ x g. absurd (cc) }
 
   pub walk_bad : t.count < 4096 → take_detail (from s pos) ≡ none → {kept' : List Judged} → TallyAt s text at R.None kept'
   unfolding details

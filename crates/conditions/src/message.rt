@@ -18,12 +18,11 @@ use register::Register;
 use verdict::Judged;
 
 // 3 to 8 of an MT103.
+#[tactic(auto, using(crate::specs::Checks::transfer_formless, crate::specs::Checks::transfer_date))]
 fn check_transfer(message: Message, temporary: &[u8]) -> Result<Booking, Refusal>
     ensures { TransferChecked temporary.now message.entry.text.now result }
 {
-    let Some(t) = read_transfer(message) else {
-        return Err(Refusal::NotInForm);
-    };
+    let t = read_transfer(message).ok_or(Refusal::NotInForm)?;
     transfer_stop(message.text, temporary, t)?;
     let reference = t.spans[MESSAGE_20].behind(4);
     Ok(booking_of(message, Kind::Transfer, reference, t.date, t.amount))
@@ -38,12 +37,8 @@ fn check_order(
     ensures { CheckedBy message.entry.text.now register.entry.text.now (read_order message.entry.text.now) result kept.new }
 {
     let mut reader = message.body();
-    let Some(spans) = read_rows(&mut reader, 0, 1) else {
-        return Err(Refusal::NotInForm);
-    };
-    let Some(t) = tally_details(&mut reader, register, kept) else {
-        return Err(Refusal::NotInForm);
-    };
+    let spans = read_rows::<1>(&mut reader, 0).ok_or(Refusal::NotInForm)?;
+    let t = tally_details(&mut reader, register, kept).ok_or(Refusal::NotInForm)?;
     let line = spans[MESSAGE_20];
     order_stop(message.text, line.of(message.text), kept, t)?;
     let reference = line.behind(4);
@@ -52,6 +47,7 @@ fn check_order(
 }
 
 // Is the message of the type t?
+#[tactic(auto, using(crate::specs::Checks::checking))]
 fn is_type(message: Message, t: &[u8]) -> bool
     ensures { result ≡ equal (type message.entry.text.now) t.now }
 {
@@ -59,6 +55,7 @@ fn is_type(message: Message, t: &[u8]) -> bool
 }
 
 // 2: is it an MT101 or MT103, to BNBGBGSD?
+#[tactic(auto, using(crate::specs::Checks::checking))]
 fn is_addressed(message: Message) -> bool
     ensures { result ≡ addressed message.entry.text.now }
 {
@@ -79,9 +76,7 @@ pub fn check_message(
 ) -> Result<Booking, Refusal>
     ensures { CheckedAs s.now register.entry.text.now result kept.new }
 {
-    let Some(message) = Message::framed(s) else {
-        return Err(Refusal::NotFramed);
-    };
+    let message = Message::framed(s).ok_or(Refusal::NotFramed)?;
     if !is_addressed(message) {
         return Err(Refusal::NotAddressed);
     }

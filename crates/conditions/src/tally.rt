@@ -41,6 +41,7 @@ fn lower(a: Result<(), Refusal>, b: Result<(), Refusal>) -> Result<(), Refusal>
 }
 
 // The tally with one more detail. The bytes of a message hold fewer than 1,024, so that the sum of all fits 64 bits.
+#[tactic(auto, using(crate::specs::Tally::day_first, crate::specs::Tally::day_later))]
 fn after(s: &[u8], t: Tally, d: Detail) -> Tally
     requires spans_within { SpansWithin s.now d.spans }
     requires count_bound { t.count < 1024 }
@@ -58,6 +59,7 @@ fn after(s: &[u8], t: Tally, d: Detail) -> Tally
 }
 
 // The detail judged by the register and kept, where it is one of the first 16; n are before it.
+#[tactic(auto, using(crate::specs::Tally::keeping))]
 fn keep_first(s: &[u8], register: Register, kept: &mut [Judged; 16], n: u32, d: Detail)
     requires { SpansWithin s.now d.spans }
     ensures { KeepsFirst s.now register.entry.text.now n d kept.old kept.new }

@@ -1,4 +1,6 @@
 // The fields 21 of the details: 5, one field 21 twice.
+#![tactic(auto, using(crate::specs::Walk::walking))]
+
 ghost use Rattle.std.specs.Prelude.{◌≡◌, map};
 ghost use Rattle.rules.specs.Text.{equal, any, twice};
 ghost use Rattle.forms.specs.Spans.{SpanIn};

@@ -170,3 +170,5 @@ module _ {s area out shown : List ℕ} {at n : ℕ} (m : WindowReady s at n area
           };
         }
         go Ends u = record { kept = kept u.size; told = record { stops = λ ps. stops (holds area) (cut s at n) ps u.none } }
+
+pub ruleset going_on = (wants_none, wants, behind_within, onward_answers, onward_none, onward_wants)

@@ -20,6 +20,7 @@ use Rattle.rules.specs.Replay.{to_newer, to_older, called}
 use Rattle.rule_laws.specs.Conditions.{answered_accepted, answered_refused}
 use Rattle.rule_laws.specs.Moves.{newer_clear, older_clear}
 use Rattle.rule_laws.specs.Options.{There}
+use Rattle.commands.specs.declared.letter.Handed.{Handed}
 use Rattle.commands.specs.declared.letter.Handed.TheVariants.{Message, Newer, Older}
 use Rattle.commands.specs.declared.command.Command.{Command}
 use Rattle.commands.specs.declared.command.Command.TheVariants.{Opens, Hands, Turns as TurnsTo}
@@ -84,7 +85,7 @@ module _ (area : List ℕ) (l : area_size ≤ length area) where
     unfolding open_stops
     sizes = rw (le-leb _ _ l)
 
-    same_open : SameAnswer (open_call area_size (holds area) text list day) (card_open text list day area) area []
+    pub same_open : SameAnswer (open_call area_size (holds area) text list day) (card_open text list day area) area []
     unfolding open_call card_open
     same_open = rw sizes (same_answered (open_stops (length area) text list day) (accepted_opening text list day) area [] open_same)
 
@@ -113,7 +114,7 @@ module _ (area : List ℕ) (l : area_size ≤ length area) where
         let r : Result = on_areas (accepted_turn (some h.value) day) area out in
         rw h.is (same_done {r = r} (on_zero (accepted_turn (some h.value) day) area out refl) l w.clear.fits (rw (answered_accepted _ (holds area) (accepted_turn (holds area) day) k, h.is) at w.done))
 
-    same_turn : SameAnswer (turn_call (length out) (holds area) day) (card_turn day area out) area out
+    pub same_turn : SameAnswer (turn_call (length out) (holds area) day) (card_turn day area out) area out
     unfolding turn_call card_turn
     same_turn = same_answered (turn_stops (length out) (holds area) day) (accepted_turn (holds area) day) area out turn_same
 
@@ -138,6 +139,18 @@ same_service : (area out : List ℕ) (v : Service) → SameAnswer (service_call 
 unfolding service_call service_result newer_call card_newer older_call card_older
 same_service area out (newer s) = beside_same (newer_stops (length out) s) area out (with_end s) (λ k. (newer_clear (length out) s k).fits)
 same_service area out (older s) = beside_same (older_stops (length out) s) area out (without_end s) (λ k. (older_clear (length out) s k).fits)
+
+-- what it does to area and output
+unfoldable pub text_result : Handed → List ℕ → List ℕ → List ℕ → Result
+text_result Message s area out = card_message s area out
+text_result Newer s area out = service_result (newer s) area out
+text_result Older s area out = service_result (older s) area out
+
+pub same_text : (area : List ℕ) → area_size ≤ length area → (out : List ℕ) (h : Handed) (s : List ℕ) → SameAnswer (called (length out) (holds area) (making h s)) (text_result h s area out) area out
+unfolding called making to_newer to_older text_result
+same_text area l out Message s = same_message area l out s
+same_text area l out Newer s = same_service area out (newer s)
+same_text area l out Older s = same_service area out (older s)
 
 -- ---- the call that a command is for
 

@@ -1,15 +1,15 @@
 -- What the card answered to a command, as document 01's calls on an engine say it, and how it is printed.
-use Rattle.std.specs.Prelude.{◌≡◌, refl, Bool, true, false, cond, List, [], ◌∷◌, ◌++◌, ℕ, zero, suc, ◌+◌, ◌/◌, ◌≤◌, ◌<◌, ◌^◌, leb, ℤ, pos, negsuc, length, take}
-use Rattle.std.proofs.Common.{◌∙◌, arith, length-append, length-take, to_z, of_z, to_z-of_z}
+use Rattle.std.specs.Prelude.{◌≡◌, refl, Bool, true, false, cond, List, [], ◌∷◌, ◌++◌, ℕ, zero, suc, ◌+◌, ◌/◌, ◌≤◌, ◌<◌, ◌^◌, leb, ℤ, pos, negsuc, length, take, ◌-◌, drop}
+use Rattle.std.proofs.Common.{◌∙◌, arith, length-append, length-take, to_z, of_z, to_z-of_z, sym}
 use Rattle.std.specs.Int.Signed.{mag}
 use Rattle.std.specs.Int.{w64}
 use Rattle.std.specs.Borrow.{Bor}
 use Rattle.rules.specs.Text.{ascii, decimal, width}
-use Rattle.rules.specs.Calls.{Answer}
+use Rattle.rules.specs.Calls.{Answer, open_call, turn_call}
 use Rattle.rules.specs.Replay.{signed, printed, called}
 use Rattle.rules.specs.Area.{holds, Result, card_open, card_message, card_turn, card_newer, card_older, area_size}
 use Rattle.rules.specs.Services.{beside, service_result}
-use Rattle.laws.specs.Parts.{cut}
+use Rattle.laws.specs.Parts.{cut, from, from_take}
 use Rattle.laws.specs.Digits.{places_length}
 use Rattle.put.specs.declared.parts.Writer.{Writer}
 use Rattle.put.specs.Writes.{Writes, writes_then}
@@ -17,9 +17,9 @@ use Rattle.commands.specs.declared.letter.Handed.{Handed}
 use Rattle.commands.specs.declared.letter.Handed.TheVariants.{Message, Newer, Older}
 use Rattle.commands.specs.declared.command.Command.{Command}
 use Rattle.commands.specs.declared.command.Command.TheVariants.{Opens, Hands, Turns}
-use Rattle.commands.specs.Answers.{command_in}
+use Rattle.commands.specs.Answers.{command_in, making}
 use Rattle.card.specs.Answers.{Answers}
-use Rattle.day.specs.Same.{SameAnswer, unwritten, result_of, same_call}
+use Rattle.day.specs.Same.{SameAnswer, unwritten, result_of, same_call, same_open, same_turn, text_result, same_text}
 use Rattle.day.specs.declared.call.Outcome.{Outcome}
 
 -- the outcome, and area and output then, are the answer's
@@ -68,6 +68,51 @@ pub answer_wrote : (a : Outcome) (out : List ℕ) → mag a.difference < 2 ^ 63 
 unfolding answer_text cut
 answer_wrote a out f u v w x y = writes_then (writes_then (writes_then (writes_then u v) (rw (to_z-of_z {w = w64} record { sfits = f }) at w)) x) y
 
+part_is : (s : List ℕ) (a b : ℕ) → a ≤ b → cut s a b ≡ take (b - a) (drop a s)
+unfolding from
+part_is s a b h = let e : a + (b - a) ≡ b = omega arith in sym (rw e at (from_take s a (b - a)))
+
+module _ (area : List ℕ) (l : area_size ≤ length area) {k n : ℕ} {d : ℤ} {area' : List ℕ} where
+  told : (a : Answer) (r : Result) {out out' : List ℕ} → SameAnswer a r area out → Answers r k n d area' out' → CallTold a (record { number = k; written = n; difference = to_z w64 (of_z w64 d) }) area area' out out'
+  told a r {out} s w = record {
+    number = w.number ∙ s.number;
+    difference = to_z-of_z {w = w64} record { sfits = w.small } ∙ w.difference ∙ s.difference;
+    text = rw (w.written, w.output) s.text;
+    next = rw w.area s.next;
+    size = rw w.area s.size;
+    room = rw w.output s.room;
+    fits = rw (w.written, w.output, s.room) s.fits;
+    small = rw (to_z-of_z {w = w64} record { sfits = w.small }) w.small;
+  }
+
+  pub told_turn : (day : ℕ) (out : List ℕ) {out' : List ℕ} → Answers (card_turn day area out) k n d area' out' → CallTold (turn_call (length out) (holds area) day) (record { number = k; written = n; difference = to_z w64 (of_z w64 d) }) area area' out out'
+  told_turn day out w = told _ _ (same_turn area l out day) w
+
+  pub told_text : (h : Handed) (input : List ℕ) (a b : ℕ) (out : List ℕ) {out' : List ℕ} → a ≤ b → Answers (text_result h (take (b - a) (drop a input)) area out) k n d area' out'
+      → CallTold (called (length out) (holds area) (making h (cut input a b))) (record { number = k; written = n; difference = to_z w64 (of_z w64 d) }) area area' out out'
+  told_text h input a b out g w = rw (part_is input a b g) (told _ _ (same_text area l out h (take (b - a) (drop a input))) w)
+
+  -- opening writes nothing
+  opened_told : (text list : List ℕ) (day : ℕ) (out : List ℕ) → Answers (card_open text list day area) k n d area' [] → CallTold (open_call area_size (holds area) text list day) (record { number = k; written = n; difference = to_z w64 (of_z w64 d) }) area area' out out
+  opened_told text list day out w =
+      let s : SameAnswer (open_call area_size (holds area) text list day) (card_open text list day area) area [] = same_open area l text list day in
+      let y : (card_open text list day area).written ≡ 0 = omega (arith, s.fits) in
+      let z : n ≡ 0 = w.written ∙ y in record {
+        number = w.number ∙ s.number;
+        difference = to_z-of_z {w = w64} record { sfits = w.small } ∙ w.difference ∙ s.difference;
+        text = rw z (rw y at s.text);
+        next = rw w.area s.next;
+        size = rw w.area s.size;
+        room = refl;
+        fits = omega arith;
+        small = rw (to_z-of_z {w = w64} record { sfits = w.small }) w.small;
+      }
+
+  -- the texts are parts of the input
+  pub told_open : (input : List ℕ) (a b c day : ℕ) (out : List ℕ) → a ≤ b → b ≤ c → Answers (card_open (take (b - a) (drop a input)) (take (c - b) (drop b input)) day area) k n d area' []
+      → CallTold (open_call area_size (holds area) (cut input a b) (cut input b c) day) (record { number = k; written = n; difference = to_z w64 (of_z w64 d) }) area area' out out
+  told_open input a b c day out h g w = rw (part_is input a b h, part_is input b c g) (opened_told (take (b - a) (drop a input)) (take (c - b) (drop b input)) day out w)
+
 -- the card's call for a command
 pub told_call : (area : List ℕ) → area_size ≤ length area → (c : Command) {k n : ℕ} {d : ℤ} {area' out out' : List ℕ} → Answers (result_of c area out) k n d area' out'
     → CallTold (called (length out) (holds area) (command_in c)) (record { number = k; written = n; difference = to_z w64 (of_z w64 d) }) area area' out out'
@@ -92,6 +137,19 @@ answers_unwritten out w = record { number = w.number; written = w.written; diffe
 answers_beside : (area : List ℕ) {r : Result} {k n : ℕ} {d : ℤ} {a out : List ℕ} → Answers r k n d a out → Answers (beside area r) k n d area out
 unfolding beside
 answers_beside area w = record { number = w.number; written = w.written; difference = w.difference; area = refl; output = w.output; small = w.small }
+
+module _ (h : Handed) (s area out : List ℕ) {k n : ℕ} {d : ℤ} {out' : List ℕ} where
+  pub text_message : {area' : List ℕ} → h ≡ Message → Answers (card_message s area out) k n d area' out' → Answers (text_result h s area out) k n d area' out'
+  unfolding text_result
+  text_message e w = rw e w
+
+  pub text_newer : h ≡ Newer → Answers (card_newer s out) k n d [] out' → Answers (text_result h s area out) k n d area out'
+  unfolding text_result service_result
+  text_newer e w = rw e (answers_beside area w)
+
+  pub text_older : h ≡ Older → Answers (card_older s out) k n d [] out' → Answers (text_result h s area out) k n d area out'
+  unfolding text_result service_result
+  text_older e w = rw e (answers_beside area w)
 
 module _ (c : Command) (area out : List ℕ) {k n : ℕ} {d : ℤ} where
   pub result_open : {area' : List ℕ} (day : ℕ) (register holidays : Bor (List ℕ)) → c ≡ Opens day register holidays → Answers (card_open register.now holidays.now day area) k n d area' [] → Answers (result_of c area out) k n d area' out

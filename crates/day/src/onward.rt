@@ -1,4 +1,6 @@
 // A turn over a window of the input.
+#![tactic(auto, using(crate::specs::Onwards::going_on))]
+
 ghost use Rattle.day.specs.Onwards.{WindowReady, Unread, Wanted, Onwards};
 
 use crate::replay::carry_out;

@@ -14,7 +14,7 @@ use Rattle.put.specs.Writes.{Writes, Unwritten, unwritten_all, unwritten_turn, u
 use Rattle.details.specs.Message.{details_in, detail_at}
 use Rattle.details.specs.Kept.{LineOf, RowsOf}
 use Rattle.details.specs.declared.kept.Kept.{Kept}
-use Rattle.verdict.specs.Details.{KeptIn, no_judged, judged_at}
+use Rattle.verdict.specs.Details.{KeptIn, kept_at, no_judged, judged_at}
 use Rattle.verdict.specs.declared.detail.Judged.{Judged}
 use Rattle.forms.specs.Spans.{span_of, SpanIn}
 use Rattle.detail_lines.specs.Rows.{rows_of, rows_kept}
@@ -118,5 +118,9 @@ module _ (s : List ℕ) (kept : List Judged) (k : LinesIn s kept) (i : ℕ) (h :
 
   pub baeref_in : SpanIn s (get_or kept i j).detail.baeref
   baeref_in = (lines_at s kept k i h j).baeref.inside
+
+-- so does the payer's field
+pub payer_in : (s : List ℕ) (kept : List Judged) → KeptIn s kept → (i : ℕ) → i < length kept → (j : Judged) → SpanIn s (get_or kept i j).detail.payer
+payer_in s kept k i h j = (kept_at s kept k i h j).payer.inside
 
 pub ruleset listing = (lines_kept, branch_in, account_in_lem, baeref_in, rows_start, rows_full, rows_end, rows_more, rows_pass)

@@ -7,6 +7,7 @@ use put::Writer;
 use verdict::Judged;
 
 // The rows of the listed of the details of the message s, from detail `first` on, `most` of them at most. Answers the detail at which the walk goes on. The message and what is kept stand by themselves: `Details` would ask for more than the lines that are written.
+#[tactic(auto, using(crate::specs::Listed::rows_full, crate::specs::Listed::rows_end))]
 pub fn put_listed(w: &mut Writer, s: &[u8], kept: &[Judged], first: usize, most: u32) -> usize
     requires lines_in { LinesIn s.now kept.now }
     requires first_within { first ≤ length kept.now }

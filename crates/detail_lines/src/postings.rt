@@ -24,6 +24,7 @@ fn put_credit(w: &mut Writer, book: Book, register: Register, i: usize, amount: 
 }
 
 // The posting line of an amount by its verdict: a credit, or a return.
+#[tactic(auto, using(crate::specs::Postings::crediting))]
 fn put_verdict_posting(w: &mut Writer, book: Book, register: Register, v: Verdict, amount: u64)
     requires { InRegister register.text.now v }
     ensures { Writes (verdict_posting (register_of register.entry.text.now) (book_by register.entry.text.now book) amount (verdict_of v)) w.old w.new }
@@ -36,6 +37,7 @@ fn put_verdict_posting(w: &mut Writer, book: Book, register: Register, v: Verdic
 }
 
 // The posting lines of a message's details, in their order.
+#[tactic(auto, using(crate::specs::Postings::judged_known, crate::specs::Postings::credits_end))]
 pub fn put_detail_postings(w: &mut Writer, book: Book, register: Register, details: Details)
     requires { JudgedIn register.text.now details.message.now details.kept.now }
     ensures { Writes (detail_postings (register_of register.entry.text.now) (book_by register.entry.text.now book) (details_in details.entry.message.now)) w.old w.new }

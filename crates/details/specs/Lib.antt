@@ -1,2 +1,4 @@
+pub mod Lines
 pub mod Message
 pub mod Kept
+pub mod Fields

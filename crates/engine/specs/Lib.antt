@@ -1,4 +1,5 @@
 pub mod Numbers
+pub mod Front
 pub mod Header
 pub mod Positions
 pub mod Places

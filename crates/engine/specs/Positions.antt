@@ -74,3 +74,6 @@ module _ (area : List ℕ) (p : ℕ) where
     transferred = t.small;
     detailed = d.small;
   }
+
+pub at_place : {area : List ℕ} {p q : ℕ} {r : P.Position} → p ≡ q → PositionAt area p r → PositionAt area q r
+at_place e a = rw (← e) a

@@ -1,6 +1,7 @@
 -- The positions of an area walked from one to the next, up to the place of a key.
 use Rattle.std.specs.Prelude.{◌≡◌, refl, Bool, true, false, not, List, ◌∷◌, map, ℕ, zero, suc, ◌+◌, ◌*◌, ◌≤◌, ◌<◌, get_or, take, drop}
-use Rattle.std.proofs.Common.{◌∙◌, arith, drop_of_length-le, drop-drop, drop-cons}
+use Rattle.std.proofs.Common.{◌∙◌, arith, drop_of_length-le, drop-drop, drop-cons, inl, inr}
+use Rattle.std.proofs.lemmas.Bool.{cases_lt}
 use Rattle.std.proofs.Math.Bool.{not-not}
 use Rattle.std.proofs.Math.ListN.{length}
 use Rattle.rules.specs.Text.{is_some}
@@ -11,6 +12,7 @@ use Rattle.engine_laws.specs.Checked.{reads_length}
 use Rattle.engine_laws.specs.Decoded.{decoded_limits}
 use Rattle.engine_laws.specs.Positions.{Before, position_order}
 use Rattle.engine_laws.specs.Tests.{value_at, key_at}
+use Rattle.engine.specs.Front.{UpTo, behind}
 use Rattle.engine.specs.Header.{HeaderOf}
 use Rattle.engine.specs.declared.header.Header.{Header}
 use Rattle.engine.specs.Positions.{nth_position}
@@ -82,4 +84,15 @@ module _ (a : List ℕ) (n i : ℕ) (m : Many a n) where
 pub walk_start : (a : List ℕ) (n : ℕ) (k : Key) → Many a n → KeysBefore k (decode a).positions 0
 walk_start a n k m = before_none k (decode a).positions m.sorted
 
-pub ruleset placing = (inside, walk_start, walk_end, walk_on, walk_here, first_none, first_is)
+-- the walk as a count of those before it
+module _ (a : List ℕ) (n : ℕ) (k : Key) (m : Many a n) {post : ℕ → Bool → Type 0} (t : (i : ℕ) (q : Bool) → i < n → post i q → q ≡ key_before (key_at a (positions_place + record_size * i)) k) {r : ℕ} (u : UpTo post n r) where
+  walked : KeysBefore k (decode a).positions r
+  walked = behind u (KeysBefore k (decode a).positions) (walk_start a n k m) (λ i h p g. walk_on a n i m k g false h _ refl _ refl (rw (← t i true h p) refl) refl)
+
+  pub place_told : PlaceOf k (decode a).positions r
+  place_told = elim (cases_lt r n) [
+    | inl h ↦ walk_here a n r m k walked true h _ refl _ refl (rw (← t r false h (u.stopped h)) refl) refl
+    | inr h ↦ walk_end a n r m k walked h
+  ]
+
+pub ruleset placing = (inside, walk_start, walk_end, walk_on, walk_here, place_told, first_none, first_is)

@@ -64,6 +64,7 @@ impl<'a> Engine<'a> {
     }
 
     // Was a bank's reference accepted today?
+    #[tactic(auto, using(crate::specs::Lookup::looking))]
     pub fn is_used(self, reference: BankReference) -> bool
         ensures { result ≡ any (same_reference (of_bank reference.entry.bank reference.entry.text.now)) (decode self.entry.area.now).references }
     {

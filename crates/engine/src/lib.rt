@@ -11,7 +11,7 @@ mod texts;
 
 pub use header::{Header, has_room, header_at};
 pub use held::Engine;
-pub use places::{is_at, place_of};
+pub use places::{is_at, place_by, place_of};
 pub use positions::{key_at, nth_position, position_at, position_place};
-pub use reference::{BankReference, filed_at};
+pub use reference::{BankReference, filed_at, files_before};
 pub use texts::{length_at, text_at, text_place};

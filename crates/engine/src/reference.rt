@@ -1,9 +1,12 @@
 // A bank's reference, and whether it is among those accepted today.
+#![tactic(auto, using(crate::specs::References::used))]
+
 ghost use Rattle.std.specs.Prelude.{◌≡◌, true, [], ◌+◌, ◌≤◌, length, drop};
 ghost use Rattle.rules.specs.Text.{is_text, every, equal, any};
 ghost use Rattle.rules.specs.Engine.{same_reference};
 ghost use Rattle.rules.specs.Area.{until_zero, number_at, references_place, positions_place, record_size};
 ghost use Rattle.laws.specs.Parts.{cut};
+ghost use Rattle.engine_laws.specs.Tests.{precedes_by};
 ghost use Rattle.engine.specs.References.{of_bank, reference_at, references_at};
 
 use crate::layout::{RECORD, REFERENCES, SIZE, TEXT};
@@ -32,7 +35,6 @@ impl<'a> BankReference<'a> {
     }
 
     // Is its text that of these 16 bytes?
-    #[tactic(auto, using(crate::specs::References::used))]
     fn has_text(self, padded: &[u8]) -> bool
         requires { length padded.now ≡ 16 }
         ensures { result ≡ equal self.entry.text.now (until_zero padded.now) }
@@ -42,7 +44,6 @@ impl<'a> BankReference<'a> {
     }
 
     // Is it the record at p?
-    #[tactic(auto, using(crate::specs::References::used))]
     fn stands_at(self, area: &[u8], p: usize) -> bool
         requires { p + record_size ≤ length area.now }
         ensures { result ≡ same_reference (of_bank self.entry.bank self.entry.text.now) (reference_at area.now p) }
@@ -51,7 +52,6 @@ impl<'a> BankReference<'a> {
     }
 
     // Is it among the first n?
-    #[tactic(auto, using(crate::specs::References::used))]
     pub fn is_among(self, area: &[u8], n: u32) -> bool
         requires few { n ≤ 64 }
         requires references_in_bounds { positions_place ≤ length area.now }
@@ -82,4 +82,15 @@ pub fn filed_at<'a>(area: &'a [u8], p: usize) -> (u64, &'a [u8])
     ensures text { result.1.now ≡ cut area.now (p + 8) (p + 8 + 16) }
 {
     (big_endian(&area[p..p + TEXT]), &area[p + TEXT..p + SIZE])
+}
+
+// Does one sender with its text stand before another: by sender, then by text? (As pairs, by `<`, both would be compared by the slices' order: see `precedes` of `text`.)
+#[tactic(auto, using(crate::specs::References::sender_same, crate::specs::References::sender_other))]
+pub fn files_before(a: (u64, &[u8]), b: (u64, &[u8])) -> bool
+    ensures { result ≡ precedes_by a.entry.0 a.entry.1.now b.entry.0 b.entry.1.now }
+{
+    if a.0 == b.0 {
+        return text::precedes(a.1, b.1);
+    }
+    a.0 < b.0
 }

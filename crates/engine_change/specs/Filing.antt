@@ -1,22 +1,43 @@
 -- The place of a reference among those of an area, which stand by sender in byte order and then text: it is put before the first one that does not precede it.
 use Rattle.std.specs.Prelude.{◌≡◌, Bool, true, false, List, [], ℕ, ◌+◌, ◌-◌, ◌*◌, ◌≤◌, ◌<◌, length, get_or}
 use Rattle.std.proofs.Math.Path.{refl}
-use Rattle.std.proofs.Common.{sym, ◌∙◌, arith}
-use Rattle.rules.specs.Text.{is_text, every}
+use Rattle.std.proofs.Common.{sym, ◌∙◌, arith, inl, inr}
+use Rattle.std.proofs.lemmas.Bool.{cases_lt}
+use borrow.Author.Tests.{le-leb, lt-leb, eq-eqb, ne_eqb}
+use Rattle.rules.specs.Text.{is_text, every, text_before}
 use Rattle.rules.specs.Engine.{Reference, precedes, filed}
 use Rattle.rules.specs.Area.{number_at, reference_in, reference_record, decode, area_size, many_references_place, references_place, record_size}
 use Rattle.laws.specs.Parts.{cut}
 use Rattle.laws.specs.Sections.{inserted}
-use Rattle.laws.specs.Putting.{PutBehind, put_on, put_end, put_before}
+use Rattle.laws.specs.Putting.{PutBehind, put_start, put_on, put_end, put_before}
 use Rattle.laws.specs.Standing.{moved}
 use Rattle.laws.specs.Writing.{Wrote}
 use Rattle.engine_laws.specs.References.{filed_behind, filed_here}
 use Rattle.engine_laws.specs.Checked.{until_before, texts_some}
 use Rattle.engine_laws.specs.Tests.{precedes_by}
+use Rattle.engine.specs.Front.{UpTo, behind}
 use Rattle.engine.specs.Header.{HeaderOf}
 use Rattle.engine.specs.declared.header.Header.{Header}
 use Rattle.engine.specs.Records.{read_nth}
 use Rattle.engine.specs.References.{of_bank, reference_at, sender_at, text_at_lem}
+
+module _ (a : List ℕ) (at x bank : ℕ) (cs : List ℕ) (e : x ≡ number_at a at 8) where
+  pub sender_low : x < bank → true ≡ precedes (reference_at a at) (of_bank bank cs)
+  unfolding precedes
+  sender_low h = rw (sender_at a at, ← e, lt-leb bank x h)
+
+  pub sender_high : bank < x → false ≡ precedes (reference_at a at) (of_bank bank cs)
+  unfolding precedes
+  sender_high h = rw (sender_at a at, ← e, le-leb bank x (omega arith), ne_eqb x bank (λ (z : x ≡ bank). omega arith))
+
+  same_told : bank ≤ x → x ≤ bank → every is_text cs ≡ true → {r : Bool} → r ≡ text_before (cut a (at + 8) (at + 8 + 16)) cs → r ≡ precedes (reference_at a at) (of_bank bank cs)
+  unfolding precedes
+  same_told h k t g =
+      rw (sender_at a at, ← e, le-leb bank x h, eq-eqb x bank (omega arith), text_at_lem a at, ← until_before (cut a (at + 8) (at + 8 + 16)) (texts_some cs t)) g
+
+pub sender_same : (a : List ℕ) (at x bank : ℕ) (s : List ℕ) (i j : ℕ) → x ≡ number_at a at 8 → bank ≤ x → x ≤ bank → i ≤ j → every is_text (cut s i j) ≡ true
+    → {r : Bool} → r ≡ text_before (cut a (at + 8) (at + 8 + 16)) (cut s i (i + (j - i))) → r ≡ precedes (reference_at a at) (of_bank bank (cut s i j))
+sender_same a at x bank s i j e h k l t g = let f : i + (j - i) ≡ j = omega arith in same_told a at x bank (cut s i j) e h k t (rw f at g)
 
 -- ---- the reference at a place precedes another, or not
 
@@ -65,6 +86,17 @@ module _ (a : List ℕ) (n i : ℕ) (m : Today a n) (r : Reference) (g : PutBehi
 
     pub file_here : t ≡ false → FiledAt r (decode a).references i
     file_here k = record { within = g.within; place = put_before g (of_bank 0 []) listed (filed_here r _ _ (here ∙ k)) }
+
+-- as a count of those that precede it
+module _ (a : List ℕ) (n : ℕ) (m : Today a n) (r : Reference) {post : ℕ → Bool → Type 0} (t : (i : ℕ) (q : Bool) → i < n → post i q → q ≡ precedes (reference_at a (references_place + record_size * i)) r) {j : ℕ} (u : UpTo post n j) where
+  passed : PutBehind (filed r) (decode a).references j
+  passed = behind u (PutBehind (filed r) (decode a).references) (put_start (filed r) (decode a).references) (λ i h p g. file_on a n i m r g true h (t i true h p) refl)
+
+  pub place_filed : FiledAt r (decode a).references j
+  place_filed = elim (cases_lt j n) [
+    | inl h ↦ file_here a n j m r passed false h (t j false h (u.stopped h)) refl
+    | inr h ↦ file_end a n j m r passed h
+  ]
 
 -- ---- put there: those behind are moved up, and its record is written
 

@@ -1,6 +1,7 @@
 -- A turn made in an area.
-use Rattle.std.specs.Prelude.{◌≡◌, refl, Bool, true, false, not, cond, List, [], ◌∷◌, ◌++◌, map, ℕ, ◌+◌, ◌*◌, ◌≤◌, eqb, length, take, drop}
+use Rattle.std.specs.Prelude.{◌≡◌, refl, Bool, true, false, not, cond, List, [], ◌∷◌, ◌++◌, map, ℕ, ◌+◌, ◌*◌, ◌≤◌, eqb, length, take, drop, ◌<◌}
 use Rattle.std.proofs.Common.{ap, ◌∙◌, arith}
+use borrow.Author.Tests.{le-leb, lt-leb}
 use Rattle.std.proofs.lemmas.Bool.Decides.{nat_tests}
 use Rattle.rules.specs.Text.{is_some, passing}
 use Rattle.rules.specs.Engine.{Position, Engine, has_details, kept}
@@ -42,6 +43,15 @@ undetailed p = not (has_details p)
 -- the record of such a position
 unfoldable pub stays : List ℕ → Bool
 stays r = undetailed (position_in r)
+
+module _ (a : List ℕ) (at v : ℕ) (e : v ≡ number_at a (at + detailed_offset) 6) where
+  pub stays_not : 0 < v → false ≡ stays (take record_size (drop at a))
+  unfolding stays undetailed has_details position_in
+  stays_not h = rw (number_within a at record_size detailed_offset 6 (omega arith), ← e, le-leb 1 v h)
+
+  pub stays_yes : v ≤ 0 → true ≡ stays (take record_size (drop at a))
+  unfolding stays undetailed has_details position_in
+  stays_yes h = rw (number_within a at record_size detailed_offset 6 (omega arith), ← e, lt-leb 1 v (omega arith))
 
 module _ (a : List ℕ) (at v : ℕ) (e : v ≡ number_at a (at + detailed_offset) 6) where
   pub stays_told : eqb v 0 ≡ stays (take record_size (drop at a))

@@ -10,9 +10,9 @@ ghost use Rattle.engine.specs.References.{of_bank};
 ghost use Rattle.engine_change.specs.Booking.{raised_at, Raises, CanBook, Positions, booked_with};
 
 use crate::filing::{file_reference, reference_place};
-use crate::parts::put_numbers;
+use crate::parts::put_header;
 use engine::layout::{FIRST_POSITION, RECORD};
-use engine::{BankReference, Engine, is_at, place_of, position_at, position_place};
+use engine::{BankReference, Engine, Header, is_at, place_of, position_at, position_place};
 use position::{Key, Position};
 use put::Writer;
 
@@ -70,6 +70,7 @@ fn book_position(area: &mut [u8], n: u32, p: Position) -> u32
 }
 
 // A bank's message booked: what it adds to its position, its reference, and the outgoing count behind it.
+#[tactic(auto, using(crate::specs::Sets::booking))]
 pub fn book_area(area: &mut [u8], reference: BankReference, p: Position, count: u32)
     requires holds_engine { is_some (holds area.old) ≡ true }
     requires can_book { CanBook (decode area.old) (position_value p) }
@@ -81,5 +82,11 @@ pub fn book_area(area: &mut [u8], reference: BankReference, p: Position, count: 
     let k = book_position(area, h.positions, p);
     file_reference(area, n, i, reference);
     let mut w = Writer::new(area);
-    put_numbers(&mut w, h.day, count, k, n + 1);
+    let header = Header {
+        count,
+        positions: k,
+        references: n + 1,
+        ..h
+    };
+    put_header(&mut w, header);
 }

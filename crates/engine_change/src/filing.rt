@@ -9,19 +9,17 @@ ghost use Rattle.engine_change.specs.Filing.{Today, FiledAt, Files};
 
 use crate::parts::put_padded;
 use engine::layout::{FIRST_REFERENCE, RECORD, REFERENCES};
-use engine::{BankReference, filed_at};
+use engine::{BankReference, filed_at, files_before, place_by};
 use put::Writer;
 
-// Does the reference of the record at a place precede a bank's? (By sender and then text, and not as pairs: see `precedes` of `text`.)
+// Does the reference of the record at a place precede a bank's?
+#[tactic(auto, using(crate::specs::Filing::pair_precedes))]
 fn is_before(area: &[u8], at: usize, reference: BankReference) -> bool
     requires { at + record_size ≤ length area.now }
     ensures { result ≡ precedes (reference_at area.now at) (of_bank reference.entry.bank reference.entry.text.now) }
 {
-    let (sender, text) = filed_at(area, at);
-    if sender == reference.bank {
-        return text::precedes(text, reference.text);
-    }
-    sender < reference.bank
+    let filed = filed_at(area, at);
+    files_before(filed, (reference.bank, reference.text))
 }
 
 // The place of that reference: how many precede it.
@@ -29,12 +27,10 @@ pub fn reference_place(area: &[u8], n: u32, reference: BankReference) -> u32
     requires { Today area.now n }
     ensures { FiledAt (of_bank reference.entry.bank reference.entry.text.now) (decode area.now).references result }
 {
-    for i in 0..n {
-        if !is_before(area, (REFERENCES + RECORD * i) as usize, reference) {
-            return i;
-        }
-    }
-    n
+    place_by(
+        n,
+        |i| is_before(area, (REFERENCES + RECORD * i) as usize, reference),
+    )
 }
 
 // The record of a bank's reference.

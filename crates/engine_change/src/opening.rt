@@ -10,40 +10,59 @@ ghost use Rattle.engine_laws.specs.Sections.{text_part};
 ghost use Rattle.engine_change.specs.Header.{lengths};
 ghost use Rattle.engine_change.specs.Opening.{opened_parts};
 
-use crate::parts::put_numbers;
+use crate::parts::put_header;
+use engine::Header;
 use engine::layout::{POSITIONS_ROOM, REFERENCES_ROOM, TEXTS_ROOM};
 use put::Writer;
 
-// The header's currency and lengths of texts.
-fn put_lengths(w: &mut Writer, text: &[u8], list: &[u8])
-    ensures { Writes (lengths (text.now ∷ list.now ∷ [])) w.old w.new }
-{
-    w.put_be(1, 0);
-    w.put_be(2, text.len() as u64);
-    w.put_be(2, list.len() as u64);
-    w.put_zeros(2);
+// What an engine is opened with.
+#[derive(Clone, Copy)]
+struct Opening<'a> {
+    // The register.
+    text: &'a [u8],
+    // The holiday list.
+    list: &'a [u8],
+    // The day.
+    day: u32,
+    ghost room: { length text.now + length list.now ≤ texts_room },
 }
 
-// The texts, with zeros behind the last.
-fn put_texts(w: &mut Writer, text: &[u8], list: &[u8])
-    requires { length text.now + length list.now ≤ texts_room }
-    ensures { Writes (text_part (text.now ∷ list.now ∷ [])) w.old w.new }
-{
-    w.put_bytes(text);
-    w.put_bytes(list);
-    w.put_zeros(TEXTS_ROOM - text.len() - list.len());
-}
+impl<'a> Opening<'a> {
+    // The header's currency and lengths of texts.
+    fn put_lengths(self, w: &mut Writer)
+        ensures { Writes (lengths (self.entry.text.now ∷ self.entry.list.now ∷ [])) w.old w.new }
+    {
+        w.put_be(1, 0);
+        w.put_be(2, self.text.len() as u64);
+        w.put_be(2, self.list.len() as u64);
+        w.put_zeros(2);
+    }
 
-// The parts of an opened engine's area.
-fn put_opened(w: &mut Writer, text: &[u8], list: &[u8], day: u32)
-    requires { length text.now + length list.now ≤ texts_room }
-    ensures { Writes (opened_parts text.now list.now day) w.old w.new }
-{
-    put_numbers(w, day, 0, 0, 0);
-    put_lengths(w, text, list);
-    w.put_zeros(REFERENCES_ROOM);
-    w.put_zeros(POSITIONS_ROOM);
-    put_texts(w, text, list);
+    // The texts, with zeros behind the last.
+    fn put_texts(self, w: &mut Writer)
+        ensures { Writes (text_part (self.entry.text.now ∷ self.entry.list.now ∷ [])) w.old w.new }
+    {
+        w.put_bytes(self.text);
+        w.put_bytes(self.list);
+        w.put_zeros(TEXTS_ROOM - self.text.len() - self.list.len());
+    }
+
+    // The parts of the engine's area.
+    fn put_area(self, w: &mut Writer)
+        ensures { Writes (opened_parts self.entry.text.now self.entry.list.now self.entry.day) w.old w.new }
+    {
+        let header = Header {
+            day: self.day,
+            count: 0,
+            positions: 0,
+            references: 0,
+        };
+        put_header(w, header);
+        self.put_lengths(w);
+        w.put_zeros(REFERENCES_ROOM);
+        w.put_zeros(POSITIONS_ROOM);
+        self.put_texts(w);
+    }
 }
 
 // "Opening takes the register and a day and gives an engine with no positions, references or output.", and the holiday list.
@@ -53,6 +72,6 @@ pub fn open_area(area: &mut [u8], text: &[u8], list: &[u8], day: u32)
     requires list_value { is_some (holidays list.now) ≡ true }
     ensures { area.new ≡ encode (opened text.now list.now day) ++ drop area_size area.old }
 {
-    let mut w = Writer::new(area);
-    put_opened(&mut w, text, list, day);
+    let opening = Opening { text, list, day };
+    opening.put_area(&mut Writer::new(area));
 }

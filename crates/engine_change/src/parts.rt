@@ -4,17 +4,18 @@ ghost use Rattle.rules.specs.Area.{padded};
 ghost use Rattle.put.specs.Writes.{Writes};
 ghost use Rattle.engine_change.specs.Header.{numbers};
 
+use engine::Header;
 use put::Writer;
 
 // The header's numbers written, behind the mark.
-pub fn put_numbers(w: &mut Writer, day: u32, count: u32, positions: u32, references: u32)
-    ensures { Writes (numbers day count positions references) w.old w.new }
+pub fn put_header(w: &mut Writer, h: Header)
+    ensures { Writes (numbers h.day h.count h.positions h.references) w.old w.new }
 {
     w.put_bytes(b"RC");
-    w.put_be(3, day as u64);
-    w.put_be(2, count as u64);
-    w.put_be(1, positions as u64);
-    w.put_be(1, references as u64);
+    w.put_be(3, h.day as u64);
+    w.put_be(2, h.count as u64);
+    w.put_be(1, h.positions as u64);
+    w.put_be(1, h.references as u64);
 }
 
 // A text in room for n bytes, with zeros behind it.

@@ -5,15 +5,16 @@ ghost use Rattle.rules.specs.Area.{encode, decode, holds, area_size, positions_p
 ghost use Rattle.laws.specs.Moving.{Sifted};
 ghost use Rattle.engine_change.specs.Turning.{turned, stays};
 
-use crate::parts::put_numbers;
-use engine::Engine;
+use crate::parts::put_header;
 use engine::layout::{
     DETAILED, FIRST_POSITION, FIRST_REFERENCE, POSITIONS, RECORD, REFERENCES_ROOM, SIZE,
 };
+use engine::{Engine, Header};
 use put::Writer;
 use text::big_endian;
 
 // "A position without details stays": that of the record at a place? (Records are told by places: see `engine`.)
+#[tactic(auto, using(crate::specs::Sets::turning))]
 fn stays_at(area: &[u8], at: usize) -> bool
     requires { at + record_size ≤ length area.now }
     ensures { result ≡ stays (take record_size (drop at area.now)) }
@@ -47,5 +48,11 @@ pub fn turn_area(area: &mut [u8], day: u32, count: u32)
     let h = Engine::held(area).header();
     let kept = remove_detailed(area, h.positions);
     Writer::at(area, FIRST_REFERENCE).put_zeros(REFERENCES_ROOM);
-    put_numbers(&mut Writer::new(area), day, count, kept, 0);
+    let header = Header {
+        day,
+        count,
+        positions: kept,
+        references: 0,
+    };
+    put_header(&mut Writer::new(area), header);
 }

@@ -1,3 +1,4 @@
+pub mod Passing
 pub mod Read
 pub mod References
 pub mod Walks

@@ -17,19 +17,21 @@ pub fn all_zero(s: &[u8]) -> bool
 }
 
 // Are the outgoing count and the numbers of positions and references within their limits?
-fn counts_fit(count: u32, positions: u32, references: u32) -> bool
-    ensures { result ≡ counts_test count positions references }
+#[tactic(auto, unfolding(engine_laws::specs::Tests::counts_test))]
+fn counts_fit(h: Header) -> bool
+    ensures { result ≡ counts_test h.count h.positions h.references }
 {
-    if references > 64 {
+    if h.references > 64 {
         return false;
     }
-    if positions > 32 {
+    if h.positions > 32 {
         return false;
     }
-    count <= 32 + 18 * references
+    h.count <= 32 + 18 * h.references
 }
 
 // Does the mark stand there?
+#[tactic(auto, unfolding(laws::specs::Parts::cut))]
 fn mark_stands(area: &[u8]) -> bool
     requires { references_place ≤ length area.now }
     ensures { result ≡ equal (cut area.now 0 day_place) mark }
@@ -46,6 +48,7 @@ fn unused_zero(area: &[u8]) -> bool
 }
 
 // Does the header pass?
+#[tactic(auto, using(crate::specs::Read::day_read, crate::specs::Read::counts_read), unfolding(engine_laws::specs::Tests::header_test))]
 pub fn header_holds(area: &[u8], h: Header) -> bool
     requires references_place_in_bounds { references_place ≤ length area.now }
     requires header_at { HeaderAt area.now h }
@@ -57,7 +60,7 @@ pub fn header_holds(area: &[u8], h: Header) -> bool
     if !calendar::exists(h.day) {
         return false;
     }
-    if !counts_fit(h.count, h.positions, h.references) {
+    if !counts_fit(h) {
         return false;
     }
     unused_zero(area)

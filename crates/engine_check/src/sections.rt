@@ -2,51 +2,42 @@
 ghost use Rattle.std.specs.Prelude.{◌≡◌, ◌<◌, ◌≤◌, length};
 ghost use Rattle.rules.specs.Text.{is_some};
 ghost use Rattle.rules.specs.Area.{holds, area_size};
-ghost use Rattle.rule_laws.specs.Registers.{longest_register};
-ghost use Rattle.rule_laws.specs.Holidays.{longest_list};
 ghost use Rattle.engine_laws.specs.Several.{TextRoom};
-ghost use Rattle.engine_laws.specs.Tests.{register_test, list_test, texts_test, area_test};
+ghost use Rattle.engine_laws.specs.Tests.{texts_test, area_test};
+ghost use Rattle.engine_check.specs.Passing.{Passes};
 
 use crate::accepted::references_hold;
 use crate::header::{all_zero, header_holds};
 use crate::positions::positions_hold;
+use banking_days::list_passes;
 use engine::layout::AREA;
 use engine::{header_at, length_at, text_at, text_place};
-use register::LONGEST;
+use register::register_passes;
 
-// Is text k a register?
-fn register_holds(area: &[u8], k: u32) -> bool
+// Has text k no more bytes than the limit, and does it pass a test?
+#[tactic(auto, using(engine_laws::specs::Ways::lettering))]
+fn text_holds<F: FnOnce(&[u8]) -> bool>(area: &[u8], k: u32, limit: usize, passes: F) -> bool
     requires k_bound { k < 3 }
-    requires text_room { TextRoom area.now k longest_register }
-    ensures { result ≡ register_test area.now k }
+    requires text_room { TextRoom area.now k limit }
+    requires callable { F.IsAlwaysCallable passes }
+    ensures { Passes (F.post passes) limit area.now k result }
 {
-    if length_at(area, k) > LONGEST {
+    if length_at(area, k) > limit {
         return false;
     }
-    register::register_passes(text_at(area, k))
-}
-
-// Is text k a holiday list? (Beside `register_holds`: each has a limit, a check and a definition of its own.)
-fn list_holds(area: &[u8], k: u32) -> bool
-    requires k_bound { k < 3 }
-    requires text_room { TextRoom area.now k longest_list }
-    ensures { result ≡ list_test area.now k }
-{
-    if length_at(area, k) > banking_days::LONGEST {
-        return false;
-    }
-    banking_days::list_passes(text_at(area, k))
+    passes(text_at(area, k))
 }
 
 // Do the texts pass, with zeros behind the last?
+#[tactic(auto, using(engine_laws::specs::Ways::lettering, engine_laws::specs::Ways::calling, crate::specs::Read::read), unfolding(engine_laws::specs::Tests::texts_test, engine_laws::specs::Tests::is_register, engine_laws::specs::Tests::is_list))]
 fn texts_hold(area: &[u8]) -> bool
     requires { area_size ≤ length area.now }
     ensures { result ≡ texts_test area.now }
 {
-    if !register_holds(area, 0) {
+    if !text_holds(area, 0, register::LONGEST, |t| register_passes(t)) {
         return false;
     }
-    if !list_holds(area, 1) {
+    if !text_holds(area, 1, banking_days::LONGEST, |t| list_passes(t)) {
         return false;
     }
     all_zero(&area[text_place(area, 2)..AREA])
@@ -73,6 +64,7 @@ fn area_passes(area: &[u8]) -> bool
 }
 
 // Does the area hold an engine within its limits?
+#[tactic(auto, using(engine_laws::specs::Holding::holds_tests))]
 pub fn limits_hold(area: &[u8]) -> bool
     ensures { result ≡ is_some (holds area.now) }
 {

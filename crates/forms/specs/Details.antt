@@ -6,17 +6,17 @@ use Rattle.std.proofs.Common.{arith, length-take, get_or-take}
 use Rattle.rules.specs.Lines.{Line}
 use Rattle.rules.specs.Forms.{Row, fits_row, take_rows, detail_rows, detail32b, detail_centrb, detail_baeref}
 use Rattle.rules.specs.Messages as M
-use Rattle.rules.specs.Messages.{TakenDetail, line_of, detail_of, take_detail}
+use Rattle.rules.specs.Messages.{line_of, detail_of, take_detail}
 use Rattle.laws.specs.Parts.{from}
 use Rattle.laws.specs.Tests.{and_left}
 use Rattle.laws.specs.Reading.{fits_length}
 use Rattle.rule_laws.specs.Messages.{detail_read, row_first, none_row}
 use Rattle.lines.specs.declared.reader.LineReader.{LineReader}
 use Rattle.forms.specs.Table.{table, part}
-use Rattle.forms.specs.Spans.{span_of, no_span, SpansWithin, within_at, lines_at, span_line}
+use Rattle.forms.specs.Spans.{span_of, no_span, SpansWithin, lines_at, span_line}
 use Rattle.forms.specs.Stretches.{RowsStand, stands_long}
 use Rattle.forms.specs.Rows.{RowsAt}
-use Rattle.forms.specs.Three.{sum_in, date_in, sum_small, three, three_on, no_first, no_second, no_third, all_three}
+use Rattle.forms.specs.Three.{sum_in, date_in, three, three_on}
 use Rattle.forms.specs.declared.rows.Span.{Span}
 use Rattle.forms.specs.declared.detail.Detail.{Detail}
 
@@ -86,5 +86,3 @@ detail_long s at d w =
     let l : 4 ≤ length (line_of (lines_at s d.spans 17) 0) = fits_head (get_or detail_rows 0 none_row) _ f in
     let m : 4 ≤ length (span_of s (get_or (take 17 d.spans) 0 no_span)) = rw (get_or-take 17 d.spans 0 no_span (omega arith)) (rw (span_line s d.spans 17 0 (omega arith)) at l) in
     omega (arith, stands_long w.stand.stands (omega arith))
-
-pub ruleset detailing = (no_first, no_second, no_third, all_three, within_at, no_detail_rows, sum_small)

@@ -1,14 +1,9 @@
 -- What stands behind some bytes of a part.
-use Rattle.std.specs.Prelude.{◌≡◌, refl, Bool, true, false, List, [], ◌∷◌, leb, take, drop}
-use Rattle.std.proofs.Math.Option.{Option, none}
+use Rattle.std.specs.Prelude.{◌≡◌, refl, Bool, true, false, List, [], ◌∷◌, leb, drop}
 use Prim.Native.Nat.{ℕ, ◌+◌, ◌-◌, ◌≤◌, ◌<◌, min}
-use Rattle.std.proofs.Common.{arith, length-take, ne_eqb, leb-true, leb-false}
+use Rattle.std.proofs.Common.{arith, leb-true, leb-false}
 use Rattle.std.proofs.Math.ListN.{length}
-use Rattle.rules.specs.Text.{is_digit}
-use Rattle.rules.specs.Dates.{date}
-use Rattle.rules.specs.Amounts.{amount}
-use Rattle.laws.specs.Parts.{cut, cut_size, cut_length, cut_take, cut_drop}
-use Rattle.laws.specs.Slices.{part_cut}
+use Rattle.laws.specs.Parts.{cut, cut_size, cut_drop}
 use Rattle.forms.specs.Spans.{span_of, SpanIn}
 use Rattle.forms.specs.declared.rows.Span.{Span}
 

@@ -2,16 +2,15 @@
 use Rattle.std.specs.Prelude.{◌≡◌, Bool, true, ◌&&◌, List, get_or, take, drop}
 use Rattle.std.proofs.Common.{sym, ◌∙◌}
 use Rattle.std.proofs.Math.Bool.{false, and-true, and-false}
-use Prim.Native.Nat.{ℕ, ◌+◌, ◌-◌, ◌≤◌, ◌<◌, min}
+use Prim.Native.Nat.{ℕ, ◌+◌, ◌-◌, ◌≤◌}
 use native.Mathlib.Omega.{arith}
 use Rattle.std.proofs.Math.ListN.{length, length-take}
 use borrow.Author.Tests.{eq-eqb, ne_eqb}
 use Rattle.rules.specs.Text.{is_text, run, fits}
 use Rattle.rules.specs.Forms.{text_line, fits_rest, fits_row}
-use Rattle.laws.specs.Parts.{cut, cut_length}
-use Rattle.laws.specs.Slices.{rest_whole}
+use Rattle.laws.specs.Parts.{cut_length}
+use Rattle.laws.specs.Slices.{part_cut, rest_whole}
 use Rattle.laws.specs.Reading.{fits_length}
-use Rattle.laws.specs.Tests.{not_holds}
 use Rattle.forms.specs.Table.{heads, heads_length, rest_of, row_of}
 use Rattle.forms.specs.declared.table.Rest.{Rest}
 use Rattle.forms.specs.declared.table.Row.{Row}
@@ -49,29 +48,28 @@ module _ (row : Row) (s : List ℕ) (w : row.start + row.size ≤ 186) where
   unfolding row_of
   size = cut_length heads row.start (row.start + row.size) (omega (arith, heads_length)) ∙ omega arith
 
-  pub row_short : length s < row.size → false ≡ fits_row (row_of row) s
-  unfolding fits_row
-  row_short h =
-      let f : false ≡ fits (row_of row).head (take (length (row_of row).head) s) = not_holds _ (λ x.
-      let m : length (row_of row).head ≡ length (take (length (row_of row).head) s) = fits_length _ _ x in
-      let n : length (take (length (row_of row).head) s) ≡ min (length (row_of row).head) (length s) = length-take _ _ in
-      omega (arith, size)) in
-      rw (← f)
+  head_slice : take (row.start + row.size - row.start) (drop row.start heads) ≡ (row_of row).head
+  unfolding row_of
+  head_slice = part_cut heads row.start (row.start + row.size) (omega arith)
 
-  -- the row's pattern, and what stands behind it
-  module _ (h : row.size ≤ length s) where
-    pub head_size : length (take row.size s) ≡ row.size
-    head_size = length-take row.size s ∙ omega arith
+  -- the row's pattern, a part of the heads, and what stands behind it
+  module _ (t : Bool) (u : t ≡ fits (take (row.start + row.size - row.start) (drop row.start heads)) (take (length (take (row.start + row.size - row.start) (drop row.start heads))) s)) where
+    head_is : t ≡ fits (row_of row).head (take row.size s)
+    head_is = rw (head_slice, size) at u
 
-    module _ (t : Bool) (u : t ≡ fits (cut heads row.start (row.start + length (take row.size s))) (take row.size s)) where
-      split : fits_row (row_of row) s ≡ (t && fits_rest (rest_of row.rest) (drop row.size s))
-      unfolding fits_row row_of
-      split = rw (size, ← (rw head_size at u))
+    split : fits_row (row_of row) s ≡ (t && fits_rest (rest_of row.rest) (drop row.size s))
+    unfolding fits_row row_of
+    split = rw (size, ← head_is)
 
-      pub row_head : t ≡ false → false ≡ fits_row (row_of row) s
-      row_head d = sym (split ∙ (rw d))
+    pub head_long : t ≡ true → row.size ≤ length s
+    head_long d =
+        let m : length (row_of row).head ≡ length (take row.size s) = fits_length _ _ (sym head_is ∙ d) in
+        omega (arith, m, size, length-take row.size s)
 
-      pub row_rest : t ≡ true → (r : Bool) → r ≡ fits_rest (rest_of row.rest) (take (length s - row.size) (drop row.size s)) → r ≡ fits_row (row_of row) s
-      row_rest d r q = rw (rest_whole s row.size) at q ∙ sym (split ∙ (rw d))
+    pub row_head : t ≡ false → false ≡ fits_row (row_of row) s
+    row_head d = sym (split ∙ (rw d))
 
-pub ruleset fitting = (text_none, text_colon, text_dash, text_run, rest_told, row_short, row_head, row_rest)
+    pub row_rest : t ≡ true → (r : Bool) → r ≡ fits_rest (rest_of row.rest) (take (length s - row.size) (drop row.size s)) → r ≡ fits_row (row_of row) s
+    row_rest d r q = rw (rest_whole s row.size) at q ∙ sym (split ∙ (rw d))
+
+pub ruleset fitting = (text_none, text_colon, text_dash, text_run, rest_told, head_long, row_head, row_rest)

@@ -144,14 +144,14 @@ module _ (s : List ℕ) (at k : ℕ) (w : at ≤ length s) (b : k < 40) where
 pub record Rowing (s : List ℕ) (at first count : ℕ) (l : List Span) (pos i : ℕ) : Type 0 where
   pub few : i ≤ count
   pub place : pos ≤ length s
-  pub size : length l ≡ 23
+  pub size : length l ≡ count
   pub same : lead_rows (lines_at s l i) (take_rows (part (first + i) (count - i)) (from s pos)) ≡ take_rows (part first count) (from s at)
   pub within : SpansWithin s l
   pub stands : Standing s at (take i l) pos
 
 module _ (s : List ℕ) (at f n : ℕ) where
-  pub rows_start : at ≤ length s → Rowing s at f n (replicate 23 no_span) at 0
-  rows_start h = record { few = omega arith; place = h; size = length-replicate 23 no_span; same = rw (span_none, add-zero f, sub-zero n) (lead_nil _); within = within_none s 23; stands = end }
+  pub rows_start : at ≤ length s → Rowing s at f n (replicate n no_span) at 0
+  rows_start h = record { few = omega arith; place = h; size = length-replicate n no_span; same = rw (span_none, add-zero f, sub-zero n) (lead_nil _); within = within_none s n; stands = end }
 
   module _ (l : List Span) (pos i : ℕ) (inv : Rowing s at f n l pos i) where
     pub rows_done : n ≤ i → RowsAt s at f n l pos
@@ -173,8 +173,8 @@ module _ (s : List ℕ) (at f n : ℕ) where
       pub rows_stop : NoRow s pos (f + i) → take_rows (part f n) (from s at) ≡ none
       rows_stop w = sym (sym (lead_none (lines_at s l i)) ∙ (rw (w _) at step))
 
-      pub rows_on : (p : Span) (next : ℕ) → RowHolds s pos (f + i) p next → n ≤ 23 → Rowing s at f n (set l i p) next (i + 1)
-      rows_on p next w q = record {
+      pub rows_on : (p : Span) (next : ℕ) → RowHolds s pos (f + i) p next → Rowing s at f n (set l i p) next (i + 1)
+      rows_on p next w = record {
         few = omega arith;
         place = w.place;
         size = length-set l i p ∙ inv.size;

@@ -94,7 +94,7 @@ stretch_of_lem {s} (row {ps = ps} r t) (suc i) n h = let u : StretchOf s ps i n 
 
 -- ---- the rows of an answer
 
--- they are kept in the first of 23 parts, and stand from `at` up to `next`
+-- they are as many as the rows, and stand from `at` up to `next`
 pub record RowsStand (s : List ℕ) (at count : ℕ) (l : List Span) (next : ℕ) : Type 0 where
-  pub size : length l ≡ 23
+  pub size : length l ≡ count
   pub stands : Standing s at (take count l) next

@@ -1,20 +1,20 @@
 -- The table of rows as the code holds it, and that it is document 01's.
-use Rattle.std.specs.Prelude.{◌≡◌, refl, Bool, true, false, not, List, [], ◌∷◌, ◌++◌, map, ℕ, zero, suc, ◌+◌, ◌-◌, ◌*◌, ◌/◌, ◌%◌, ◌^◌, ◌≤◌, ◌<◌, leb, eqb, length, get_or, take, drop}
-use Rattle.std.proofs.Common.{arith, add-zero, zero-add, add-one, drop-cons, leb-true, eqb-true}
+use Rattle.std.specs.Prelude.{◌≡◌, refl, Bool, true, false, not, List, [], ◌∷◌, ◌++◌, map, ℕ, zero, suc, ◌+◌, ◌-◌, ◌≤◌, ◌<◌, leb, eqb, length, get_or, take, drop}
+use Rattle.std.proofs.Common.{arith, add-one, drop-cons, leb-true, eq-eqb, ne_eqb, ◌∙◌}
 use Rattle.std.proofs.lemmas.Bool.{not-true}
-use Rattle.rules.specs.Text.{ascii, is_text, every, run, number_from, big_endian, fits_sign, fits}
+use Rattle.rules.specs.Text.{ascii, is_text, every, run, fits_sign, fits}
 use Rattle.rules.specs.Forms as F
 use Rattle.rules.specs.Forms.{nothing, text, reference, account, name, sum, text_line, fits_rest, fits_row, transfer_rows, detail_rows}
-use Rattle.laws.specs.Parts.{cut, cut_all}
+use Rattle.laws.specs.Parts.{cut}
 use Rattle.laws.specs.Reading.{fits_pairs, pairs_more, pairs_bad, pairs_end}
 use Rattle.laws.specs.Tables.{below, below_at}
 use Rattle.forms.specs.declared.table.Rest.{Rest}
 use Rattle.forms.specs.declared.table.Rest.TheVariants.{Nothing, Text, Reference, Account, Name, Sum}
 use Rattle.forms.specs.declared.table.Row.{Row}
 
--- the patterns of all rows, one behind the other, and blanks up to a whole number of fours
+-- the patterns of all rows, one behind the other
 unfoldable pub heads : List ℕ
-heads = ascii ":20::23B:CRED:32A:nnnnnnaaa:50K:/:52D:aaaannnn:57D:aaaannnn:59:/:71A:aaa:72:/DTYPE/PORD/BAEREF/nnnnnn/CENTRB/:21::32B:aaa:50H:/ccccccccccccccccccccccPAYnnnnnn:70:CENTRBnnnnnnBAEREFnnnnnn  "
+heads = ascii ":20::23B:CRED:32A:nnnnnnaaa:50K:/:52D:aaaannnn:57D:aaaannnn:59:/:71A:aaa:72:/DTYPE/PORD/BAEREF/nnnnnn/CENTRB/:21::32B:aaa:50H:/ccccccccccccccccccccccPAYnnnnnn:70:CENTRBnnnnnnBAEREFnnnnnn"
 
 -- a row with a head, whose line is never left out
 abbrev pub head_row : ℕ → ℕ → Rest → Row
@@ -119,7 +119,7 @@ all_roomy = refl
 pub row_told : {k : ℕ} {r : Row} → k < 40 → r ≡ code_at k → RowAt k r
 row_told {k} l e = record { same = e; room = rw e (leb-true _ _ (below_at roomy 40 all_roomy k l)) }
 
-pub heads_length : length heads ≡ 188
+pub heads_length : length heads ≡ 186
 unfolding heads
 heads_length = refl
 
@@ -135,46 +135,21 @@ all_take_none = refl
 pub row_some : {k : ℕ} → k < 40 → fits_row (row_of (code_at k)) [] ≡ false
 row_some {k} l = not-true _ (below_at takes_none 40 all_take_none k l)
 
--- ---- the heads as numbers of four signs each
-
-unfoldable pub word_at : ℕ → ℕ
-word_at j = big_endian (cut heads (j * 4) (j * 4 + 4))
-
--- a sign in its number
-abbrev pub sign_in : ℕ → ℕ → ℕ
-sign_in w j = w / 2 ^ (24 - j * 8) % 256
-
-abbrev agrees : ℕ → Bool
-agrees i = eqb (sign_in (word_at (i / 4)) (i % 4)) (get_or heads i 0)
-
-all_agree : below agrees 186 ≡ true
-unfolding heads word_at cut number_from
-all_agree = refl
-
--- each sign stands in its number
-pub sign_told : (i w : ℕ) → i < 186 → w ≡ word_at (i / 4) → sign_in w (i % 4) ≡ get_or heads i 0
-sign_told i w l e = rw e (eqb-true _ _ (below_at agrees 186 all_agree i l))
-
 -- ---- bytes matched against the heads, sign by sign
 
-pub head_start : (b : ℕ) (s : List ℕ) → fits (cut heads (b + 0) (b + length s)) (cut s (0 + 0) (0 + length s)) ≡ fits (cut heads b (b + length s)) s
-head_start b s = rw (add-zero b, zero-add (length s), cut_all s) refl
+module _ (b : ℕ) (s : List ℕ) (a n k : ℕ) (x : Bool) (inv : fits (cut heads (b + k) (b + n)) (cut s (a + k) (a + n)) ≡ x) where
+  module _ (h : k < n) (l : b + n ≤ 186) (m : a + n ≤ length s) (v : ℕ) (e : v ≡ get_or heads (b + k) 0) (q : Bool) (u : q ≡ fits_sign v (get_or s (a + k) 0)) where
+    sign_holds : q ≡ fits_sign (get_or heads (b + k) 0) (get_or s (a + k) 0)
+    sign_holds = rw (← e) u
 
-module _ (b : ℕ) (s : List ℕ) (k : ℕ) (x : Bool) (inv : fits (cut heads (b + k) (b + length s)) (cut s (0 + k) (0 + length s)) ≡ x) where
-  module _ (h : k < length s) (l : b + length s ≤ 186) (v : ℕ) (e : v ≡ get_or heads (b + k) 0) (q : Bool) (u : q ≡ fits_sign v (get_or s k 0)) where
-    sign_holds : q ≡ fits_sign (get_or heads (b + k) 0) (get_or s (0 + k) 0)
-    sign_holds = rw (zero-add k, ← e) u
+    pub head_more : q ≡ true → fits (cut heads (b + (k + 1)) (b + n)) (cut s (a + (k + 1)) (a + n)) ≡ x
+    head_more d = pairs_more fits fits_sign fits_pairs heads s b a n k x inv h (omega (arith, heads_length)) m q sign_holds d
 
-    pub head_more : q ≡ true → fits (cut heads (b + (k + 1)) (b + length s)) (cut s (0 + (k + 1)) (0 + length s)) ≡ x
-    head_more d = pairs_more fits fits_sign fits_pairs heads s b 0 (length s) k x inv h (omega (arith, heads_length)) (omega arith) q sign_holds d
+    pub head_bad : q ≡ false → eqb k n ≡ x
+    head_bad d = ne_eqb k n (λ z. omega (arith, z, h)) ∙ pairs_bad fits fits_sign fits_pairs heads s b a n k x inv h (omega (arith, heads_length)) m q sign_holds d
 
-    pub head_bad : q ≡ false → false ≡ x
-    head_bad d = pairs_bad fits fits_sign fits_pairs heads s b 0 (length s) k x inv h (omega (arith, heads_length)) (omega arith) q sign_holds d
-
-  pub head_end : k ≤ length s → length s ≤ k → true ≡ x
-  head_end = pairs_end fits fits_sign fits_pairs heads s b 0 (length s) k x inv
-
-pub ruleset signs = (add-zero, sign_told, head_start, head_more, head_bad, head_end)
+  pub head_end : k ≤ n → n ≤ k → eqb k n ≡ x
+  head_end h l = eq-eqb k n (omega (arith, h, l)) ∙ pairs_end fits fits_sign fits_pairs heads s b a n k x inv h l
 
 -- ---- some of its rows
 

@@ -6,13 +6,13 @@ use Rattle.rules.specs.Text.{then, given}
 use Rattle.rules.specs.Lines.{is_closing_line, sender, body}
 use Rattle.rules.specs.Forms.{take_rows, transfer_rows, transfer32a, transfer_baeref}
 use Rattle.rules.specs.Messages as M
-use Rattle.rules.specs.Messages.{Message, mt103, transfer_of, read_transfer}
+use Rattle.rules.specs.Messages.{mt103, transfer_of, read_transfer}
 use Rattle.laws.specs.Parts.{from}
 use Rattle.rule_laws.specs.Lines.{body_from}
 use Rattle.forms.specs.Table.{table, part}
-use Rattle.forms.specs.Spans.{SpansWithin, within_at, lines_at, span_line}
+use Rattle.forms.specs.Spans.{SpansWithin, lines_at, span_line}
 use Rattle.forms.specs.Rows.{RowsAt}
-use Rattle.forms.specs.Three.{sum_in, date_in, sum_small, three, three_on, no_first, no_second, no_third, all_three}
+use Rattle.forms.specs.Three.{sum_in, date_in, three, three_on}
 use Rattle.forms.specs.declared.rows.Span.{Span}
 use Rattle.forms.specs.declared.transfer.Transfer.{Transfer}
 
@@ -56,5 +56,3 @@ module _ (s : List ℕ) (l : List Span) (next : ℕ) (w : RowsAt s 23 0 23 l nex
   transfer_three d =
       rw (rows_known, ← u, d, span_line s l 23 transfer32a (omega arith), span_line s l 23 transfer_baeref (omega arith))
       (three_on mt103 (λ d a b. record { sender = sender s; rows = lines_at s l 23; date = d; amount = a }) (date_in s l transfer32a 5) (sum_in s l transfer32a 14) (date_in s l transfer_baeref 8))
-
-pub ruleset transferring = (no_first, no_second, no_third, all_three, within_at, no_transfer_rows, transfer_open, sum_small)

@@ -14,7 +14,7 @@ pub struct Detail {
     // 32B's amount.
     pub amount: u64,
     // Its lines by rows.
-    pub spans: [Span; 23],
+    pub spans: [Span; DETAIL_ROWS],
 }
 
 // The detail to come: the reader is behind it then.
@@ -22,16 +22,10 @@ pub fn read_detail(reader: &mut LineReader) -> Option<Detail>
     ensures { DetailTaken reader.old reader.new result }
 {
     let text = reader.text;
-    let spans = read_rows(reader, TRANSFER_ROWS, DETAIL_ROWS)?;
-    let Some(amount) = amount_in(spans[DETAIL_32B].of(text), 8) else {
-        return None;
-    };
-    let Some(date) = date_in(spans[DETAIL_CENTRB].of(text), 10) else {
-        return None;
-    };
-    let Some(_) = date_in(spans[DETAIL_BAEREF].of(text), 6) else {
-        return None;
-    };
+    let spans = read_rows(reader, TRANSFER_ROWS)?;
+    let amount = amount_in(spans[DETAIL_32B].of(text), 8)?;
+    let date = date_in(spans[DETAIL_CENTRB].of(text), 10)?;
+    date_in(spans[DETAIL_BAEREF].of(text), 6)?;
     Some(Detail {
         date: date as u64,
         amount,

@@ -6,7 +6,7 @@ use crate::fits::row_fits;
 use crate::table::row_at;
 use lines::LineReader;
 
-// A part of the message, within which it lies by a clause (`SpanIn`, `SpansWithin`). Its places in 16 bits and no slice, which takes twice the bytes on the card: its stack holds many at once.
+// A part of the message, within which it lies by a clause (`SpanIn`, `SpansWithin`). Its places in 16 bits and no slice, 4 bytes and not 16 on the card, whose stack holds many at once.
 #[derive(Clone, Copy)]
 pub struct Span {
     // The place of its first byte.
@@ -32,6 +32,7 @@ impl Span {
     }
 
     // Its bytes in a text.
+    #[tactic(auto, using(crate::specs::Spans::span_slice))]
     pub fn of(self, s: &[u8]) -> &[u8]
         requires { SpanIn s.now self }
         ensures { result.now ≡ span_of s.now self }
@@ -52,6 +53,7 @@ impl Span {
 }
 
 // What row k of the table takes of the text that the reader goes on with: its line, or the empty part where the row may be left out.
+#[tactic(auto, using(crate::specs::Rows::no_line, crate::specs::Rows::line_left, crate::specs::Rows::line_other))]
 fn take_row(reader: &mut LineReader, k: usize) -> Option<Span>
     requires { k < 40 }
     ensures { RowTaken reader.old reader.new k result }
@@ -69,14 +71,14 @@ fn take_row(reader: &mut LineReader, k: usize) -> Option<Span>
     None
 }
 
-// The lines to come against count rows of the table, from row first on: the reader is behind them then. A row that is left out has the empty part at its place.
-pub fn read_rows(reader: &mut LineReader, first: usize, count: usize) -> Option<[Span; 23]>
-    requires rows_in_table { first + count ≤ 40 }
-    requires count_bound { count ≤ 23 }
-    ensures { RowsTaken reader.old reader.new first count result }
+// The lines to come against N rows of the table, from row first on: the reader is behind them then. A row that is left out has the empty part at its place.
+#[tactic(auto, using(crate::specs::Rows::rows_start, crate::specs::Rows::rows_stop, crate::specs::Rows::row_taken, crate::specs::Rows::rows_on, crate::specs::Rows::rows_done))]
+pub fn read_rows<const N: usize>(reader: &mut LineReader, first: usize) -> Option<[Span; N]>
+    requires { first + N ≤ 40 }
+    ensures { RowsTaken reader.old reader.new first N result }
 {
-    let mut spans = [Span { start: 0, end: 0 }; 23];
-    for i in 0..count {
+    let mut spans = [Span { start: 0, end: 0 }; N];
+    for i in 0..N {
         spans[i] = take_row(reader, first + i)?;
     }
     Some(spans)

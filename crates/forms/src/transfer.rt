@@ -17,7 +17,7 @@ pub struct Transfer {
     // 32A's amount.
     pub amount: u64,
     // Its lines by rows.
-    pub spans: [Span; 23],
+    pub spans: [Span; TRANSFER_ROWS],
 }
 
 // The transfer that stands behind the first line.
@@ -25,19 +25,13 @@ pub fn read_transfer(message: Message) -> Option<Transfer>
     ensures { MatchOption result (read_transfer message.entry.text.now ≡ none) (λ t. TransferIn message.entry.text.now t) }
 {
     let mut reader = message.body();
-    let spans = read_rows(&mut reader, 0, TRANSFER_ROWS)?;
+    let spans = read_rows(&mut reader, 0)?;
     if !reader.closes() {
         return None;
     }
-    let Some(date) = date_in(spans[TRANSFER_32A].of(message.text), 5) else {
-        return None;
-    };
-    let Some(amount) = amount_in(spans[TRANSFER_32A].of(message.text), 14) else {
-        return None;
-    };
-    let Some(_) = date_in(spans[TRANSFER_BAEREF].of(message.text), 8) else {
-        return None;
-    };
+    let date = date_in(spans[TRANSFER_32A].of(message.text), 5)?;
+    let amount = amount_in(spans[TRANSFER_32A].of(message.text), 14)?;
+    date_in(spans[TRANSFER_BAEREF].of(message.text), 8)?;
     Some(Transfer {
         date: date as u64,
         amount,

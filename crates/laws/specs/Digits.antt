@@ -3,14 +3,18 @@ use Rattle.std.specs.Prelude.{◌≡◌, refl, Bool, true, false, cond, List, []
 use Rattle.std.proofs.Common.{sym, ap, ◌∙◌, zero-add, add-zero, suc-add, mul_comm, mul_assoc, pow-suc, div-one, div-lt_iff_lt-mul, le-div_iff_mul-le, arith, lit<, lit≤, pow-add, take_at, drop_at, le-leb, leb-true, leb-false}
 use Rattle.std.proofs.Math.Nat.{pow-zero, pow-le-pow_right, zero-div, zero-mod, div-eq_of_lt, div-div-eq-div-mul, mod-add-div, add-mul-div_left, add-mul-mod_self_left}
 use Rattle.std.proofs.lemmas.Bool.{lt-leb}
-use Rattle.rules.specs.Text.{places, width, fixed}
+use Rattle.rules.specs.Text.{places, width, fixed, bytes}
 use Rattle.laws.specs.Parts.{cut}
-use Rattle.laws.specs.Writing.{filled}
+use Rattle.laws.specs.Writing.{ahead, filled}
 
 pub places_length : (base null k v : ℕ) → length (places base null k v) ≡ k
 unfolding places
 places_length base null zero v = refl
 places_length base null (suc k) v = ap suc (places_length base null k v)
+
+-- the place behind them
+pub ahead_places : (base null k v at r : ℕ) → r ≡ ahead at k → r ≡ ahead at (length (places base null k v))
+ahead_places base null k v at r e = rw places_length e
 
 -- ---- parts of the places
 
@@ -180,3 +184,12 @@ pub eight_is : (v h l : ℕ) → v < 100000000 → h ≡ v / 10000 → l ≡ v -
     ∷ (48 + l / 10 / 10 / 10) ∷ (48 + (l / 10 / 10 - l / 10 / 10 / 10 * 10)) ∷ (48 + (l / 10 - l / 10 / 10 * 10)) ∷ (48 + (l - l / 10 * 10)) ∷ []
     ≡ fixed 8 v
 eight_is v h l b p q = joined _ _ _ _ (four_is h (omega arith)) (four_is l (omega arith)) ∙ two_fours 10 48 v h l (lit< tt) p (omega arith)
+
+-- four bytes of a number
+four_bytes : (v : ℕ) → v < 4294967296 → (v / 16777216) ∷ (v / 65536 % 256) ∷ (v / 256 % 256) ∷ (v % 256) ∷ [] ≡ bytes 4 v
+unfolding places
+four_bytes v h = four_same _ _ _ _ (0 + v / 256 ^ 3 % 256) (0 + v / 256 ^ 2 % 256) (0 + v / 256 ^ 1 % 256) (0 + v / 256 ^ 0 % 256) (omega arith) (omega arith) (omega arith) (omega arith)
+
+pub eight_bytes : (v h l : ℕ) → v < 2 ^ 64 → h ≡ v / 4294967296 → l ≡ v % 4294967296 →
+    (h / 16777216) ∷ (h / 65536 % 256) ∷ (h / 256 % 256) ∷ (h % 256) ∷ (l / 16777216) ∷ (l / 65536 % 256) ∷ (l / 256 % 256) ∷ (l % 256) ∷ [] ≡ bytes 8 v
+eight_bytes v h l b p q = joined _ _ _ _ (four_bytes h (omega arith)) (four_bytes l (omega arith)) ∙ two_fours 256 0 v h l (lit< tt) p q

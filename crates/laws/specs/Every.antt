@@ -53,6 +53,12 @@ module _ (p : ℕ → Bool) where
 -- ---- the n bytes at a place: a part of them, and one of them, told by numbers
 
 module _ (p : ℕ → Bool) (s : List ℕ) (a n : ℕ) (w : every p (cut s a (a + n)) ≡ true) where
+  pub every_front : (m : ℕ) → leb m n ≡ true → every p (cut s a (a + m)) ≡ true
+  every_front m h = let l : m ≤ n = leb-true m n h in every_within p s a (a + n) a (a + m) w (omega arith) (omega arith) (omega arith)
+
+  pub every_piece : (k m : ℕ) → leb (k + m) n ≡ true → every p (cut s (a + k) (a + k + m)) ≡ true
+  every_piece k m h = let l : k + m ≤ n = leb-true (k + m) n h in every_within p s a (a + n) (a + k) (a + k + m) w (omega arith) (omega arith) (omega arith)
+
   module _ (l : a + n ≤ length s) where
     pub every_head : leb 1 n ≡ true → p (get_or s a 0) ≡ true
     every_head h = let m : 1 ≤ n = leb-true 1 n h in every_first p s a (a + n) w (omega arith) l
@@ -61,3 +67,5 @@ module _ (p : ℕ → Bool) (s : List ℕ) (a n : ℕ) (w : every p (cut s a (a 
     every_at k h =
         let m : suc k ≤ n = leb-true (suc k) n h in
         every_first p s (a + k) (a + n) (every_within p s a (a + n) (a + k) (a + n) w (omega arith) (omega arith) (omega arith)) (omega arith) l
+
+pub ruleset pieces = (every_front, every_piece, every_head, every_at)

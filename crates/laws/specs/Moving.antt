@@ -1,21 +1,76 @@
 -- Bytes moved within an area, up from the last or down from the first, and the loop that moves the records to keep to a section's front.
-use Rattle.std.specs.Prelude.{◌≡◌, refl, Bool}
+use Rattle.std.specs.Prelude.{◌≡◌, refl, Bool, set}
 use Rattle.std.proofs.Math.Path.{sym, ap}
 use Rattle.std.proofs.Common.{◌∙◌, mul-add, add-one, length-append}
 use Rattle.std.proofs.Math.Bool.{true, false}
 use mathlib.Core.List.{List, [], ◌∷◌, ◌++◌, append-nil}
 use Prim.Native.Nat.{ℕ, suc, ◌+◌, ◌-◌, ◌*◌, ◌≤◌, ◌<◌}
-use Rattle.std.proofs.Math.Nat.{mul-suc, mul-sub, mul-le-mul_left}
+use Rattle.std.proofs.Math.Nat.{add-zero, mul-suc, mul-sub, mul-le-mul_left}
 use native.Mathlib.Omega.{arith}
-use Rattle.std.proofs.Math.ListN.{length, take, drop, length-drop}
-use Rattle.std.proofs.Math.Seq.{drop-drop}
+use Rattle.std.proofs.Math.ListN.{length, get_or, take, drop, length-set, length-drop}
+use Rattle.std.proofs.Math.Seq.{drop-cons, take-suc, get_or-drop, drop-drop, length-take-le}
 use Rattle.rules.specs.Text.{passing}
 use Rattle.rules.specs.Area.{zeros, padded, joined, records_of}
-use Rattle.laws.specs.Laid.{laid, laid_append, laid_drop, laid_length}
+use Rattle.laws.specs.Laid.{laid, laid_append, laid_set, laid_load_before, laid_load_behind, laid_drop, laid_length}
 use Rattle.laws.specs.Writing.{Wrote}
 use Rattle.laws.specs.All.{all_passing}
 use Rattle.laws.specs.Sections.{Each, records_more, records_each, passing_append, joined_append, joined_length}
 use Rattle.laws.specs.Standing.{moved, Stands, stands_records, stands_passing}
+
+-- of the bytes of a that are to go from one place to another those from low up to high are there; b is the area now
+pub record Moving (a : List ℕ) (here there low high : ℕ) (b : List ℕ) : Type 0 where
+  pub order : low ≤ high
+  pub size : length b ≡ length a
+  pub now : b ≡ laid (take (high - low) (drop (here + low) a)) (there + low) a
+
+pub moving_none : (a : List ℕ) (here there k : ℕ) → Moving a here there k k a
+unfolding laid
+moving_none a here there k = let e : k - k ≡ 0 = omega arith in record { order = omega arith; size = refl; now = rw e }
+
+module _ {a b : List ℕ} {here there : ℕ} where
+  -- up: the byte before those
+  pub moving_up : {k n : ℕ} → Moving a here there k n b → here ≤ there → there + n ≤ length a → 0 < k
+      → Moving a here there (k - 1) n (set b (there + (k - 1)) (get_or b (here + (k - 1)) 0))
+  unfolding laid
+  moving_up {k} {n} m h l z =
+      let j : ℕ = k - 1 in
+      let v : ℕ = get_or a (here + j) 0 in
+      let M : List ℕ = take (n - k) (drop (here + k) a) in
+      let e : n - j ≡ suc (n - k) = omega (arith, m.order) in
+      let f : suc (here + j) ≡ here + k = omega arith in
+      let g : suc (there + j) ≡ there + k = omega arith in
+      let d : drop (here + j) a ≡ v ∷ drop (suc (here + j)) a = drop-cons a (here + j) 0 (omega (arith, m.order)) in record {
+        order = omega (arith, m.order);
+        size = length-set b (there + j) (get_or b (here + j) 0) ∙ m.size;
+        now =
+            rw (m.now, laid_load_before M (there + k) (here + j) a (omega arith), laid_set M (there + k) (there + j) v a (omega arith), e, d, f)
+            (ap (λ (x : ℕ). laid M x (set a (there + j) v)) (sym g));
+      }
+
+  -- down: the byte behind those
+  pub moving_down : {k n : ℕ} → Moving a here there 0 k b → there ≤ here → here + n ≤ length a → k < n
+      → Moving a here there 0 (k + 1) (set b (there + k) (get_or b (here + k) 0))
+  unfolding laid
+  moving_down {k} {n} m h l z =
+      let M : List ℕ = take k (drop here a) in
+      let e : k + 1 - 0 ≡ suc k = omega arith in
+      let f : k - 0 ≡ k = omega arith in
+      let s : k < length (drop here a) = rw length-drop (omega arith) in
+      let t : length M ≡ k = length-take-le k (drop here a) (omega arith) in
+      let o : b ≡ laid M there a = rw (f, add-zero here, add-zero there) at m.now in record {
+        order = omega arith;
+        size = length-set b (there + k) (get_or b (here + k) 0) ∙ m.size;
+        now =
+            rw (e, add-zero here, add-zero there, take-suc (drop here a) k 0 s, laid_append, t, get_or-drop here a k 0, o)
+            (rw (laid_load_behind M there (here + k) a (omega arith)));
+      }
+
+  pub moving_end : {k m n : ℕ} → Moving a here there k m b → k ≤ 0 → m ≤ n → n ≤ m → b ≡ moved here there n a
+  unfolding moved
+  moving_end {k} {m} {n} t h l g =
+      let e : k ≡ 0 = omega arith in
+      let f : m - 0 ≡ n = omega arith in
+      rw (e, f, add-zero here, add-zero there) at t.now
 
 -- ---- a record's place, for an area of a size
 

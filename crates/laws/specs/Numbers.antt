@@ -6,8 +6,9 @@ use Rattle.std.proofs.Math.Nat.{pow-zero, pow-succ', one-le-pow, mod-one, div-di
 use Rattle.std.proofs.Math.Arith.{mod-mul, digits_div, digits_mod}
 use Rattle.rules.specs.Text.{ascii, is_digit, is_letter, is_alnum, fits, fits_sign, places, width, fixed, bytes, decimal, digits, digits_from, big_endian, number_from}
 use Rattle.rules.specs.Accounts.{is_bic}
+use Rattle.laws.specs.Parts.{cut}
 use Rattle.laws.specs.Tests.{between_high, cond_right, cond_left, never, none_some}
-use Rattle.laws.specs.All.{All, All.none, All.more}
+use Rattle.laws.specs.All.{All, All.none, All.more, all_take, all_drop}
 use Rattle.laws.specs.Digits.{width_power}
 use Rattle.laws.specs.Reading.{digit_low, digit_high, fits_length}
 
@@ -127,6 +128,10 @@ digits_small cs n h =
     rw f (omega arith)
 
 -- ---- parts, and banks
+
+pub within_cut : {base null : ℕ} {cs : List ℕ} (a b : ℕ) → Within base null cs → Within base null (cut cs a b)
+unfolding cut
+within_cut a b s = all_drop a (all_take b s)
 
 -- what fits a pattern of bytes is bytes
 sign_within : (p c : ℕ) → p < 256 → fits_sign p c ≡ true → c < 256

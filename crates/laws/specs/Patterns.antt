@@ -1,9 +1,11 @@
 -- A pattern in runs of equal signs: bytes fit it where each run's bytes are of the class of its sign.
 use Rattle.std.specs.Prelude.{◌≡◌, refl, Bool, true, false, ◌&&◌, cond, List, [], ◌∷◌, ◌++◌, ℕ, zero, suc, ◌+◌, ◌≤◌, ◌<◌, length, get_or, replicate}
-use Rattle.std.proofs.Common.{sym, ap, ◌∙◌, arith}
+use Rattle.std.proofs.Common.{sym, ap, ◌∙◌, arith, ne_eqb}
 use Rattle.std.proofs.Math.Bool.{and-true}
 use Rattle.rules.specs.Text.{is_digit, is_letter, is_alnum, every, fits, fits_sign}
 use Rattle.laws.specs.Parts.{cut, cut_step, cut_done}
+use Rattle.laws.specs.Tests.{and_holds, and_off}
+use Rattle.laws.specs.Places.{Passed, passed_all}
 
 -- a sign that stands for a class
 pub record SignOf (q : ℕ) (p : ℕ → Bool) : Type 0 where
@@ -54,3 +56,14 @@ fits_last q p w s n i e h k =
     ∙ fits_run q p w [] s n i e (omega arith) k
     ∙ rw (h, cut_done s e e (omega arith) (omega arith))
     (and-true (every p (cut s i e)))
+
+-- ---- run by run: a run that all its bytes are in, and one that a byte is not in
+
+module _ (p : ℕ → Bool) (s : List ℕ) (a n r : ℕ) (b : Bool) (w : Passed p s a n r) where
+  pub run_on : n ≤ r → (x : Bool) → x ≡ b → x ≡ (every p (cut s a (a + n)) && b)
+  run_on h x e = rw (passed_all p s a n r w h) e
+
+  pub run_off : r < n → false ≡ (every p (cut s a (a + n)) && b)
+  run_off h = rw (← w.whole, ne_eqb r n (λ (q : r ≡ n). omega arith))
+
+pub ruleset patterns = (run_on, run_off, and_holds, and_off)

@@ -2,7 +2,7 @@
 use Rattle.std.specs.Prelude.{◌≡◌, refl, Bool, true, false, ◌&&◌, ◌||◌, not, cond, ℕ, ◌≤◌, ◌<◌, leb, eqb}
 use Rattle.std.proofs.Common.{sym, ◌∙◌, le-leb, leb-true, eq-eqb, ne_eqb}
 use Rattle.std.proofs.lemmas.Bool.{false≢true, lt-leb, not-false}
-use Rattle.std.proofs.Math.Option.{none, some, none-ne-some}
+use Rattle.std.proofs.Math.Option.{Option, none, some, none-ne-some}
 use Rattle.rules.specs.Text.{between}
 
 -- what follows from a test that both holds and fails, and from an answer that is both there and not
@@ -66,6 +66,14 @@ either false true f g = g refl
 either false false f g = refl
 
 -- ---- what a call answered
+
+-- an answer that is there where a test holds
+module _ {A : Type 0} (t : Bool) (x : A) (o : Option A) (e : cond t (some x) none ≡ o) where
+  pub answer_is : t ≡ true → o ≡ some x
+  answer_is h = sym (rw h at e)
+
+  pub answer_not : t ≡ false → o ≡ none
+  answer_not h = sym (rw h at e)
 
 -- a test that cannot hold
 pub not_holds : (a : Bool) → (a ≡ true → ⊥) → false ≡ a

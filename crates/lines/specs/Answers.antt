@@ -1,8 +1,8 @@
 -- What the answers of the code say in the paper's words.
-use Rattle.std.specs.Prelude.{◌≡◌, List, ℕ, ◌+◌, ◌≤◌, length, Option, Some, None}
+use Rattle.std.specs.Prelude.{◌≡◌, List, ℕ, ◌+◌, ◌≤◌, length, Option, Some, None, ◌<◌, get_or}
 use Rattle.std.proofs.Common.{subst}
 use Rattle.std.proofs.Math.Option.{none, some}
-use Rattle.rules.specs.Lines.{TakenLine, take_line}
+use Rattle.rules.specs.Lines.{TakenLine, take_line, lead}
 use Rattle.laws.specs.Parts.{cut, from}
 use Rattle.lines.specs.declared.reader.LineReader.{LineReader}
 
@@ -35,6 +35,12 @@ module _ (s : List ℕ) (at : ℕ) (r : Option ℕ) (h : LineAt s at r) where
 
   pub no_line_told : r ≡ None → NoLine s at
   no_line_told k = subst (Told s at) k h.told
+
+-- of n bytes from `at` on, r stand before the first CR or LF: they begin the line, whatever goes on behind them
+pub record Plain (s : List ℕ) (at n r : ℕ) : Type 0 where
+  pub few : r ≤ n
+  pub same : lead (cut s at (at + r)) (take_line (from s (at + r))) ≡ take_line (from s at)
+  pub stop : r < n → (get_or s (at + r) 0 ≡ 13 → ⊥) → get_or s (at + r) 0 ≡ 10
 
 -- where a reader stands behind the line that it handed out
 abbrev behind : ℕ → Option ℕ → ℕ

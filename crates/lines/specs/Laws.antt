@@ -10,10 +10,10 @@ use Rattle.rules.specs.Lines.{Line, TakenLine, lead, take_line, lines, before, l
 use Rattle.laws.specs.Parts.{cut, from, cut_done, cut_snoc, from_step, from_done, from_length}
 use Rattle.laws.specs.Reading.{fits_length}
 use Rattle.laws.specs.Slices.{rest_whole}
-use Rattle.laws.specs.Equal.{equal_true, rest_differs}
+use Rattle.laws.specs.Equal.{equal_true, rest_differs, rest_alike}
 use Rattle.laws.specs.Tests.{not_holds, never, and_left, and_right, none_some}
 use Rattle.rule_laws.specs.Lines.{FirstLine, first_line_lem, line_taken, Lined, Lined.end, Lined.next, lines_cases, lines_before}
-use Rattle.lines.specs.Answers.{taken, LineAt, LineEnd, NoLine}
+use Rattle.lines.specs.Answers.{taken, LineAt, LineEnd, NoLine, Plain}
 
 -- ---- bytes before a line
 
@@ -89,6 +89,31 @@ module _ (s : List ℕ) (at i : ℕ) (x : Option TakenLine) (inv : lead (cut s a
 
       pub line_on_lem : (get_or s i 0 ≡ 10 → ⊥) → at ≤ i → lead (cut s at (i + 1)) (take_line (from s (i + 1))) ≡ x
       line_on_lem d k = rw (cut_snoc s at i k (omega arith), lead_more, from_step s (i + 1) h, ← byte_on _ _ (from s (i + 1 + 1)) c d) two
+
+module _ (s : List ℕ) (at n k : ℕ) (inv : lead (cut s at (at + k)) (take_line (from s (at + k))) ≡ take_line (from s at)) where
+  module _ (h : k < n) (l : at + n ≤ length s) where
+    pub plain_on : (get_or s (at + k) 0 ≡ 13 → ⊥) → (get_or s (at + k) 0 ≡ 10 → ⊥) → lead (cut s at (at + (k + 1))) (take_line (from s (at + (k + 1)))) ≡ take_line (from s at)
+    plain_on c d = let e : at + (k + 1) ≡ at + k + 1 = omega arith in rw e (go (eq-or-lt_of_le (omega arith)))
+      where
+        go : (at + k + 1 ≡ length s) ⊎ (at + k + 1 < length s) → lead (cut s at (at + k + 1)) (take_line (from s (at + k + 1))) ≡ take_line (from s at)
+        go (inl q) = rw (few s (at + k + 1) (omega arith), lead_none) (sym (line_out s at (at + k) _ inv (omega arith)))
+        go (inr q) = line_on_lem s at (at + k) _ inv q c d (omega arith)
+
+    pub plain_far : 14 ≤ get_or s (at + k) 0 → lead (cut s at (at + (k + 1))) (take_line (from s (at + (k + 1)))) ≡ take_line (from s at)
+    plain_far c = plain_on (λ d. omega arith) (λ d. omega arith)
+
+    pub plain_cr : get_or s (at + k) 0 ≡ 13 → Plain s at n k
+    plain_cr c = record { few = omega arith; same = inv; stop = λ h d. absurd (d c) }
+
+    pub plain_lf : get_or s (at + k) 0 ≡ 10 → Plain s at n k
+    plain_lf c = record { few = omega arith; same = inv; stop = λ h d. c }
+
+  pub plain_end : k ≤ n → n ≤ k → Plain s at n k
+  plain_end h l = record { few = h; same = inv; stop = λ j d. absurd (omega arith) }
+
+-- no CR at the first of them: LF
+pub plain_bad : (s : List ℕ) (at n k : ℕ) → Plain s at n k → at + k + 1 < length s → at + n ≡ length s → (get_or s (at + k) 0 ≡ 13 → ⊥) → take_line (from s at) ≡ none
+plain_bad s at n k p h e c = line_lf s at (at + k) _ p.same h c (p.stop (omega arith) c)
 
 -- ---- the same over what is left from `at` on, as a slice: k bytes of it are passed
 
@@ -198,6 +223,12 @@ pub closing_long : (s : List ℕ) (at : ℕ) → (length s - at ≡ 3 → ⊥) �
 unfolding is_closing_line
 closing_long s at = rest_differs s (ascii "-\r\n") at
 
+-- all that is left, as a part of three bytes
+module _ (s : List ℕ) (at : ℕ) where
+  pub closing_part : at ≤ length s → length s - at ≡ 3 → (r : Bool) → r ≡ equal (cut s at (at + 3)) (cut (ascii "-\r\n") 0 3) → r ≡ is_closing_line (from s at)
+  unfolding is_closing_line
+  closing_part = rest_alike s (ascii "-\r\n") at
+
 -- what is left, as a slice
 pub closing_rest : (s : List ℕ) (at : ℕ) {b : Bool} → b ≡ is_closing_line (take (length s - at) (drop at s)) → b ≡ is_closing_line (from s at)
 unfolding from
@@ -266,3 +297,5 @@ module _ (s : List ℕ) where
         omega (arith, length-take 23 s)
 
 pub ruleset framing = (closing_long, closing_rest, framed_long, framed_open, framed_not, framed_opens, framed_high, framed_low)
+
+pub ruleset lining = (line_starts_at, found, cr_alone, lf_alone, passed, none_behind)

@@ -1,3 +1,4 @@
 pub mod Answers
 pub mod Laws
 pub mod Seen
+pub mod Lent

@@ -6,7 +6,7 @@ use Rattle.laws.specs.Parts.{from, from_all}
 use Rattle.lines.specs.Answers.{LineAt, LineEnd, NoLine, HandsOut, line_told, no_line_told}
 use Rattle.lines.specs.declared.reader.LineReader.{LineReader}
 use Rattle.std.specs.Option.{is_some}
-use Rattle.lines.specs.Laws.{closes_never, closes_now, closes_bad, closes_on, closing_later, closing_long}
+use Rattle.lines.specs.Laws.{closes_never, closes_now, closes_bad, closes_on, closing_later, closing_long, closing_rest}
 
 -- all before `at` is in lines, the last of them from `last` on: what is left closes as the whole does, or nothing is left, and the last one closes it or not
 pub record Seeing (s : List ℕ) (last at : ℕ) : Type 0 where
@@ -62,3 +62,5 @@ module _ (s : List ℕ) (last : ℕ) (old new : LineReader) (t : Seeing s last o
     seeing = rw w.at (line_seen s last old.at t h e (line_told s old.at (Some e) (line_at (Some e) w) e refl));
     text = ap (λ (b : Bor (List ℕ)). b.now) w.text ∙ o;
   }
+
+pub ruleset seeing = (none_seen, none_handed, line_handed, closing_rest)

@@ -3,6 +3,7 @@ ghost use Rattle.std.specs.Prelude.{◌≤◌, length};
 ghost use Rattle.lines.specs.Answers.{LineAt};
 
 // Where the line that begins at `at` ends: the place of the CR LF behind it; none where there is no line. (A place of the text and not what is left of it: the answer is a place too.)
+#[tactic(auto, using(crate::specs::Laws::lining))]
 pub fn next_line(s: &[u8], at: usize) -> Option<usize>
     requires { at ≤ length s.now }
     ensures { LineAt s.now at result }

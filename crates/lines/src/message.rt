@@ -17,6 +17,7 @@ pub struct Message<'a> {
 
 impl<'a> Message<'a> {
     // The message that some bytes are, where they are in the frame.
+    #[tactic(auto, using(crate::specs::Laws::framed_high, crate::specs::Laws::framed_low))]
     pub fn framed(text: &'a [u8]) -> Option<Message<'a>>
         ensures framed { is_some result ≡ framed text.entry.now }
         ensures its { IfSome result (λ m. m.text ≡ text.entry) }

@@ -38,6 +38,7 @@ impl<'a> LineReader<'a> {
     }
 
     // Is all that is to come the closing line?
+    #[tactic(auto, using(crate::specs::Laws::closing_rest))]
     pub fn closes(&self) -> bool
         ensures { result ≡ is_closing_line (from self.now.text.now self.now.at) }
     {

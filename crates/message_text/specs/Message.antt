@@ -14,7 +14,7 @@ use Rattle.rules.specs.Calls.{bank_of, has_verdict, position_after, returned_det
 use Rattle.rules.specs.Area.{decode}
 use Rattle.put.specs.declared.parts.Writer.{Writer}
 use Rattle.put.specs.Writes.{Writes, writes_then}
-use Rattle.engine.specs.Totals.{LookedUp, begun}
+use Rattle.engine.specs.Totals.{TotalsOf, begun}
 use Rattle.engine.specs.Header.{HeaderOf}
 use Rattle.engine.specs.Texts.{RegisterOf}
 use Rattle.engine.specs.declared.header.Header.{Header}
@@ -84,9 +84,9 @@ parts_told a s b k p q kept j w =
 
 -- ---- the position as the message leaves it is the paper's
 
-pub after_is : (a s : List ℕ) (b : Booking) → Books s (message_in s) b → (x : Option P.Position) → LookedUp (decode a).positions b.key x → (p : P.Position) → AfterOf b (begun b.key x) p → position_value p ≡ position_after (decode a) (message_in s)
+pub after_is : (a s : List ℕ) (b : Booking) → Books s (message_in s) b → (x : Option P.Position) → TotalsOf (decode a).positions b.key x → (p : P.Position) → AfterOf b (begun b.key x) p → position_value p ≡ position_after (decode a) (message_in s)
 unfolding position_after
-after_is a s b k x y p q = rw (q.key, q.transferred, q.detailed, y.totals.transferred, y.totals.detailed, ← k.transferred, ← k.detailed, k.key)
+after_is a s b k x y p q = rw (q.key, q.transferred, q.detailed, y.transferred, y.detailed, ← k.transferred, ← k.detailed, k.key)
 
 -- ---- the text
 

@@ -17,7 +17,7 @@ use engine::Engine;
 use outgoing_number::Outgoing;
 use position::Position;
 use put::Writer;
-use state_conditions::{detailed_by, transferred_by};
+use state_conditions::added_by;
 use verdict::Details;
 use written::Book;
 
@@ -28,12 +28,12 @@ pub fn position_after(b: Booking, before: Option<Position>) -> Position
     requires amount_bound { b.amount ≤ 16 * 10 ^ 16 }
     ensures { AfterOf b (begun b.key before) result }
 {
-    let key = b.key;
-    let x = before.unwrap_or(Position::empty(key));
+    let x = before.unwrap_or(Position::empty(b.key));
+    let added = added_by(b);
     Position {
-        key,
-        transferred: x.transferred + transferred_by(b),
-        detailed: x.detailed + detailed_by(b),
+        transferred: x.transferred + added.transferred,
+        detailed: x.detailed + added.detailed,
+        ..added
     }
 }
 

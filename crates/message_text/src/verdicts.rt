@@ -22,6 +22,7 @@ pub fn count_listed(details: Details) -> u32
 }
 
 // How many parts there are: 14 listed details to each, and one part where there are none.
+#[tactic(auto, using(crate::specs::Parts::parts_one, crate::specs::Parts::parts_more))]
 pub fn parts_of(listed: u32) -> u32
     requires { listed ≤ 16 }
     ensures { PartsOf listed result }

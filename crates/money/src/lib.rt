@@ -1,5 +1,5 @@
 // Amounts, read in stotinki.
-#![tactic(auto)]
+#![tactic(auto, using(crate::specs::Sums::sums))]
 
 ghost use Rattle.std.specs.Prelude.{◌≡◌, ◌^◌, ◌<◌, ◌≤◌, length};
 ghost use Rattle.rules.specs.Amounts.{decimals, levs, amount};

@@ -11,13 +11,23 @@ use Rattle.rules.specs.Text.{places, fixed, bytes, width, decimal}
 use Rattle.rules.specs.Amounts.{written}
 use Rattle.laws.specs.Parts.{cut}
 use Rattle.laws.specs.Writing.{Wrote, ahead, furthest, filled, wrote_then}
-use Rattle.laws.specs.Pieces.{wrote_3}
+use Rattle.laws.specs.Pieces.{wrote_3, wrote_nothing}
 use Rattle.put.specs.Laying.{wrote_behind}
 use Rattle.laws.specs.Digits.{places_length, places_split, places_part, places_end, places_rest, places_front}
 
 -- the last k of eight places, and nulls in front where k is more
 unfoldable pub last_of : ℕ → ℕ → List ℕ → List ℕ
 last_of null k d = filled (k - 8) null ++ cut d (8 - k) 8
+
+pub last_joined : (null k a : ℕ) (d : List ℕ) {out out₁ out' : List ℕ} {at m r : ℕ} → Wrote (filled (k - 8) null) at out m out₁ → Wrote (cut d a 8) m out₁ r out' → a ≡ 8 - k
+    → Wrote (last_of null k d) at out r out'
+unfolding last_of
+last_joined null k a d v w e = wrote_then v (rw e at w)
+
+-- none in front of eight places or fewer
+pub no_nulls : (null k : ℕ) {out : List ℕ} {at : ℕ} → k ≤ 8 → length out ≤ furthest → Wrote (filled (k - 8) null) at out at out
+unfolding filled
+no_nulls null k h s = let e : k - 8 ≡ 0 = omega arith in rw e (wrote_nothing s)
 
 module _ (null k : ℕ) (d : List ℕ) {out out' : List ℕ} {at r : ℕ} where
   pub last_few : k ≤ 8 → Wrote (cut d (8 - k) 8) at out r out' → Wrote (last_of null k d) at out r out'
@@ -63,6 +73,10 @@ group_wrote k v q l h e f x y =
     let g : fixed (k - 8) q ++ fixed 8 l ≡ fixed k v =
     rw (e, f, places_rest 10 48 8 8 v (lit< tt) (lit≤ tt)) (sym (ap (λ (j : ℕ). fixed j v) n ∙ places_split 10 48 (k - 8) 8 v)) in
     rw g at (wrote_then x y)
+
+-- all digits of a number
+pub decimal_wrote : (k v : ℕ) {at r : ℕ} {out out' : List ℕ} → k ≡ width 19 v → Wrote (fixed k v) at out r out' → Wrote (decimal v) at out r out'
+decimal_wrote k v e w = rw e at w
 
 -- ---- an amount
 
@@ -110,3 +124,5 @@ module _ (w v mark : ℕ) {out out' : List ℕ} {at r : ℕ} (e : w ≡ width 19
   amount_measured h s f c =
       let l : length (written (mark ∷ []) v) ≡ w + 3 = rw (length-append, length-append, places_length 10 48 (width 19 (v / 100)) (v / 100), places_length 10 48 2 (v % 100), ← e) (omega arith) in
       wrote_behind _ h s f (rw l c)
+
+pub ruleset grouping = (last_joined, no_nulls, last_wrote, low_wrote, group_wrote, decimal_wrote, levs_few, levs_more, amount_wrote, amount_measured)

@@ -28,7 +28,7 @@ impl<'a> Writer<'a> {
         self.put_last(k, b'0', &d);
     }
 
-    // A number of sixteen digits at most in k digits.
+    // A number of sixteen digits at most in k digits: the upper ones of `put_fixed`, which would else call itself, and a recursion has no bound on the stack.
     fn put_sixteen(&mut self, k: usize, v: u64)
         requires { v < 10 ^ 16 }
         ensures { Writes (fixed k v) self.old self.new }

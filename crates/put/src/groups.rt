@@ -14,6 +14,7 @@ fn upper_four(v: u32) -> u16
 }
 
 // The eight digits of a number below a hundred million. A loop that takes one digit at a time misses a bound: a turn takes 887,344 instructions then, of 615,000.
+#[tactic(auto, using(laws::specs::Digits::eight_is))]
 pub fn eight(v: u32) -> [u8; 8]
     requires { v < 100000000 }
     ensures { result ≡ fixed 8 v }

@@ -4,7 +4,7 @@ ghost use Rattle.std.specs.Prelude.{◌≡◌, length};
 // No output reaches to this place.
 const FURTHEST: usize = 9223372036854775808;
 
-// The bytes of src, laid over as many. Short texts go byte by byte: with `copy_from_slice` for them too a turn takes 609,580 instructions in place of 555,848, of 615,000.
+// The bytes of src, laid over as many. Short texts go byte by byte: with `copy_from_slice` for them too a turn takes 9 % more instructions, and no landing makes a call slower.
 fn lay(out: &mut [u8], src: &[u8])
     requires { length out.old ≡ length src.now }
     ensures { out.new ≡ src.now }
@@ -50,6 +50,7 @@ impl<'a> Writer<'a> {
     }
 
     // n bytes are passed over.
+    #[tactic(auto, unfolding(laws::specs::Writing::ahead))]
     pub(crate) fn step(&mut self, n: usize)
         ensures { Passes n self.old self.new }
     {

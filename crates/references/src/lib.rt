@@ -1,5 +1,5 @@
 // References: slashes where condition 5 lets none stand.
-#![tactic(auto)]
+#![tactic(auto, using(crate::specs::Slashes::slashes))]
 
 ghost use Rattle.std.specs.Prelude.{◌≡◌, ◌&&◌, ◌≤◌, eqb, length};
 ghost use Rattle.rules.specs.Engine.{slashed};

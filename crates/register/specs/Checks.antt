@@ -6,7 +6,8 @@ use borrow.Author.Tests.{eq-eqb, ne_eqb, not-true, not-false}
 use Rattle.rules.specs.Text.{equal, is_some}
 use Rattle.rules.specs.Register.{register, old_register}
 use Rattle.rules.specs.Moves.{end_line}
-use Rattle.laws.specs.Parts.{from}
+use Rattle.laws.specs.Parts.{from, cut}
+use Rattle.laws.specs.Equal.{rest_differs, rest_alike}
 use Rattle.laws.specs.Slices.{rest_whole}
 use Rattle.laws.specs.Tests.{passed_told}
 use Rattle.register_lines.specs.Places.{first_in, repeat_in, account_stands, code_stands}
@@ -29,6 +30,16 @@ module _ (s : List ℕ) (n m : ℕ) (t : Bool) (u : t ≡ again_in s n) where
     pub lines_single : t₂ ≡ false → (t₃ : Bool) → t₃ ≡ repeat_in s 10 35 (24 + 38 * n) 0 m → not t₃ ≡ lines_test s n m
     unfolding lines_test
     lines_single d₂ t₃ u₃ = rw (u₃, ← u, d, ← u₂, d₂)
+
+-- the last line, of other bytes or as a part
+module _ (s : List ℕ) (at : ℕ) where
+  pub closes_other : (length s - at ≡ 5 → ⊥) → false ≡ closes_at s at
+  unfolding closes_at
+  closes_other = rest_differs s end_line at
+
+  pub closes_part : at ≤ length s → length s - at ≡ 5 → (r : Bool) → r ≡ equal (cut s at (at + 5)) (cut end_line 0 5) → r ≡ closes_at s at
+  unfolding closes_at
+  closes_part = rest_alike s end_line at
 
 -- the last line
 pub closes_told : (s : List ℕ) (at : ℕ) (r : Bool) → r ≡ equal (take (length s - at) (drop at s)) end_line → r ≡ closes_at s at

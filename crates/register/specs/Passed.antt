@@ -5,12 +5,12 @@ use Rattle.std.proofs.Math.Path.{ap}
 use Rattle.std.proofs.Math.Option.{some}
 use Rattle.rules.specs.Text.{given, is_some}
 use Rattle.rules.specs.Register.{Account, Register, register, register_of, old_register}
-use Rattle.rules.specs.Verdict.{no_account, account_at}
+use Rattle.rules.specs.Verdict.{no_account, account_at, found}
 use Rattle.laws.specs.Parts.{cut, cut_take, cut_drop}
 use Rattle.register_lines.specs.AccountLine.{bound}
 use Rattle.rule_laws.specs.Registers.{register_size, register_few, codes_few}
-use Rattle.register_lines.specs.Places.{places_from, end_next, end_none, bound_at, account_in}
-use Rattle.register.specs.Whole.{place, count, code_count, accounts_in, codes_in, passes_in, old_in, register_in}
+use Rattle.register_lines.specs.Places.{places_from, end_next, end_none, bound_at, account_in, upto_all}
+use Rattle.register.specs.Whole.{place, count, code_count, accounts_in, codes_in, passes_in, old_in, register_in, found_in}
 use Rattle.register.specs.Agree.{in_places, old_in_places, accounts_length, codes_length}
 
 -- what is given by a test is there where the test holds
@@ -96,17 +96,38 @@ module _ (s : List ℕ) (h : is_some (register s) ≡ true) where
     pub line_few : i < 40
     line_few = omega (arith, accounts_few)
 
-    iban_at : (account_at (register_of s) i).iban ≡ cut s (place i) (place i + 22)
+    pub iban_at : (account_at (register_of s) i).iban ≡ cut s (place i) (place i + 22)
     unfolding account_in
     iban_at = ap (λ (a : Account). a.iban) account_at_lem
 
-    low_at : (account_at (register_of s) i).low ≡ bound_at s (place i + 23)
+    pub low_at : (account_at (register_of s) i).low ≡ bound_at s (place i + 23)
     unfolding account_in
     low_at = ap (λ (a : Account). a.low) account_at_lem
 
-    high_at : (account_at (register_of s) i).high ≡ bound_at s (place i + 30)
+    pub high_at : (account_at (register_of s) i).high ≡ bound_at s (place i + 30)
     unfolding account_in
     high_at = ap (λ (a : Account). a.high) account_at_lem
+
+-- account line i begins at r
+pub record LinePlace (s : List ℕ) (i r : ℕ) : Type 0 where
+  pub same : r ≡ place i
+  pub room : r + 38 ≤ length s
+
+module _ (s : List ℕ) (h : is_some (register s) ≡ true) where
+  pub found_start : (n : ℕ) → n ≡ count s → (c : List ℕ) → found_in c s 0 n ≡ found c 0 (register_of s).accounts
+  unfolding found_in accounts_in
+  found_start n e c = rw (accounts_at_lem s h, e, upto_all)
+
+  module _ (i : ℕ) (k : i < length (register_of s).accounts) where
+    pub line_place : LinePlace s i (24 + 38 * i)
+    line_place = record { same = refl; room = line_room s h i k }
+
+    module _ (at r : ℕ) (p : LinePlace s i at) where
+      pub low_read : r ≡ bound_at s (at + 23) → r ≡ (account_at (register_of s) i).low
+      low_read e = e ∙ rw p.same (sym (low_at s h i k))
+
+      pub high_read : r ≡ bound_at s (at + 30) → r ≡ (account_at (register_of s) i).high
+      high_read e = e ∙ rw p.same (sym (high_at s h i k))
 
 -- ---- the search in a text that passed
 

@@ -3,7 +3,7 @@ use Rattle.std.specs.Prelude.{Bool, ◌&&◌, not, List, ◌∷◌, map, ℕ, �
 use Rattle.std.proofs.Math.Option.{Option}
 use Rattle.rules.specs.Text.{equal, any, twice}
 use Rattle.rules.specs.Register.{Account, Code, Register, is_foreign}
-use Rattle.rules.specs.Verdict.{iban_beside}
+use Rattle.rules.specs.Verdict.{iban_beside, found}
 use Rattle.rules.specs.Moves.{end_line}
 use Rattle.laws.specs.Parts.{cut, from}
 use Rattle.register_lines.specs.Places.{places_from, upto, leading_from, key_in, keys_in, repeat_in, account_in, account_stands, code_in, code_stands, first_in}
@@ -15,6 +15,10 @@ place i = 24 + 38 * i
 -- n account lines
 unfoldable pub accounts_in : List ℕ → ℕ → List Account
 accounts_in s n = map (account_in s) (places_from 38 24 n)
+
+-- of account lines i up to n the one with an IBAN
+unfoldable pub found_in : List ℕ → List ℕ → ℕ → ℕ → Option ℕ
+found_in iban s i n = found iban i (map (account_in s) (upto 38 24 i n))
 
 -- k code lines
 unfoldable pub codes_in : List ℕ → ℕ → ℕ → List Code

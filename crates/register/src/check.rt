@@ -1,4 +1,6 @@
 // The check of a register's text (9), and of an old one.
+#![tactic(auto, using(crate::specs::Sets::checking))]
+
 ghost use Rattle.std.specs.Prelude.{◌≡◌, ◌+◌, ◌*◌, ◌≤◌, length};
 ghost use Rattle.rules.specs.Text.{is_some};
 ghost use Rattle.rules.specs.Register.{register, old_register};

@@ -1,5 +1,7 @@
 // A register's text that passed, and the search in it.
-ghost use Rattle.std.specs.Prelude.{◌≡◌, true, ◌+◌, ◌*◌, ◌<◌, length};
+#![tactic(auto, using(crate::specs::Sets::seeking))]
+
+ghost use Rattle.std.specs.Prelude.{◌≡◌, MatchOption, true, false, ◌+◌, ◌*◌, ◌<◌, length};
 ghost use Rattle.rules.specs.Text.{is_some};
 ghost use Rattle.rules.specs.Register.{register, register_of};
 ghost use Rattle.rules.specs.Verdict.{found, account_at, line_by_code};
@@ -8,6 +10,7 @@ ghost use Rattle.laws.specs.Parts.{cut};
 ghost use Rattle.laws.specs.Told.{told};
 ghost use Rattle.register.specs.Searching.{AccountCount, CodesOf};
 
+use crate::check::register_passes;
 use crate::{ACCOUNT_LINE, CODE_LINE, FIRST_LINE};
 use register_lines::bound;
 use text::equal_backward;
@@ -38,7 +41,18 @@ impl<'a> Register<'a> {
         Register { text }
     }
 
+    // The register of a text, if it passes.
+    pub fn of(text: &'a [u8]) -> Option<Register<'a>>
+        ensures { MatchOption result (is_some (register text.now) ≡ false) (λ r. r.text.now ≡ text.now) }
+    {
+        if register_passes(text) {
+            return Some(Register::passed(text));
+        }
+        None
+    }
+
     // The temporary account, with which the text begins.
+    #[tactic(auto, using(crate::specs::Passed::text_first, crate::specs::Sets::seeking))]
     pub fn temporary(self) -> &'a [u8]
         ensures account { result.now ≡ (register_of self.entry.text.now).temporary }
         ensures size { length result.now ≡ 22 }
@@ -80,20 +94,14 @@ impl<'a> Register<'a> {
         &self.account_line(i)[..22]
     }
 
-    // Its low bound. (Low and high are two functions: one over the offset would tell by a number which bound it reads.)
-    pub fn low(self, i: usize) -> u64
+    // Its bounds, the low one and the high one.
+    pub fn bounds(self, i: usize) -> (u64, u64)
         requires { i < length (register_of self.text.now).accounts }
-        ensures { result ≡ (account_at (register_of self.entry.text.now) i).low }
+        ensures low { result.0 ≡ (account_at (register_of self.entry.text.now) i).low }
+        ensures high { result.1 ≡ (account_at (register_of self.entry.text.now) i).high }
     {
-        bound(&self.account_line(i)[23..29])
-    }
-
-    // Its high bound.
-    pub fn high(self, i: usize) -> u64
-        requires { i < length (register_of self.text.now).accounts }
-        ensures { result ≡ (account_at (register_of self.entry.text.now) i).high }
-    {
-        bound(&self.account_line(i)[30..36])
+        let line = self.account_line(i);
+        (bound(&line[23..29]), bound(&line[30..36]))
     }
 
     // The account line of an IBAN, counted from 0. It is compared from the last byte on, where IBANs of one bank differ: `==` of slices begins with the first.

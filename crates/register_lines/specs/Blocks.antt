@@ -39,7 +39,7 @@ inside_line (x ∷ p) (c ∷ cs) i f =
     rw (inside_byte x c (cond_left _ _ i) (cond_left _ _ f)) (inside_line p cs (cond_right (inside x) _ i) (cond_right (fits_sign x c) _ f))
 
 -- only CR LF fits itself
-crlf_is : (cs : List ℕ) → fits crlf cs ≡ true → cs ≡ crlf
+pub crlf_is : (cs : List ℕ) → fits crlf cs ≡ true → cs ≡ crlf
 unfolding fits fits_sign
 crlf_is [] h = never h
 crlf_is (c ∷ []) h = never (cond_right (eqb 13 c) _ h)

@@ -36,6 +36,10 @@ highest_low : (k : ℕ) → k ≤ 22 → highest k ≤ 1069547265
 unfolding highest
 highest_low k h = let e : 22 - k + k ≡ 22 = omega arith in rw e at (highest_more k (22 - k))
 
+-- marks that differ belong to bytes that do
+pub other_mark : (x y : List ℕ) → (mark_of y ≡ mark_of x → ⊥) → false ≡ equal x y
+other_mark x y n = not_holds (equal x y) (λ w. n (ap mark_of (sym (equal_true x y w))))
+
 -- m is the mark of the first k of some bytes
 pub record Marking (cs : List ℕ) (k m : ℕ) : Type 0 where
   pub most : m ≤ highest k
@@ -74,6 +78,12 @@ line_room w at n i m h r =
     let e : suc i ≤ n = omega arith in
     let k : w * suc i ≤ w * n = mul-le-mul_left w e in
     omega (arith, mul-suc w i)
+
+-- the mark of line i
+pub record MarkAt (w z : ℕ) (s : List ℕ) (at i : ℕ) (marks : List ℕ) : Type 0 where
+  pub small : i < 40
+  pub room : at + w * i + z ≤ length s
+  pub own : get_or marks i 0 ≡ mark_of (key_in s z (at + w * i))
 
 -- those of i of them are made, and the next line begins at a place
 pub record Making (w z : ℕ) (s : List ℕ) (at n i next : ℕ) (marks : List ℕ) : Type 0 where
@@ -158,7 +168,21 @@ module _ (w z : ℕ) (standing : List ℕ → ℕ → Bool) (f : FormOf w z stan
 
     -- marks that differ belong to bytes that do
     pub mark_other : (key : List ℕ) (m : ℕ) → m ≡ mark_of key → (get_or marks i 0 ≡ m → ⊥) → false ≡ equal key (key_in s z (at + w * i))
-    mark_other key m o d = not_holds _ (λ q. d (line_mark ∙ ap mark_of (sym (equal_true key _ q)) ∙ sym o))
+    mark_other key m o d = other_mark _ _ (λ e. d (line_mark ∙ e ∙ sym o))
+
+    pub mark_at : MarkAt w z s at i marks
+    mark_at = record { small = line_small; room = place_room; own = line_mark }
+
+-- told by its place
+module _ (w z : ℕ) (s : List ℕ) (at i : ℕ) (marks : List ℕ) (k : MarkAt w z s at i marks) (p : ℕ) (e : p ≡ at + w * i) where
+  pub mark_room : p + z ≤ length s
+  mark_room = omega (arith, k.room)
+
+  pub mark_same : (a : ℕ) (r : Bool) → r ≡ equal (key_in s z a) (key_in s z p) → r ≡ equal (key_in s z a) (key_in s z (at + w * i))
+  mark_same a r u = rw e at u
+
+  pub mark_own : get_or marks i 0 ≡ mark_of (key_in s z p)
+  mark_own = rw e k.own
 
 -- the bytes of a key
 pub key_is : (s : List ℕ) (at z : ℕ) → take (at + z - at) (drop at s) ≡ key_in s z at

@@ -45,6 +45,7 @@ impl LineForm for AccountLine {
     ghost standing = { account_stands };
 
     // An IBAN that passes, its bounds, its end, low at most high?
+    #[tactic(auto, using(crate::specs::Sets::lining))]
     fn stands(line: &[u8]) -> bool {
         if !account::iban_passes(&line[..22]) {
             return false;
@@ -76,6 +77,7 @@ impl LineForm for CodeLine {
     ghost standing = { code_stands };
 
     // Ten digits, a comma, 22 letters or digits, its end?
+    #[tactic(auto, using(crate::specs::Sets::lining))]
     fn stands(line: &[u8]) -> bool {
         if !is_all::<Digit>(&line[..10]) {
             return false;

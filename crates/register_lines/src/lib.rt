@@ -7,4 +7,4 @@ mod section;
 
 pub use forms::{AccountLine, CodeLine, LineForm, lines_from};
 pub use lines::{bound, first_line_passes};
-pub use section::{Section, put_marks};
+pub use section::{Section, mark_of, put_marks};

@@ -1,4 +1,6 @@
 // A single line of the register.
+#![tactic(auto, using(crate::specs::Sets::lining))]
+
 ghost use Rattle.std.specs.Prelude.{◌≡◌, true, leb, length};
 ghost use Rattle.register_lines.specs.Places.{ends_at, bound_at, first_in};
 ghost use Rattle.register_lines.specs.Formed.{bounds_at};
@@ -45,7 +47,7 @@ pub fn is_end(two: &[u8]) -> bool
     requires { length two.now ≡ 2 }
     ensures { result ≡ ends_at two.now 0 }
 {
-    two[0] == b'\r' && two[1] == b'\n'
+    text::equal(two, b"\r\n")
 }
 
 // Does the first line pass: the temporary account's IBAN?

@@ -1,4 +1,6 @@
 // Lines of one form told from each other by their IBANs or codes, which are compared where their marks are the same: marks that differ belong to bytes that do.
+#![tactic(auto, using(crate::specs::Sets::marking))]
+
 ghost use Rattle.std.specs.Prelude.{◌≡◌, ◌+◌, ◌*◌, ◌≤◌, ◌<◌, length};
 ghost use Rattle.rules.specs.Text.{equal};
 ghost use Rattle.register_lines.specs.Places.{key_in, stands_in, repeat_in};
@@ -8,7 +10,7 @@ use crate::forms::LineForm;
 use std::marker::PhantomData;
 
 // The mark of an IBAN or code: each byte counts twice as much as the next.
-fn mark_of(key: &[u8]) -> u32
+pub fn mark_of(key: &[u8]) -> u32
     requires { length key.now ≤ 22 }
     ensures { result ≡ mark_of key.now }
 {
@@ -66,6 +68,7 @@ impl<'a, F: LineForm> Section<'a, F> {
     }
 
     // The IBAN or code of line i.
+    #[tactic(auto, using(crate::specs::Marks::key_is))]
     fn key(&self, i: u32) -> &'a [u8]
         requires { i < self.now.count }
         ensures { result.now ≡ key_in self.now.text.now F.KEY (self.now.at + F.WIDTH * i) }
@@ -88,7 +91,7 @@ impl<'a, F: LineForm> Section<'a, F> {
     }
 
     // Is it that of one of the lines from line `first` on?
-    fn has_from(&self, key: &[u8], mark: u32, first: u32) -> bool
+    pub fn has_from(&self, key: &[u8], mark: u32, first: u32) -> bool
         requires size { length key.now ≡ F.KEY }
         requires marked { mark ≡ mark_of key.now }
         ensures { result ≡ stands_in self.now.text.now F.KEY F.WIDTH key.now self.now.at first self.now.count }

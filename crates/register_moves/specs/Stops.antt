@@ -6,7 +6,6 @@ use Rattle.rules.specs.Text.{is_some}
 use Rattle.rules.specs.Register.{register, register_of, old_register}
 use Rattle.rules.specs.Calls.{Stop, stop, first_of}
 use Rattle.rules.specs.Moves.{end_line, with_end, without_end, has_codes, newer_stops, older_stops}
-use Rattle.laws.specs.Tests.{passed_told}
 use Rattle.rule_laws.specs.Options.{There, there}
 use Rattle.rule_laws.specs.Registers.{register_size}
 
@@ -56,17 +55,17 @@ module _ (coded fits : Bool) where
     unfolding way_stops first_of
     way_none k = rw (h, k)
 
-module _ (text : List ℕ) (room : ℕ) (t : Bool) (u : t ≡ is_some (register text)) where
-  pub older_register : not t ≡ true → 9 ≡ first_of (older_stops room text)
+module _ (text : List ℕ) (room : ℕ) where
+  pub older_register : is_some (register text) ≡ false → 9 ≡ first_of (older_stops room text)
   unfolding older_stops first_of
-  older_register d = rw (← u, not-true t d)
+  older_register d = rw d
 
   -- a register's text has a last line
-  pub older_last : not t ≡ false → 5 ≤ length text
-  older_last d = let r : There (register text) = there (register text) (passed_told t _ u d) in omega (arith, register_size text r.value r.is)
+  pub older_last : is_some (register text) ≡ true → 5 ≤ length text
+  older_last d = let r : There (register text) = there (register text) d in omega (arith, register_size text r.value r.is)
 
-  pub older_way : not t ≡ false → (coded : Bool) → coded ≡ has_codes (register_of text) → (r : ℕ) → r ≡ first_of (way_stops coded (leb (length text - 5) room)) → r ≡ first_of (older_stops room text)
+  pub older_way : is_some (register text) ≡ true → (coded : Bool) → coded ≡ has_codes (register_of text) → (r : ℕ) → r ≡ first_of (way_stops coded (leb (length text - 5) room)) → r ≡ first_of (older_stops room text)
   unfolding older_stops way_stops first_of
-  older_way d coded c r e = e ∙ rw (← u, not-false t d, ← c, length_without text)
+  older_way d coded c r e = e ∙ rw (d, ← c, length_without text)
 
-pub ruleset stopping = (passed_told, newer_register, newer_room, newer_none, way_coded, way_short, way_none, older_register, older_last, older_way)
+pub ruleset stopping = (newer_register, newer_room, newer_none, way_coded, way_short, way_none, older_register, older_last, older_way)

@@ -1,11 +1,14 @@
 // From the new form to the old: the condition that stops the move, and its text.
-ghost use Rattle.std.specs.Prelude.{◌≡◌, ◌≤◌, length};
+#![tactic(auto, using(crate::specs::Stops::stopping))]
+
+ghost use Rattle.std.specs.Prelude.{◌≡◌};
 ghost use Rattle.rules.specs.Calls.{first_of};
 ghost use Rattle.rules.specs.Moves.{without_end, older_stops};
-ghost use Rattle.put.specs.Writes.{Writes};
 ghost use Rattle.register_moves.specs.Stops.{way_stops};
+ghost use Rattle.register_moves.specs.Texts.{older_way_of};
 ghost use Rattle.refusal.specs.Numbers.{stop_of};
 
+use crate::moving::RegisterMove;
 use put::Writer;
 use refusal::Refusal;
 use register::Register;
@@ -23,21 +26,27 @@ fn way_stop(coded: bool, fits: bool) -> Result<(), Refusal>
     Ok(())
 }
 
-// 9, 19 or 16, the first that holds, with so much room for the text.
-pub fn older_stop(text: &[u8], room: usize) -> Result<(), Refusal>
-    ensures { stop_of result ≡ first_of (older_stops room text.now) }
-{
-    if !register::register_passes(text) {
-        return Err(Refusal::BadRegister);
-    }
-    let coded = Register::passed(text).has_codes();
-    way_stop(coded, text.len() - 5 <= room)
-}
+pub struct Older;
 
-// A register's text without its last line.
-pub fn put_older(w: &mut Writer, text: &[u8])
-    requires { 5 ≤ length text.now }
-    ensures { Writes (without_end text.now) w.old w.new }
-{
-    w.put_bytes(&text[0..text.len() - 5]);
+impl RegisterMove for Older {
+    ghost stops = { older_stops };
+
+    ghost least = { 5 };
+
+    ghost made = { without_end };
+
+    // 9, 19 or 16, the first that holds.
+    fn stop(text: &[u8], room: usize) -> Result<(), Refusal> {
+        let Some(register) = Register::of(text) else {
+            return Err(Refusal::BadRegister);
+        };
+        way_stop(register.has_codes(), text.len() - 5 <= room)
+    }
+
+    // The text without its last line.
+    fn put(w: &mut Writer, text: &[u8]) {
+        w.put_bytes(&text[..text.len() - 5]);
+    }
+
+    ghost way = { older_way_of };
 }

@@ -3,6 +3,7 @@ ghost use Rattle.std.specs.Prelude.{◌≤◌, length, MatchResult};
 ghost use Rattle.day.specs.Onwards.{WindowReady};
 ghost use Rattle.replay.specs.Going.{More};
 
+use commands::Room;
 use day::Onward;
 use std::io;
 use std::io::{Input, Read, Write};
@@ -49,10 +50,8 @@ fn replay_input(
     Ok(())
 }
 
-// The replay of standard input with so many bytes of output: a window of 65,536 bytes, and room for an answer's line and the output. (The room is a number of the command line, and its limit a clause up to the array that it is taken of.)
-pub fn replay(rt: &(impl Input + Print), room: usize) -> io::Result<()>
-    requires { room ≤ 1048576 }
-{
+// The replay of standard input with so many bytes of output: a window of 65,536 bytes, and room for an answer's line and the output.
+pub fn replay(rt: &(impl Input + Print), room: Room) -> io::Result<()> {
     let mut input: [u8; 65536] = day::room();
     let mut area: [u8; 6144] = day::room();
     let mut output: [u8; 1048576] = day::room();
@@ -62,7 +61,7 @@ pub fn replay(rt: &(impl Input + Print), room: usize) -> io::Result<()>
         &mut io::writer(rt),
         &mut input,
         &mut area,
-        &mut output[0..room],
+        &mut output[0..room.bytes],
         &mut printed,
     )
 }

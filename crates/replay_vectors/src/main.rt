@@ -1,44 +1,39 @@
 // Replays days and compares what is printed with what is expected: three words for each, the input's file, the expected output's, and the output's room.
 #![tactic(auto)]
 
-ghost use Rattle.std.specs.Prelude.{◌≤◌, length};
-
+use commands::Room;
 use std::io::Read;
 use std::rt::Files;
 use std::{env, fs, io};
 
-// The bytes of the file of that name; one that cannot be read is cut short.
-fn read_file(rt: &(impl Files + AllocGlobal), name: &str) -> Vec<u8> {
+// The bytes of the file of that name, so many at most; one that cannot be read is cut short.
+fn read_file(rt: &(impl Files + AllocGlobal), name: &str, most: u64) -> Vec<u8> {
     let mut bytes = Vec::new(rt.alloc());
-    if let Ok(mut file) = fs::open(rt, name) {
-        let _ = file.read_to_end(&mut bytes);
+    if let Ok(file) = fs::open(rt, name) {
+        let _ = file.take(most).read_to_end(&mut bytes);
     }
     bytes
 }
 
 // The room that a word is, 32,768 bytes where it is none.
-fn room_of(word: &str) -> usize
-    ensures { result ≤ 1048576 }
-{
-    commands::read_room(word.as_bytes()).unwrap_or(32768)
+fn room_of(word: &str) -> Room {
+    commands::read_room(word.as_bytes()).unwrap_or(Room { bytes: 32768 })
 }
 
 // Replays the input with so many bytes of output; answers how many bytes were printed.
-fn replay_with(input: &[u8], room: usize, printed: &mut [u8]) -> usize
-    requires { room ≤ 1048576 }
-{
+fn replay_with(input: &[u8], room: Room, printed: &mut [u8]) -> usize {
     let mut area: [u8; 6144] = day::room();
     let mut output: [u8; 1048576] = day::room();
-    day::replay_day(input, &mut area, &mut output[0..room], printed)
+    day::replay_day(input, &mut area, &mut output[0..room.bytes], printed)
 }
 
 // Does the day of these words print what is expected? An input is cut behind 131,072 bytes, an expected output behind 65,536.
 fn agrees(rt: &(impl Files + AllocGlobal), input: &str, expected: &str, room: &str) -> bool {
     let mut printed: [u8; 65536] = day::room();
-    let read = read_file(rt, input);
-    let n = replay_with(&read[..read.len().min(131072)], room_of(room), &mut printed);
-    let wanted = read_file(rt, expected);
-    printed.get(..n) == Some(&wanted[..wanted.len().min(65536)])
+    let read = read_file(rt, input, 131072);
+    let n = replay_with(&read, room_of(room), &mut printed);
+    let wanted = read_file(rt, expected, 65536);
+    printed.get(..n) == Some(wanted.as_slice())
 }
 
 // Says it of the day of these words.

@@ -45,6 +45,12 @@ module _ (k : Kind) (date day : ℕ) where
   pub misdated_order : (n : ℕ) → k ≡ AnMt101 n → not (leb date day) ≡ misdated_by (is_transfer k) date day
   misdated_order n t = rw t refl
 
+  pub misdated_before : is_transfer k ≡ false → date ≤ day → false ≡ misdated_by (is_transfer k) date day
+  misdated_before t l = rw (t, le-leb _ _ l) refl
+
+  pub misdated_after : is_transfer k ≡ false → day < date → true ≡ misdated_by (is_transfer k) date day
+  misdated_after t l = rw (t, lt-leb _ _ l) refl
+
 pub total_within : (v w : ℕ) → v + w ≤ limit → false ≡ not (leb (v + w) limit)
 total_within v w h = rw (le-leb _ _ h) refl
 

@@ -3,4 +3,4 @@
 
 mod stops;
 
-pub use stops::{added_by, detailed_by, state_stop, transferred_by};
+pub use stops::{added_by, state_stop};

@@ -1,4 +1,6 @@
 // The conditions 11 to 15, "stopped by the state".
+#![tactic(auto, using(crate::specs::Stops::stops))]
+
 ghost use Rattle.std.specs.Prelude.{◌≡◌, not, ◌+◌, ◌*◌, ◌^◌, ◌<◌, ◌≤◌, leb};
 ghost use Rattle.std.proofs.Math.Option.{some};
 ghost use Rattle.rules.specs.Text.{any};
@@ -27,35 +29,20 @@ fn is_misdated(b: Booking, day: u32) -> bool
     }
 }
 
-// What a message adds to transferred.
-pub fn transferred_by(b: Booking) -> u64
-    ensures { result ≡ amount_if (is_transfer b.kind) b.amount }
-{
-    match b.kind {
-        Kind::Transfer => b.amount,
-        Kind::Order(_) => 0,
-    }
-}
-
-// What it adds to detailed.
-pub fn detailed_by(b: Booking) -> u64
-    ensures { result ≡ amount_if (not (is_transfer b.kind)) b.amount }
-{
-    match b.kind {
-        Kind::Transfer => 0,
-        Kind::Order(_) => b.amount,
-    }
-}
-
-// What it adds to its position.
+// What a message adds to its position.
 pub fn added_by(b: Booking) -> Position
     ensures { result ≡ addition_by b }
 {
-    let key = b.key;
-    Position {
-        key,
-        transferred: transferred_by(b),
-        detailed: detailed_by(b),
+    let nothing = Position::empty(b.key);
+    match b.kind {
+        Kind::Transfer => Position {
+            transferred: b.amount,
+            ..nothing
+        },
+        Kind::Order(_) => Position {
+            detailed: b.amount,
+            ..nothing
+        },
     }
 }
 
@@ -78,10 +65,8 @@ fn is_over(t: Position, b: Booking) -> bool
     requires amount_bound { b.amount ≤ 16 * 10 ^ 16 }
     ensures { result ≡ over_by t b }
 {
-    if total_over(t.transferred, transferred_by(b)) {
-        return true;
-    }
-    total_over(t.detailed, detailed_by(b))
+    let added = added_by(b);
+    total_over(t.transferred, added.transferred) || total_over(t.detailed, added.detailed)
 }
 
 // 14 or 15, the first that holds, with n positions open.
@@ -108,6 +93,7 @@ fn rest_stop(n: u32, before: Option<Position>, b: Booking) -> Result<(), Refusal
 }
 
 // Was its field 20 accepted today from this sender?
+#[tactic(auto, using(crate::specs::Stops::field_short))]
 fn already_accepted(s: &[u8], engine: Engine, b: Booking) -> bool
     requires { Books s.now (message_in s.now) b }
     ensures { result ≡ any (same_reference (own_reference (message_in s.now))) (decode engine.entry.area.now).references }

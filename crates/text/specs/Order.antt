@@ -1,5 +1,5 @@
 -- Two texts compared in byte order, byte by byte: what is left of both decides. A law for each way on and out of the loop.
-use Rattle.std.specs.Prelude.{◌≡◌, refl, Bool, true, false, not, List, [], ◌∷◌, ℕ, suc, ◌+◌, ◌≤◌, ◌<◌, min, leb, nat_lt, length, get_or, drop}
+use Rattle.std.specs.Prelude.{◌≡◌, refl, false, not, List, [], ◌∷◌, ℕ, suc, ◌+◌, ◌≤◌, ◌<◌, min, leb, nat_lt, length, get_or, drop}
 use Rattle.std.proofs.Common.{sym, ◌∙◌, arith, add-one, drop-cons, drop_of_length-le, eq-eqb, ne_eqb, ◌⊎◌, inl, inr}
 use Rattle.std.proofs.lemmas.Bool.{cases_lt}
 use borrow.Author.Tests.{le-leb, lt-leb}
@@ -33,3 +33,5 @@ module _ (s t : List ℕ) (k : ℕ) (inv : text_before (drop k s) (drop k t) ≡
       go : (length s < length t) ⊎ (length t ≤ length s) → not (leb (length t) (length s)) ≡ text_before s t
       go (inl a) = rw (lt-leb (length t) (length s) a) (rw (drop_of_length-le s {i = k} (omega arith), one_left t k (omega arith)) at inv)
       go (inr a) = rw (le-leb (length t) (length s) a) (sym (none_before (drop k s)) ∙ (rw (drop_of_length-le t {i = k} (omega arith)) at inv))
+
+pub ruleset ordering = (order_differs, order_more, order_end)

@@ -5,6 +5,7 @@ ghost use Rattle.rules.specs.Text.{equal, text_before, fits, fits_sign};
 use crate::classes::{Alnum, Class, Digit, Letter};
 
 // Are both texts equal?
+#[tactic(auto, using(laws::specs::Slices::equal_is))]
 pub fn equal(s: &[u8], t: &[u8]) -> bool
     ensures { result ≡ equal s.now t.now }
 {
@@ -12,6 +13,7 @@ pub fn equal(s: &[u8], t: &[u8]) -> bool
 }
 
 // Are two texts of one length equal? Compared from the last byte on, where IBANs of one bank, codes and references of one sender differ: by `==` a message with 16 credited takes 608,019 instructions, of 515,000.
+#[tactic(auto, using(crate::specs::Backward::backward))]
 pub fn equal_backward(s: &[u8], t: &[u8]) -> bool
     requires { length s.now ≡ length t.now }
     ensures { result ≡ equal s.now t.now }
@@ -25,6 +27,7 @@ pub fn equal_backward(s: &[u8], t: &[u8]) -> bool
 }
 
 // Does the one text stand before the other, in byte order? By `<` of slices a refusal by 1 takes 111,581 instructions, of 110,000.
+#[tactic(auto, using(crate::specs::Order::ordering))]
 pub fn precedes(s: &[u8], t: &[u8]) -> bool
     ensures { result ≡ text_before s.now t.now }
 {
@@ -44,6 +47,7 @@ pub fn begins_as(pattern: &[u8], s: &[u8]) -> bool
 }
 
 // A byte against the sign of its place: n a digit, a a letter, c a letter or digit, any other sign itself.
+#[tactic(auto, using(laws::specs::Tests::tests), unfolding(rules::specs::Text::fits_sign))]
 pub fn fits_sign(p: u8, c: u8) -> bool
     ensures { result ≡ fits_sign p c }
 {

@@ -19,6 +19,7 @@ pub struct Digit;
 impl Class for Digit {
     ghost test = { is_digit };
 
+    #[tactic(auto, unfolding(rules::specs::Text::is_digit))]
     fn has(c: u8) -> bool {
         c.is_ascii_digit()
     }
@@ -31,6 +32,7 @@ pub struct Letter;
 impl Class for Letter {
     ghost test = { is_letter };
 
+    #[tactic(auto, unfolding(rules::specs::Text::is_letter))]
     fn has(c: u8) -> bool {
         c.is_ascii_uppercase()
     }
@@ -43,6 +45,7 @@ pub struct Alnum;
 impl Class for Alnum {
     ghost test = { is_alnum };
 
+    #[tactic(auto, unfolding(rules::specs::Text::is_alnum))]
     fn has(c: u8) -> bool {
         Digit::has(c) || Letter::has(c)
     }
@@ -55,6 +58,7 @@ pub struct Text;
 impl Class for Text {
     ghost test = { is_text };
 
+    #[tactic(auto, unfolding(rules::specs::Text::is_text))]
     fn has(c: u8) -> bool {
         32 <= c && c != 125
     }
@@ -76,6 +80,7 @@ pub fn leading<C: Class>(s: &[u8]) -> usize
 }
 
 // Are there low to high bytes, each of the class?
+#[tactic(auto, using(laws::specs::Tests::tests), unfolding(rules::specs::Text::run))]
 pub fn is_run<C: Class>(low: usize, high: usize, s: &[u8]) -> bool
     ensures { result ≡ run C.test low high s.now }
 {

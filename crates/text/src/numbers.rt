@@ -7,6 +7,7 @@ ghost use Rattle.laws.specs.Told.{told};
 use crate::classes::{Digit, is_all};
 
 // The number of some digits, 9 of them at most.
+#[tactic(auto, using(crate::specs::Placing::placing))]
 pub fn small_value(s: &[u8]) -> u32
     requires few { length s.now ≤ 9 }
     requires each { every is_digit s.now ≡ true }
@@ -20,7 +21,8 @@ pub fn small_value(s: &[u8]) -> u32
     v
 }
 
-// The number of bytes that are digits, 18 of them at most.
+// The number of bytes that are digits, 18 of them at most: of two groups, so that a digit takes a product of 32 bits and not of 64.
+#[tactic(auto, using(crate::specs::Placing::groups))]
 pub fn value_of(s: &[u8]) -> u64
     requires few { length s.now ≤ 18 }
     requires each { every is_digit s.now ≡ true }
@@ -35,6 +37,7 @@ pub fn value_of(s: &[u8]) -> u64
 }
 
 // The number of some bytes, 8 of them at most, the first the most significant.
+#[tactic(auto, using(crate::specs::Placing::placing))]
 pub fn big_endian(s: &[u8]) -> u64
     requires { length s.now ≤ 8 }
     ensures value { result ≡ big_endian s.now }
@@ -48,6 +51,7 @@ pub fn big_endian(s: &[u8]) -> u64
 }
 
 // The number of some bytes, 18 of them at most, where each is a digit.
+#[tactic(auto, using(laws::specs::Values::every_none))]
 pub fn read_digits(s: &[u8]) -> Option<u64>
     requires { length s.now ≤ 18 }
     ensures { told result ≡ digits s.now }

@@ -34,7 +34,7 @@ fn say_details(rt: &impl Print, reader: &mut LineReader, kept: &[Judged]) -> io:
 // The reader of an MT101 behind its field 20, where the details begin.
 fn behind_field_20(s: &[u8]) -> Option<LineReader<'_>> {
     let mut reader = Message::framed(s)?.body();
-    forms::read_rows(&mut reader, 0, 1)?;
+    forms::read_rows::<1>(&mut reader, 0)?;
     Some(reader)
 }
 
@@ -63,8 +63,8 @@ fn say_checked(
 // A message to the card with the register of a text.
 fn say_message(rt: &impl Print, s: &[u8], text: &[u8]) -> io::Result<()> {
     let mut kept = [NO_DETAIL; 16];
-    if register::register_passes(text) {
-        let r = conditions::check_message(s, Register::passed(text), &mut kept);
+    if let Some(register) = Register::of(text) {
+        let r = conditions::check_message(s, register, &mut kept);
         say_checked(rt, s, r, &kept)?;
     }
     Ok(())
@@ -95,7 +95,7 @@ fn try_each(rt: &impl Print, s: &[u8]) -> io::Result<()> {
     Ok(())
 }
 
-// All of the input.
+// All of the input. (Four lines in each of three programs: a crate for them would be no plainer.)
 fn try_all(rt: &(impl Print + Input + AllocGlobal)) -> io::Result<()> {
     let mut text = Vec::new(rt.alloc());
     rt.reader().read_to_end(&mut text)?;

@@ -92,7 +92,7 @@ fn try_lines(rt: &impl Print, s: &[u8]) -> io::Result<()> {
     Ok(())
 }
 
-// All of the input.
+// All of the input. (Four lines in each of three programs: a crate for them would be no plainer.)
 fn try_all(rt: &(impl Print + Input + AllocGlobal)) -> io::Result<()> {
     let mut text = Vec::new(rt.alloc());
     rt.reader().read_to_end(&mut text)?;

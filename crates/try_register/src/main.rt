@@ -53,10 +53,9 @@ impl fmt::Display for Judged {
 
 // The verdict on the field on a line, and on the code behind its bar, where there is a register.
 fn try_field(rt: &impl Print, text: &[u8], line: &[u8]) -> io::Result<()> {
-    if register::register_passes(text) {
+    if let Some(register) = Register::of(text) {
         let (field, others) = until(line, b"|");
         let code = others.strip_prefix(b"|").unwrap_or(others);
-        let register = Register::passed(text);
         let v = verdict::judge(register, field);
         print!(rt; "{}", Judged(verdict::by_code(register, v, code)))?;
     } else {
@@ -100,7 +99,7 @@ fn try_each(rt: &impl Print, s: &[u8]) -> io::Result<()> {
     Ok(())
 }
 
-// All of the input.
+// All of the input. (Four lines in each of three programs: a crate for them would be no plainer.)
 fn try_all(rt: &(impl Print + Input + AllocGlobal)) -> io::Result<()> {
     let mut text = Vec::new(rt.alloc());
     rt.reader().read_to_end(&mut text)?;

@@ -1,7 +1,7 @@
 // Writes texts of worked days: the listing's posting lines, a turn that collects and refunds, the rows around the returned details of an MT199, and returns.
 #![tactic(auto)]
 
-ghost use Rattle.std.specs.Prelude.{◌≤◌, length};
+ghost use Rattle.std.specs.Prelude.{◌≤◌, ◌<◌, length};
 
 use outgoing_number::Reference;
 use position::{Key, Position};
@@ -9,9 +9,9 @@ use put::Writer;
 use std::io;
 use written::Book;
 
-// The output up to a place.
-fn say(rt: &impl Print, out: &[u8], n: usize) -> io::Result<()> {
-    if let Some(text) = out.get(..n) {
+// What is written.
+fn say(rt: &impl Print, w: &Writer) -> io::Result<()> {
+    if let Some(text) = w.out.get(..w.at) {
         rt.write_all(text)?;
     }
     Ok(())
@@ -42,8 +42,7 @@ fn try_postings(rt: &impl Print) -> io::Result<()> {
         6000,
     );
     written::put_to_bank(&mut w, book, b"BG80BNBG96611020345678", 5400);
-    let n = w.at;
-    say(rt, &out, n)
+    say(rt, &w)
 }
 
 // A turn to 040607.
@@ -73,40 +72,45 @@ fn try_turn(rt: &impl Print) -> io::Result<()> {
         number: 2,
     };
     written::put_correction(&mut w, s, b"BG18BNBG96611633648985", q);
-    let n = w.at;
-    say(rt, &out, n)
+    say(rt, &w)
+}
+
+// An MT199 without its details: the last part of those that begin with a number.
+fn say_part(
+    rt: &impl Print,
+    bank: &[u8; 8],
+    r: Reference,
+    first: u32,
+    part: u32,
+    transferred: u64,
+    detailed: u64,
+) -> io::Result<()>
+    requires { 0 < first }
+{
+    let mut out = [0u8; 256];
+    let mut w = Writer::new(&mut out);
+    written::put_opened199(&mut w, r, first, u64::from_be_bytes(*bank), part);
+    written::put_position79(&mut w, r.day, transferred, detailed);
+    written::put_closed79(&mut w, part, part);
+    say(rt, &w)
 }
 
 // The listing's MT199, without its returned detail.
 fn try_only_part(rt: &impl Print) -> io::Result<()> {
-    let mut out = [0u8; 256];
-    let mut w = Writer::new(&mut out);
-    let bank = u64::from_be_bytes(*b"AAAABGSF");
     let r = Reference {
         day: 60302,
         number: 1,
     };
-    written::put_opened199(&mut w, r, 1, bank, 1);
-    written::put_position79(&mut w, 60302, 10000, 11400);
-    written::put_closed79(&mut w, 1, 1);
-    let n = w.at;
-    say(rt, &out, n)
+    say_part(rt, b"AAAABGSF", r, 1, 1, 10000, 11400)
 }
 
 // The second part of an MT199 whose first is 000003.
 fn try_second_part(rt: &impl Print) -> io::Result<()> {
-    let mut out = [0u8; 256];
-    let mut w = Writer::new(&mut out);
-    let bank = u64::from_be_bytes(*b"FBBMXFIK");
     let r = Reference {
         day: 51108,
         number: 4,
     };
-    written::put_opened199(&mut w, r, 3, bank, 2);
-    written::put_position79(&mut w, 51108, 0, 39876122005479);
-    written::put_closed79(&mut w, 2, 2);
-    let n = w.at;
-    say(rt, &out, n)
+    say_part(rt, b"FBBMXFIK", r, 3, 2, 0, 39876122005479)
 }
 
 // A return, by its number and amount and the lines of 52D and 50H.
@@ -124,8 +128,7 @@ fn say_return(
     let mut out = [0u8; 512];
     let mut w = Writer::new(&mut out);
     written::put_return(&mut w, book, temporary, n, v, lines52d, lines50h);
-    let n = w.at;
-    say(rt, &out, n)
+    say(rt, &w)
 }
 
 // The return of the listing.

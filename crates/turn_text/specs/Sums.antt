@@ -1,17 +1,21 @@
 -- What a turn refunds and collects, summed position by position.
 use Rattle.std.specs.Prelude.{◌≡◌, Bool, ℕ, ◌+◌, ◌-◌, ◌*◌, ◌^◌, ◌≤◌, ◌<◌}
-use Rattle.std.proofs.Common.{◌∙◌, le-leb}
+use Rattle.std.proofs.Common.{◌∙◌, le-leb, subst, sym}
 use Rattle.std.proofs.Math.Path.{ap}
 use Rattle.std.proofs.Math.Bool.{true, false, cond}
 use mathlib.Core.List.{List, [], ◌∷◌}
 use native.Mathlib.Omega.{arith}
 use Rattle.rules.specs.Engine.{Position, has_details}
 use Rattle.rules.specs.Calls.{refunded, collected}
-use Rattle.rules.specs.Area.{decode, positions_place, record_size}
+use Rattle.rules.specs.Text.{is_some}
+use Rattle.rules.specs.Area.{decode, positions_place, record_size, holds}
 use Rattle.engine_laws.specs.Decoded.{decoded_room}
 use Rattle.position.specs.Values.{position_value}
 use Rattle.position.specs.declared.Position as P
 use Rattle.turn_text.specs.declared.sums.Sums.{Sums}
+use Rattle.engine.specs.Header.{HeaderOf}
+use Rattle.engine.specs.declared.header.Header.{Header}
+use Rattle.engine.specs.Lookup.{positions_are}
 use Rattle.engine.specs.Positions.{positions_from, positions_next, positions_none, PositionAt}
 
 -- what a position with details has of one total above the other
@@ -112,16 +116,23 @@ module _ (area : List ℕ) (i k n : ℕ) (s : Sums) (l : SumsLeft area i k n s) 
         collected_small = omega (arith, l.collected_small, d.collected, above_small x x.detailed x.transferred, a.detailed);
       }
 
-  pub sums_end : (decode area).positions ≡ positions_from area 0 n → k ≤ 0 → n ≤ 32 → SumsOf (decode area).positions s
+  pub sums_from : k ≤ 0 → n ≤ 32 → SumsOf (positions_from area 0 n) s
   unfolding refunded collected
-  sums_end f h m =
+  sums_from h m =
       let e : positions_from area i k ≡ [] = positions_none area i k h in
       record {
-        refunded = rw f (omega (arith, l.refunded, ap refunded e));
-        collected = rw f (omega (arith, l.collected, ap collected e));
+        refunded = omega (arith, l.refunded, ap refunded e);
+        collected = omega (arith, l.collected, ap collected e);
         refunded_small = omega (arith, l.refunded_small);
         collected_small = omega (arith, l.collected_small);
       }
+
+  pub sums_end : (decode area).positions ≡ positions_from area 0 n → k ≤ 0 → n ≤ 32 → SumsOf (decode area).positions s
+  sums_end f h m = rw f (sums_from h m)
+
+-- the positions of the engine that the area holds
+pub sums_decoded : (area : List ℕ) (x : Header) (s : Sums) → is_some (holds area) ≡ true → HeaderOf area x → SumsOf (positions_from area 0 x.positions) s → SumsOf (decode area).positions s
+sums_decoded area x s h n t = subst (λ (ps : List Position). SumsOf ps s) (sym (positions_are area h x n)) t
 
 -- one position more of those that a loop counts up
 pub sums_turn : (area : List ℕ) (i n : ℕ) (s : Sums) → SumsLeft area i (n - i) n s → i < n → {q : P.Position} → PositionAt area (positions_place + record_size * i) q → {r : Sums} → Adds (position_value q) s r

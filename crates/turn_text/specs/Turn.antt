@@ -1,5 +1,5 @@
 -- The text of a turn, position by position: what is left to write, with one position more and behind the last.
-use Rattle.std.specs.Prelude.{◌≡◌, refl, Bool, true, not, ℕ, ◌+◌, ◌-◌, ◌*◌, ◌≤◌, ◌<◌, eqb, length}
+use Rattle.std.specs.Prelude.{◌≡◌, Bool, true, not, ℕ, ◌+◌, ◌-◌, ◌*◌, ◌≤◌, ◌<◌, eqb}
 use Rattle.std.proofs.Common.{arith, le-leb}
 use Rattle.std.proofs.Math.Bool.{false}
 use mathlib.Core.List.{List, [], ◌∷◌}
@@ -7,9 +7,8 @@ use Rattle.rules.specs.Engine.{Position, has_details}
 use Rattle.rules.specs.Written.{corrected, correction_posting, correction, correction_postings, corrections, corrected_count}
 use Rattle.rules.specs.Register.{register_of}
 use Rattle.rules.specs.Area.{decode, positions_place, record_size}
-use Rattle.laws.specs.Writing.{furthest}
 use Rattle.put.specs.declared.parts.Writer.{Writer}
-use Rattle.put.specs.Writes.{Writes, Unwritten, unwritten_all, unwritten_turn, unwritten_none}
+use Rattle.put.specs.Writes.{Writes, Unwritten, unwritten_turn, unwritten_none}
 use Rattle.engine_laws.specs.Decoded.{decoded_room}
 use Rattle.position.specs.Values.{position_value}
 use Rattle.position.specs.declared.Position as P
@@ -35,9 +34,6 @@ abbrev pub rest : List ℕ → ℕ → ℕ → List Position
 rest area n i = positions_from area i (n - i)
 
 module _ (area : List ℕ) (n : ℕ) where
-  rest_all : rest area n 0 ≡ positions_from area 0 n
-  rest_all = let e : n - 0 ≡ n = omega arith in rw e
-
   rest_next : {i : ℕ} → i < n → rest area n i ≡ nth_position area i ∷ rest area n (i + 1)
   rest_next {i} h = let e : n - i - 1 ≡ n - (i + 1) = omega arith in rw e at (positions_next area i (n - i) (omega arith))
 

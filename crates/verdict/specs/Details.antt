@@ -1,6 +1,6 @@
 -- The details of a message with their verdicts, as the code holds them.
 use Rattle.std.specs.Prelude.{◌≡◌, refl, true, false, List, ℕ, zero, suc, ◌<◌, ◌≤◌, length, get_or, set}
-use Rattle.std.proofs.Common.{arith, get_or-set_same, get_or-set_other}
+use Rattle.std.proofs.Common.{arith, get_or-set_same, get_or-set_other, ap, ◌∙◌}
 use Rattle.std.proofs.Math.Logic.{∥∥₁_elim}
 use Rattle.std.proofs.Math.Option.{Option, none, some}
 use Rattle.std.proofs.Props.{props}
@@ -13,16 +13,21 @@ use Rattle.rules.specs.Messages.{Message, read, details_of, past}
 use Rattle.rules.specs.Register.{register, register_of}
 use Rattle.rule_laws.specs.Messages.{DetailRead, DetailsRead, DetailsRead.last, DetailsRead.more, ReadAs, ReadAs.transfer, ReadAs.order, read_as}
 use Rattle.rules.specs.Verdict.{verdict, by_code, is_returned, is_listed199}
-use Rattle.forms.specs.Spans.{span_of, no_span, span_line}
+use Rattle.register.specs.Passed.{accounts_few}
+use Rattle.forms.specs.Spans.{span_of, no_span, SpanIn, span_line}
+use Rattle.forms.specs.Fields.{Behind, behind_bytes}
+use Rattle.forms.specs.declared.rows.Span.{Span}
 use Rattle.forms.specs.Details.{DetailAt, detail_in}
 use Rattle.forms.specs.declared.detail.Detail.{Detail}
 use Rattle.details.specs.Message.{or_none, message_in, details_in, detail_at}
 use Rattle.details.specs.Kept.{KeptOf, kept_of, kept_told}
-use Rattle.verdict.specs.Answers.{verdict_of}
+use Rattle.verdict.specs.Answers.{verdict_of, InRegister, in_register, line_credited, line_coded}
+use Rattle.verdict.specs.declared.Cause.{Cause}
 use Rattle.verdict.specs.declared.Cause.TheVariants.{WrongShape}
 use Rattle.verdict.specs.declared.Verdict.{Verdict}
 use Rattle.verdict.specs.declared.Verdict.TheVariants.{Credited, CreditedByCode, Returned}
 use Rattle.verdict.specs.declared.detail.Judged.{Judged}
+use Rattle.rules.specs.Verdict as paper
 
 -- what stands behind the details that are kept
 abbrev pub no_judged : Judged
@@ -112,12 +117,36 @@ pub record VerdictOn (text s : List ℕ) (d : Detail) (v : Verdict) : Type 0 whe
 
 -- detail n is d now, with its verdict
 module _ (text s : List ℕ) (d : Detail) {at : ℕ} (w : DetailAt s at d) {v : Verdict} (o : VerdictOn text s d v) where
-  judged_own : JudgedAs text s (detail_in s d) record { detail = kept_of d; verdict = v }
+  pub judged_own : JudgedAs text s (detail_in s d) record { detail = kept_of d; verdict = v }
   judged_own = record { kept = kept_told s d w; verdict = rw (span_line s d.spans 17 detail59 (omega arith), span_line s d.spans 17 detail_code (omega arith)) o.same }
 
   module _ (kept : List Judged) (n : ℕ) (r : length kept ≡ 16) (h : n < 16) where
     pub kept_own : JudgedAs text s (detail_in s d) (judged_at (set kept n record { detail = kept_of d; verdict = v }) n)
     kept_own = rw (get_or-set_same kept n (record { detail = kept_of d; verdict = v }) no_judged (omega arith)) judged_own
+
+-- a line number of a register that passed is small
+module _ (text : List ℕ) (v : Verdict) (i : ℕ) (h : is_some (register text) ≡ true) (l : InRegister text v) where
+  pub credited_small : v ≡ Credited i → i < 40
+  credited_small e = omega (arith, line_credited text v i l e, accounts_few text h)
+
+  pub coded_small : {c : Cause} → v ≡ CreditedByCode i c → i < 40
+  coded_small e = omega (arith, line_coded text v i l e, accounts_few text h)
+
+-- the verdict u on some bytes, and v with the code
+module _ (text code cs : List ℕ) {u : paper.Verdict} (v : Verdict) (f : u ≡ verdict (register_of text) cs) (g : verdict_of v ≡ by_code (register_of text) code u) where
+  both_judged : verdict_of v ≡ by_code (register_of text) code (verdict (register_of text) cs)
+  both_judged = g ∙ ap (by_code (register_of text) code) f
+
+  pub both_known : InRegister text v
+  both_known = in_register text code cs v both_judged
+
+-- by the bytes behind 59's slash
+pub verdict_on : (text s : List ℕ) (d : Detail) (q : Span) → SpanIn s (get_or d.spans detail59 no_span) → Behind (get_or d.spans detail59 no_span) 5 q → {u : paper.Verdict} (v : Verdict) → u ≡ verdict (register_of text) (span_of s q)
+    → verdict_of v ≡ by_code (register_of text) (span_of s (get_or d.spans detail_code no_span)) u → VerdictOn text s d v
+verdict_on text s d q w b v f g = record {
+  same = both_judged text (span_of s (get_or d.spans detail_code no_span)) (span_of s q) v f g
+      ∙ ap (λ (cs : List ℕ). by_code (register_of text) (span_of s (get_or d.spans detail_code no_span)) (verdict (register_of text) cs)) (behind_bytes s _ 5 w q b);
+}
 
 pub kept_other : (text s : List ℕ) (kept : List Judged) (n : ℕ) (j : Judged) (e : M.Detail) (i : ℕ) → i < n → JudgedAs text s e (judged_at kept i) → JudgedAs text s e (judged_at (set kept n j) i)
 kept_other text s kept n j e i l k = rw (get_or-set_other kept n i j no_judged (λ z. omega arith)) k

@@ -1,14 +1,15 @@
 -- A law for each way that a judgement goes, the tests as calls answered them.
-use Rattle.std.specs.Prelude.{◌≡◌, refl, Option, Some, None, ◌⊎◌, Bool, false, ◌||◌, not, cond, List, [], ℕ, ◌-◌, ◌≤◌, ◌<◌, leb, take, drop}
+use Rattle.std.specs.Prelude.{◌≡◌, refl, Option, Some, None, ◌⊎◌, Bool, false, ◌&&◌, ◌||◌, not, cond, List, [], ◌∷◌, ℕ, ◌+◌, ◌-◌, ◌≤◌, ◌<◌, leb, take, drop}
 use Rattle.std.proofs.Common.{sym, ap, ◌∙◌, inl, inr, length-take, length-drop, le-leb, take_all, drop_of_length-le}
-use Rattle.std.proofs.Math.Bool.{true}
+use Rattle.std.proofs.Math.Bool.{true, and-true}
 use native.Mathlib.Omega.{arith}
 use Rattle.std.proofs.Math.ListN.{length}
-use Rattle.std.proofs.lemmas.Bool.{lt-leb}
+use Rattle.std.proofs.lemmas.Bool.{lt-leb, not-false}
 use Rattle.rules.specs.Text.{ascii, equal, fits, between}
 use Rattle.rules.specs.Accounts.{iban_shape, control}
 use Rattle.rules.specs.Register.{Account, Register}
 use Rattle.rules.specs.Verdict.{found, account_at, shaped, in_bounds, judged, verdict, wrong_shape, wrong_control, not_in_register, out_of_bounds, credited, credited_by_code, returned, line_by_code, by_line, by_code}
+use Rattle.laws.specs.Parts.{cut, cut_take, cut_drop, cut_done, cut_length}
 use Rattle.laws.specs.Slices.{rest_whole}
 use Rattle.laws.specs.Told.{told}
 use Rattle.laws.specs.Tests.{and_left, and_right, not_holds, passed_told}
@@ -73,6 +74,38 @@ module _ (cs : List ℕ) where
     unfolding shaped
     shape_behind d r v = rw (← u, d) (rw (rest_whole cs 22) at v)
 
+-- of the bytes between two places
+some_equal : (cs : List ℕ) → 0 < length cs → equal cs [] ≡ false
+unfolding equal
+some_equal [] h = absurd (omega arith)
+some_equal (c ∷ cs) h = refl
+
+module _ (s : List ℕ) (a b : ℕ) (h : a ≤ b) (k : b ≤ length s) where
+  size : length (cut s a b) ≡ b - a
+  size = cut_length s a b k
+
+  pub shape_alone : b - a ≡ 22 → (t : Bool) → t ≡ iban_shape (cut s a (a + 22)) → t ≡ shaped (cut s a b)
+  unfolding shaped equal
+  shape_alone e t u = rw (cut_take s a b 22 (omega arith), cut_drop s a b 22, cut_done s (a + 22) b (omega arith) (omega arith), u, and-true)
+
+  pub shape_other : (b - a ≡ 22 → ⊥) → (b - a ≡ 31 → ⊥) → false ≡ shaped (cut s a b)
+  shape_other e f = not_holds (shaped (cut s a b)) (λ w. go (shaped_length (cut s a b) w))
+    where
+      go : (length (cut s a b) ≡ 22) ⊎ (length (cut s a b) ≡ 31) → ⊥
+      go (inl g) = e (sym size ∙ g)
+      go (inr g) = f (sym size ∙ g)
+
+  module _ (e : b - a ≡ 31) (t : Bool) (u : t ≡ iban_shape (cut s a (a + 22))) where
+    coded : shaped (cut s a b) ≡ (t && fits (ascii "PAYnnnnnn") (cut s (a + 22) (a + 22 + 9)))
+    unfolding shaped equal
+    coded =
+        let w : a + 22 + 9 ≡ b = omega arith in
+        let n : length (cut s (a + 22) b) ≡ b - (a + 22) = cut_length s (a + 22) b k in
+        rw (cut_take s a b 22 (omega arith), cut_drop s a b 22, ← u, w, some_equal (cut s (a + 22) b) (omega arith))
+
+    pub shape_coded : t ≡ true → (r : Bool) → r ≡ fits (ascii "PAYnnnnnn") (cut s (a + 22) (a + 22 + 9)) → r ≡ shaped (cut s a b)
+    shape_coded d r w = rw (coded, d) w
+
 -- ---- what has its shape
 
 module _ (cs : List ℕ) (w : shaped cs ≡ true) where
@@ -127,6 +160,19 @@ pub found_known : (q : Option ℕ) (iban : List ℕ) (xs : List Account) → tol
 found_known q iban xs e i w = found_listed iban i xs (sym e ∙ ap told w)
 
 -- ---- the verdict
+
+-- of the bytes between two places, the test as a call answered it
+module _ (s : List ℕ) (a b : ℕ) (t : Bool) (u : t ≡ shaped (cut s a b)) (d : not t ≡ false) where
+  pub judge_shaped : shaped (cut s a b) ≡ true
+  judge_shaped = sym u ∙ not-false t d
+
+  pub judge_iban : a ≤ b → b ≤ length s → a + 22 ≤ length s
+  judge_iban h k = let n : length (cut s a b) ≡ b - a = cut_length s a b k in omega (arith, shaped_iban (cut s a b) judge_shaped)
+
+  pub judge_told : a ≤ b → b ≤ length s → iban_shape (cut s a (a + 22)) ≡ true
+  judge_told h k =
+      let n : length (cut s a b) ≡ b - a = cut_length s a b k in
+      rw (cut_take s a b 22 (omega (arith, shaped_iban (cut s a b) judge_shaped))) at (shaped_shape (cut s a b) judge_shaped)
 
 module _ (g : Register) (cs : List ℕ) (t : Bool) (u : t ≡ shaped cs) where
   pub judge_shape : not t ≡ true → returned wrong_shape ≡ verdict g cs

@@ -1,5 +1,5 @@
 // The judgement of a detail: field 59 behind its slash, credited or returned; where it would be returned, its code.
-#![tactic(auto)]
+#![tactic(auto, using(crate::specs::Judging::judging))]
 
 mod detail;
 mod message;
@@ -95,7 +95,8 @@ fn is_in_bounds(register: Register, i: usize, part: &[u8]) -> bool
         return true;
     }
     let code = register_lines::bound(&part[25..]);
-    register.low(i) <= code && code <= register.high(i)
+    let (low, high) = register.bounds(i);
+    low <= code && code <= high
 }
 
 // The verdict on field 59 behind its slash, without codes.

@@ -1,9 +1,10 @@
 -- The written texts, as the code's branches and tables lead to them.
 use Rattle.std.specs.Prelude.{◌≡◌, List, [], ℕ, ◌+◌, ◌-◌, ◌≤◌, ◌<◌, length}
 use Rattle.std.proofs.Common.{arith}
+use Rattle.rules.specs.Amounts.{with_comma}
 use Rattle.rules.specs.Text.{ascii}
-use Rattle.rules.specs.Written.{posting, field, reference, linked}
-use Rattle.laws.specs.Writing.{furthest}
+use Rattle.rules.specs.Written.{posting, field, reference, linked, size}
+use Rattle.laws.specs.Writing.{furthest, Wrote}
 use Rattle.put.specs.declared.parts.Writer.{Writer}
 use Rattle.put.specs.Writes.{Writes, writes_nothing, writes_within, writes_beyond}
 
@@ -13,6 +14,14 @@ pub posting_parties : {debit debit' credit credit' : List ℕ} (t t' : List ℕ)
     → Writes (posting (record { day = day; temporary = t'; bank = bank; date = date }) debit' credit' v) w₀ w₁
 unfolding posting
 posting_parties t t' day bank date v w e f = rw (← e, ← f) w
+
+-- the size of the difference, by which total is larger
+module _ {a b at r : ℕ} {out out' : List ℕ} where
+  pub size_below : a < b → Wrote (field [] (with_comma (b - a))) at out r out' → Wrote (field [] (with_comma (size a b))) at out r out'
+  size_below h w = let e : size a b ≡ b - a = omega arith in rw e w
+
+  pub size_above : b ≤ a → Wrote (field [] (with_comma (a - b))) at out r out' → Wrote (field [] (with_comma (size a b))) at out r out'
+  size_above h w = let e : size a b ≡ a - b = omega arith in rw e w
 
 -- part 1 has no field 21
 pub linked_first : (day n part : ℕ) {w : Writer} → part < 2 → length w.out.now ≤ furthest → Writes (linked day n part) w w

@@ -126,6 +126,7 @@ fn put_mt205(w: &mut Writer, r: Reference, p: Position, v: u64)
 }
 
 // The posting line of a correction: a refund to the bank, or a collection from it.
+#[tactic(auto, unfolding(rules::specs::Written::correction_posting, rules::specs::Written::is_refunded))]
 pub fn put_correction_posting(w: &mut Writer, day: u32, temporary: &[u8], p: Position)
     ensures { Writes (correction_posting day temporary.now (position_value p)) w.old w.new }
 {
@@ -137,6 +138,7 @@ pub fn put_correction_posting(w: &mut Writer, day: u32, temporary: &[u8], p: Pos
 }
 
 // The message of a correction, by its number: an MT205 refunds, an MT204 collects.
+#[tactic(auto, unfolding(rules::specs::Written::correction, rules::specs::Written::is_refunded))]
 pub fn put_correction(w: &mut Writer, r: Reference, temporary: &[u8], p: Position)
     ensures { Writes (correction r.day temporary.now r.number (position_value p)) w.old w.new }
 {

@@ -5,12 +5,3 @@ use Rattle.verdict.proofs.by_code.Goals as goal
 
 pub returns-in-Some : goal.returns-in-Some
 returns-in-Some c = search (judging, rules)
-
-pub returns-in-None : goal.returns-in-None
-returns-in-None c = search (judging, rules)
-
-pub returns-in-Credited : goal.returns-in-Credited
-returns-in-Credited c = search (judging, rules)
-
-pub returns-in-CreditedByCode : goal.returns-in-CreditedByCode
-returns-in-CreditedByCode c = search (judging, rules)

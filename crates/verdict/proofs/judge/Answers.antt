@@ -4,17 +4,8 @@ use Rattle.std.proofs.Common.{sym, ◌∙◌, arith, length-take}
 use borrow.Author.Rules.{rules}
 use Rattle.verdict.proofs.judge.Goals as goal
 
-pub returns-then-not-is_shaped : goal.returns-then-not-is_shaped
-returns-then-not-is_shaped c = search (judging, rules)
-
 pub slice_bounds-iban-end : goal.slice_bounds-iban-end
 slice_bounds-iban-end c = let l = shaped_iban _ (sym c.is_shaped.ensures ∙ c.if-not-is_shaped.false) in omega (arith, length-take 22 c.args.part.now)
-
-pub iban_control-requires : goal.iban_control-requires
-iban_control-requires c = search (judging, rules)
-
-pub returns-then-not-iban_control : goal.returns-then-not-iban_control
-returns-then-not-iban_control c = search (judging, rules)
 
 pub find_account-requires : goal.find_account-requires
 find_account-requires c = let l = shaped_iban _ (sym c.is_shaped.ensures ∙ c.if-not-is_shaped.false) in omega (arith, length-take 22 c.args.part.now)
@@ -27,6 +18,3 @@ returns-then-is_in_bounds c = search (judging, rules)
 
 pub returns-else-is_in_bounds : goal.returns-else-is_in_bounds
 returns-else-is_in_bounds c = search (judging, rules)
-
-pub returns-in-None : goal.returns-in-None
-returns-in-None c = search (judging, rules)

@@ -15,18 +15,3 @@ with_sign-tail-requires-clause-sign c = search (controls, rules)
 
 pub loop-c-preserved : goal.loop-c-preserved
 loop-c-preserved c = search (controls, rules)
-
-pub overflow_sub-digits : goal.overflow_sub-digits
-overflow_sub-digits c = search (controls, rules)
-
-pub overflow_sub-digits-2 : goal.overflow_sub-digits-2
-overflow_sub-digits-2 c = search (controls, rules)
-
-pub returns-then-tail-digits-ne1 : goal.returns-then-tail-digits-ne1
-returns-then-tail-digits-ne1 c = search (controls, rules)
-
-pub returns-then-digits-lt2 : goal.returns-then-digits-lt2
-returns-then-digits-lt2 c = search (controls, rules)
-
-pub returns : goal.returns
-returns c = search (controls, rules)

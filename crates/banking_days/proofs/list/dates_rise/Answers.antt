@@ -1,28 +1,21 @@
-use native.Mathlib.Nat.{le_of_lt}
 use borrow.Author.Rules.{rules}
-use Rattle.banking_days.specs.Rising.{rise_early, rises}
+use Rattle.banking_days.specs.Rising.{rises, rise_short, rise_unread, rise_early, rise_last, rise_bad}
 use Rattle.banking_days.proofs.list.dates_rise.Goals as goal
 
-pub loop-at-init : goal.loop-at-init
-loop-at-init c = search (rises, rules)
-
-pub returns-then-n-at-lt6 : goal.returns-then-n-at-lt6
-returns-then-n-at-lt6 c = search (rises, rules)
+pub returns-in_default-read_date : goal.returns-in_default-read_date
+returns-in_default-read_date c = rise_unread _ _ _ c.loop-six.invariant _ _ c.in-Some.ensures.cases _ c.read_date.ensures c.in_default-read_date.is
 
 pub returns-then-date-last : goal.returns-then-date-last
-returns-then-date-last c = search (rise_early, le_of_lt, rules)
+returns-then-date-last c = rise_early _ _ _ c.loop-six.invariant _ _ c.in-Some.ensures.cases _ c.read_date.ensures _ c.in-Some-read_date.is c.if-date-last.true
 
-pub returns-then-n-at-eq6 : goal.returns-then-n-at-eq6
-returns-then-n-at-eq6 c = search (rises, rules)
+pub returns-in-empty : goal.returns-in-empty
+returns-in-empty c = rise_last _ _ _ c.loop-six.invariant _ _ c.in-Some.ensures.cases _ c.read_date.ensures _ c.in-Some-read_date.is c.if-date-last.false c.in-empty.len_below
 
-pub returns-then-list-at-ne44 : goal.returns-then-list-at-ne44
-returns-then-list-at-ne44 c = search (rises, rules)
+pub returns-in_default-behind : goal.returns-in_default-behind
+returns-in_default-behind c = rise_bad _ _ _ c.loop-six.invariant _ _ c.in-Some.ensures.cases _ c.read_date.ensures _ c.in-Some-read_date.is c.if-date-last.false c.in_default-behind.len_at_least (search rules)
 
-pub loop-at-preserved : goal.loop-at-preserved
-loop-at-preserved c = search (rises, rules)
+pub loop-six-preserved : goal.loop-six-preserved
+loop-six-preserved c = search (rises, rules)
 
 pub returns : goal.returns
-returns c = search (rises, rules)
-
-pub returns-in_default : goal.returns-in_default
-returns-in_default c = search (rises, rules)
+returns c = rise_short _ _ _ c.loop-six.invariant c.in_default.ensures.cases

@@ -3,11 +3,5 @@ use Rattle.banking_days.specs.Rising.{rises}
 use borrow.Author.Rules.{rules}
 use Rattle.banking_days.proofs.list.list_passes.Goals as goal
 
-pub returns-then-list-eq0 : goal.returns-then-list-eq0
-returns-then-list-eq0 c = search (rises, rules)
-
 pub returns-then-list-gt-LONGEST : goal.returns-then-list-gt-LONGEST
 returns-then-list-gt-LONGEST c = search (rises, rules)
-
-pub returns : goal.returns
-returns c = search (rises, rules)

@@ -1,14 +1,16 @@
 -- The message's own parts are what is booked.
-use Rattle.laws.specs.Slices.{part_cut}
-use Rattle.state_conditions.specs.Stops.{field_text}
+use Rattle.state_conditions.specs.Stops.{field_short, field_text}
 use Rattle.card.specs.Message.{booking_of_lem, booked_done}
 use Rattle.card.proofs.message.book_in.Goals as goal
 
 pub new-reference-requires-clause-is_text : goal.new-reference-requires-clause-is_text
-new-reference-requires-clause-is_text c = field_text _ _ c.requires.books (part_cut _ _ _ c.requires.books.order)
+new-reference-requires-clause-is_text c = field_text _ _ c.requires.books c.of-field.ensures
+
+pub new-reference-requires-clause-short : goal.new-reference-requires-clause-short
+new-reference-requires-clause-short c = field_short _ _ c.requires.books c.of-field.ensures
 
 pub book_area-requires-clause-can_book : goal.book_area-requires-clause-can_book
 book_area-requires-clause-can_book c = booking_of_lem _ _ c.requires.area_value _ c.requires.books c.added_by.ensures c.requires.value
 
 pub returns : goal.returns
-returns c = booked_done _ _ c.requires.area_value _ c.requires.books c.added_by.ensures c.requires.count_value (rw (c.new-reference.ensures.bank, c.new-reference.ensures.text) at c.book_area.ensures)
+returns c = booked_done _ _ c.requires.area_value _ c.requires.books c.added_by.ensures c.requires.count_value c.of-field.ensures (rw (c.new-reference.ensures.bank, c.new-reference.ensures.text) at c.book_area.ensures)

@@ -7,10 +7,10 @@ pub returns-then-is_empty : goal.returns-then-is_empty
 returns-then-is_empty c = search (room_empty, room_long, rules)
 
 pub returns-in_err-room : goal.returns-in_err-room
-returns-in_err-room c = rw c.from_residual.ensures record { value = room_bad _ (search rules) c.if-part-gt7.false c.in_err-room.ensures; within = tt }
+returns-in_err-room c = rw c.from_residual.ensures (room_bad _ (search rules) c.if-part-gt7.false c.in_err-room.ensures)
 
 pub returns-then-room-gt1048576 : goal.returns-then-room-gt1048576
-returns-then-room-gt1048576 c = record { value = room_large _ (search rules) c.if-part-gt7.false c.in_ok-room.ensures c.if-room-gt1048576.true; within = tt }
+returns-then-room-gt1048576 c = room_large _ (search rules) c.if-part-gt7.false c.in_ok-room.ensures c.if-room-gt1048576.true
 
 pub returns : goal.returns
-returns c = record { value = room_read _ (search rules) c.if-part-gt7.false c.in_ok-room.ensures c.if-room-gt1048576.false; within = c.if-room-gt1048576.false }
+returns c = room_read _ (search rules) c.if-part-gt7.false c.in_ok-room.ensures c.if-room-gt1048576.false

@@ -1,9 +1,9 @@
 -- From command to command; behind the last nothing is left.
 use borrow.Author.Rules.{rules}
 use Rattle.put.specs.Writes.{wrote_at}
-use Rattle.std.proofs.Common.{arith, sym}
+use Rattle.std.proofs.Common.{sym}
 use Rattle.commands.specs.Pieces.{command_behind}
-use Rattle.day.specs.Replaying.{replay_starts, replay_goes, replay_ends}
+use Rattle.day.specs.Replaying.{replay_goes, replay_ends}
 use Rattle.day.proofs.replay.replay_day.Goals as goal
 
 pub loop-command-smaller : goal.loop-command-smaller

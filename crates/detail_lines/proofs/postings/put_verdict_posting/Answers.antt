@@ -3,12 +3,6 @@ use Rattle.detail_lines.specs.Postings.{crediting}
 use borrow.Author.Rules.{rules}
 use Rattle.detail_lines.proofs.postings.put_verdict_posting.Goals as goal
 
-pub put_credit-requires : goal.put_credit-requires
-put_credit-requires c = search (crediting, rules)
-
-pub put_credit-requires-in-CreditedByCode : goal.put_credit-requires-in-CreditedByCode
-put_credit-requires-in-CreditedByCode c = search (crediting, rules)
-
 pub returns-in-Credited : goal.returns-in-Credited
 returns-in-Credited c = search (crediting, rules)
 

@@ -1,13 +1,7 @@
+-- Each answer is that of the test.
 use borrow.Author.Rules.{rules}
-use Rattle.engine.specs.Records.{placing}
-use Rattle.position.proofs.Keys.{comparing}
+use Rattle.engine.specs.Records.{place_told}
 use Rattle.engine.proofs.places.place_of.Goals as goal
 
-pub loop-i-preserved : goal.loop-i-preserved
-loop-i-preserved c = search (placing, comparing, rules)
-
-pub returns-then-ge : goal.returns-then-ge
-returns-then-ge c = search (placing, comparing, rules)
-
 pub returns : goal.returns
-returns c = search (placing, comparing, rules)
+returns c = place_told _ _ _ c.requires (λ i q h p. search rules) c.place_by.ensures

@@ -1,12 +1,7 @@
+-- Each answer is that of the test.
 use borrow.Author.Rules.{rules}
-use Rattle.engine_change.specs.Sets.{filing}
+use Rattle.engine_change.specs.Filing.{place_filed}
 use Rattle.engine_change.proofs.filing.reference_place.Goals as goal
 
-pub loop-i-preserved : goal.loop-i-preserved
-loop-i-preserved c = search (filing, rules)
-
-pub returns-then-not-is_before : goal.returns-then-not-is_before
-returns-then-not-is_before c = search (filing, rules)
-
 pub returns : goal.returns
-returns c = search (filing, rules)
+returns c = place_filed _ _ c.requires _ (λ i q h p. search rules) c.place_by.ensures

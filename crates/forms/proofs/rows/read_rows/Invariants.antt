@@ -4,4 +4,4 @@ use Rattle.forms.specs.Rows.{Rowing}
 use Rattle.forms.proofs.rows.read_rows.Given as goal
 
 abbrev pub invariant-loop-i : goal.invariant-loop-i
-invariant-loop-i l = record { rowing : Rowing l.fn.reader.text.now l.fn.reader.at l.first l.count l.spans l.reader.at l.i; text : l.reader.text ≡ l.fn.reader.text }
+invariant-loop-i g l = record { rowing : Rowing l.fn.reader.text.now l.fn.reader.at l.first g.row.N l.spans l.reader.at l.i; text : l.reader.text ≡ l.fn.reader.text }

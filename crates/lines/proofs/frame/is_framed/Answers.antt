@@ -3,14 +3,5 @@ use Rattle.std.proofs.Common.{rules}
 use Rattle.lines.specs.Laws.{framing}
 use Rattle.lines.proofs.frame.is_framed.Goals as goal
 
-pub returns-then-s-gt4096 : goal.returns-then-s-gt4096
-returns-then-s-gt4096 c = search (framing, rules)
-
-pub returns-then-not-ends_closed : goal.returns-then-not-ends_closed
-returns-then-not-ends_closed c = search (framing, rules)
-
 pub returns-then-in_lines : goal.returns-then-in_lines
 returns-then-in_lines c = search (framing, rules)
-
-pub returns-else-in_lines : goal.returns-else-in_lines
-returns-else-in_lines c = search (framing, rules)

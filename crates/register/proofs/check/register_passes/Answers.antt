@@ -3,12 +3,6 @@ use Rattle.register.specs.Sets.{checking}
 use borrow.Author.Rules.{rules}
 use Rattle.register.proofs.check.register_passes.Goals as goal
 
-pub returns-then-not-first_line_passes : goal.returns-then-not-first_line_passes
-returns-then-not-first_line_passes c = search (checking, rules)
-
-pub lines_from-n-requires : goal.lines_from-n-requires
-lines_from-n-requires c = search (checking, rules)
-
 pub returns-then-not-equal : goal.returns-then-not-equal
 returns-then-not-equal c = search (checking, rules)
 

@@ -2,11 +2,5 @@ use Rattle.std.proofs.Common.{rules}
 use Rattle.text.specs.Placing.{placing}
 use Rattle.text.proofs.numbers.big_endian.Goals as goal
 
-pub loop-c-init : goal.loop-c-init
-loop-c-init c = search (placing, rules)
-
 pub loop-c-preserved : goal.loop-c-preserved
 loop-c-preserved c = search (placing, rules)
-
-pub returns-clause-value : goal.returns-clause-value
-returns-clause-value c = search (placing, rules)

@@ -6,11 +6,5 @@ use Rattle.register.proofs.search.Register.account_count.Goals as goal
 pub overflow_cast-end : goal.overflow_cast-end
 overflow_cast-end c = let k = register_length _ c.args.self.passes in search rules
 
-pub loop-end-init : goal.loop-end-init
-loop-end-init c = search (seeking, rules)
-
-pub loop-end-preserved : goal.loop-end-preserved
-loop-end-preserved c = search (seeking, rules)
-
 pub returns-else-self-end-eq44 : goal.returns-else-self-end-eq44
 returns-else-self-end-eq44 c = search (seeking, rules)

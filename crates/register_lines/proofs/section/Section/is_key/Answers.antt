@@ -10,6 +10,3 @@ returns-then-self-i g c = let f = g.met.F.LineForm.form in search (marking, rule
 
 pub equal_backward-requires : goal.equal_backward-requires
 equal_backward-requires g c = c.requires.size ∙ sym (ap length c.key.ensures ∙ line_size _ _ _ g.met.F.LineForm.form _ _ _ _ c.args.self.now.marked c.args.i c.requires.listed)
-
-pub returns : goal.returns
-returns g c = rw c.key.ensures at c.equal_backward.ensures
