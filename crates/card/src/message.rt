@@ -1,4 +1,4 @@
-// A message. That the area holds an engine is a clause over its bytes before, since the calls change them (see `engine_change`).
+// A message. That the area holds an engine is a clause over its bytes before, since the calls change them (see `engine_change`). Area and output stand apart, since the line card lends two areas.
 ghost use Rattle.std.specs.Prelude.{◌≡◌, true, ◌+◌, ◌≤◌, length};
 ghost use Rattle.std.proofs.Math.Option.{some};
 ghost use Rattle.rules.specs.Text.{is_some};

@@ -10,7 +10,7 @@ ghost use Rattle.refusal.specs.Numbers.{stop_of};
 use crate::answer::{Accepted, answer};
 use refusal::Refusal;
 
-// 9, 18 or 17, the first that holds: of the register, of the holiday list, and of the day.
+// 9, 18 or 17, the first that holds: of the register, of the holiday list, and of the day. (What is true is found out before, so that their order stands in one plain function.)
 #[tactic(auto, using(crate::specs::Opening::opening))]
 fn opening_stop(registered: bool, listed: bool, banking: bool) -> Result<(), Refusal>
     ensures { stop_of result ≡ first_of (text_stops registered listed banking) }

@@ -1,4 +1,4 @@
-// The turn.
+// The turn. That the area holds an engine is a clause over its bytes before, as in a message.
 ghost use Rattle.std.specs.Prelude.{◌≡◌, true, ◌≤◌, length};
 ghost use Rattle.rules.specs.Text.{is_some};
 ghost use Rattle.rules.specs.Calls.{first_of, turn_text};
@@ -41,7 +41,7 @@ fn turn_size(day: u32, engine: Engine) -> usize
     w.at
 }
 
-// 11 or 17, the first that holds: of a day that is no later, and of one that is no banking day.
+// 11 or 17, the first that holds: of a day that is no later, and of one that is no banking day. (As `opening_stop`.)
 #[tactic(auto, using(crate::specs::Turn::stopping))]
 fn later_stop(early: bool, banking: bool) -> Result<(), Refusal>
     ensures { stop_of result ≡ first_of (later_stops early banking) }

@@ -11,7 +11,7 @@ use position::Key;
 pub enum Kind {
     // An MT103.
     Transfer,
-    // An MT101, with how many details it has.
+    // An MT101, with how many details it has: all of them, of which 16 are kept, so that it is no length of those before 4 is tested.
     Order(u8),
 }
 

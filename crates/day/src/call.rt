@@ -1,4 +1,4 @@
-// A command carried out by the card.
+// A command carried out by the card. An area is bytes here, 6,144 at least, as the line card lends it.
 ghost use Rattle.std.specs.Prelude.{◌≤◌, length};
 ghost use Rattle.rules.specs.Replay.{called};
 ghost use Rattle.rules.specs.Area.{holds, area_size};

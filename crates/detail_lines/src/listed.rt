@@ -6,7 +6,7 @@ use crate::rows::put_listed_rows;
 use put::Writer;
 use verdict::Judged;
 
-// The rows of the listed of the details of the message s, from detail `first` on, `most` of them at most. Answers the detail at which the walk goes on. The message and what is kept stand by themselves: `Details` would ask for more than the lines that are written.
+// The rows of the listed of the details of the message s, from detail `first` on, `most` of them at most. Answers the detail that is the first of those left, by its number: a slice that is handed on would be told anew whose details it holds. The message and what is kept stand by themselves: `Details` would ask for more than the lines that are written.
 #[tactic(auto, using(crate::specs::Listed::rows_full, crate::specs::Listed::rows_end))]
 pub fn put_listed(w: &mut Writer, s: &[u8], kept: &[Judged], first: usize, most: u32) -> usize
     requires lines_in { LinesIn s.now kept.now }

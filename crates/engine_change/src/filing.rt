@@ -12,7 +12,7 @@ use engine::layout::{FIRST_REFERENCE, RECORD, REFERENCES};
 use engine::{BankReference, filed_at, files_before, place_by};
 use put::Writer;
 
-// Does the reference of the record at a place precede a bank's?
+// Does the reference of the record at a place precede a bank's? (By the place, as the search for one hands them out.)
 #[tactic(auto, using(crate::specs::Filing::pair_precedes))]
 fn is_before(area: &[u8], at: usize, reference: BankReference) -> bool
     requires { at + record_size ≤ length area.now }

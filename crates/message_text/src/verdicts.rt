@@ -33,7 +33,7 @@ pub fn parts_of(listed: u32) -> u32
     ((listed as u16 + 13) / 14) as u32
 }
 
-// One of the parts, by the reference that was issued for it: the next 14 listed of the details, from detail i on. Answers the detail at which the walk goes on.
+// One of the parts, by the reference that was issued for it: the next 14 listed of the details, from detail i on. Answers the detail with which the next part begins. (By their numbers: of a slice that is handed on it would have to be told anew whose details it holds.)
 fn put_part(
     w: &mut Writer,
     i: usize,

@@ -13,7 +13,7 @@ use put::Writer;
 use refusal::Refusal;
 use register::Register;
 
-// 19 or 16, the first that holds: of code lines in the way, and of a text that does not fit.
+// 19 or 16, the first that holds: of code lines in the way, and of a text that does not fit. (What is true is found out before, so that their order stands in one plain function.)
 fn way_stop(coded: bool, fits: bool) -> Result<(), Refusal>
     ensures { stop_of result ≡ first_of (way_stops coded fits) }
 {
@@ -37,9 +37,7 @@ impl RegisterMove for Older {
 
     // 9, 19 or 16, the first that holds.
     fn stop(text: &[u8], room: usize) -> Result<(), Refusal> {
-        let Some(register) = Register::of(text) else {
-            return Err(Refusal::BadRegister);
-        };
+        let register = Register::of(text).ok_or(Refusal::BadRegister)?;
         way_stop(register.has_codes(), text.len() - 5 <= room)
     }
 

@@ -1,10 +1,7 @@
 -- The message's own parts are what is booked.
-use Rattle.state_conditions.specs.Stops.{field_short, field_text}
+use Rattle.state_conditions.specs.Stops.{field_short}
 use Rattle.card.specs.Message.{booking_of_lem, booked_done}
 use Rattle.card.proofs.message.book_in.Goals as goal
-
-pub new-reference-requires-clause-is_text : goal.new-reference-requires-clause-is_text
-new-reference-requires-clause-is_text c = field_text _ _ c.requires.books c.of-field.ensures
 
 pub new-reference-requires-clause-short : goal.new-reference-requires-clause-short
 new-reference-requires-clause-short c = field_short _ _ c.requires.books c.of-field.ensures

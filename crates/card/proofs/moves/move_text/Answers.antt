@@ -1,6 +1,6 @@
 use borrow.Author.Rules.{rules}
 use Rattle.put.specs.Writes.{wrote_at}
-use Rattle.std.proofs.Common.{refl, sym}
+use Rattle.std.proofs.Common.{refl}
 use Rattle.std.proofs.lemmas.Result.{err_from_is_err_and}
 use Rattle.card.specs.Accepted.{number_above}
 use Rattle.card.specs.Moves.{move_stopped, move_done}
@@ -10,9 +10,6 @@ pub returns-in_err-stop : goal.returns-in_err-stop
 returns-in_err-stop g c =
     let p = err_from_is_err_and c.from_residual.result c.from_residual.ensures.1 in
     rw (p.1, p.2) (move_stopped g.M.RegisterMove.stops g.M.RegisterMove.made _ _ _ (c.in_err-stop.ensures {u = tt}) (number_above _))
-
-pub put-requires : goal.put-requires
-put-requires g c = g.met.M.RegisterMove.way.long _ _ (sym (c.in_ok-stop.ensures {u = tt}))
 
 pub returns : goal.returns
 returns g c =
