@@ -15,9 +15,10 @@ fn read_file(rt: &(impl Files + AllocGlobal), name: &str, most: u64) -> Vec<u8> 
     bytes
 }
 
-// The room that a word is, 32,768 bytes where it is none.
-fn room_of(word: &str) -> Room {
-    commands::read_room(word.as_bytes()).unwrap_or(Room { bytes: 32768 })
+// The room that a word is, 32,768 bytes where there is none or it is none.
+fn room_of(word: Option<&str>) -> Room {
+    let asked = word.and_then(|w| commands::read_room(w.as_bytes()));
+    asked.unwrap_or(Room { bytes: 32768 })
 }
 
 // Replays the input with so many bytes of output; answers how many bytes were printed.
@@ -28,7 +29,12 @@ fn replay_with(input: &[u8], room: Room, printed: &mut [u8]) -> usize {
 }
 
 // Does the day of these words print what is expected? An input is cut behind 131,072 bytes, an expected output behind 65,536.
-fn agrees(rt: &(impl Files + AllocGlobal), input: &str, expected: &str, room: &str) -> bool {
+fn agrees(
+    rt: &(impl Files + AllocGlobal),
+    input: &str,
+    expected: &str,
+    room: Option<&str>,
+) -> bool {
     let mut printed: [u8; 65536] = day::room();
     let read = read_file(rt, input, 131072);
     let n = replay_with(&read, room_of(room), &mut printed);
@@ -41,7 +47,7 @@ fn tell(
     rt: &(impl Files + Print + AllocGlobal),
     input: &str,
     expected: &str,
-    room: &str,
+    room: Option<&str>,
 ) -> io::Result<()> {
     if agrees(rt, input, expected, room) {
         println!(rt; "{expected} agrees")
@@ -55,10 +61,10 @@ fn main(rt: HostRuntime) -> io::Result<()> {
     for day in words.chunks(3) {
         match day {
             [input, expected, room] => {
-                tell(&rt, input.as_str(), expected.as_str(), room.as_str())?;
+                tell(&rt, input.as_str(), expected.as_str(), Some(room.as_str()))?;
             }
-            [input, expected] => tell(&rt, input.as_str(), expected.as_str(), "")?,
-            [input] => tell(&rt, input.as_str(), "", "")?,
+            [input, expected] => tell(&rt, input.as_str(), expected.as_str(), None)?,
+            [input] => tell(&rt, input.as_str(), "", None)?,
             _ => {}
         }
     }

@@ -9,7 +9,7 @@ use register::Register;
 use std::io::{self, Read};
 use verdict::{Judged, NO_DETAIL};
 
-// A part of the message.
+// A part of the message. (`Span::of` asks that it lies within, which nothing says here.)
 fn say_part(rt: &impl Print, s: &[u8], p: Span) -> io::Result<()> {
     if let Some(part) = s.get(p.start as usize..p.end as usize) {
         rt.write_all(b" ")?;

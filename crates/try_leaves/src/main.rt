@@ -60,7 +60,7 @@ fn bic_says(s: &[u8]) -> &'static str {
     if account::is_bic(s) { "bic" } else { "none" }
 }
 
-// A text, by its kind.
+// A text, by its kind: the letter that stands in front of it in the input.
 fn try_text(rt: &impl Print, kind: u8, s: &[u8]) -> io::Result<()> {
     match kind {
         b'd' => try_date(rt, s),
