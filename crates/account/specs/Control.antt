@@ -2,7 +2,7 @@
 --
 use Rattle.std.specs.Prelude.{◌≡◌, Bool, false, ◌&&◌, ◌||◌, cond, List, [], ◌∷◌, ◌++◌, ℕ, suc, ◌+◌, ◌-◌, ◌*◌, ◌/◌, ◌%◌, ◌≤◌, ◌<◌, leb, eqb, get_or, take, drop}
 use Rattle.std.proofs.Math.Path.{refl}
-use Rattle.std.proofs.Common.{sym, ap, ◌∙◌, add-mul, mul_assoc, le-leb, eq-eqb, ne_eqb, take_all, take-suc, length-drop}
+use Rattle.std.proofs.Common.{take-take, length-take, sym, ap, ◌∙◌, add-mul, mul_assoc, le-leb, eq-eqb, ne_eqb, take_all, take-suc, length-drop}
 use Rattle.std.proofs.Math.Bool.{true}
 use Rattle.std.proofs.Math.Nat.{add-mul-mod_self_left, mod-mod}
 use native.Mathlib.Omega.{arith}
@@ -14,6 +14,7 @@ use Rattle.laws.specs.Tests.{between_low, between_high}
 use Rattle.laws.specs.Reading.{digit_low, digit_high}
 use Rattle.laws.specs.Every.{every_take, every_drop, every_within, every_first, every_head, every_at}
 use Rattle.laws.specs.Parts.{cut_all, cut, cut_join, cut_two}
+use Rattle.laws.specs.Slices.{part_cut}
 use Rattle.rule_laws.specs.Groups.{iban_length}
 use Rattle.rule_laws.specs.Signs.{iban_alnum}
 use Rattle.account.specs.Shape.{Shaped, shape_told}
@@ -194,6 +195,18 @@ module _ (c : ℕ) (h : is_alnum c ≡ true) where
         let same : (v * 3 + (c - 65 + 10)) % 97 ≡ (v * 100 + (c - 55)) % 97 = omega arith in
         record { same = rw (letter_not c letter) same; most = omega arith }
 
+-- two signs, one behind the other, and a remainder
+pub two_carried : (c d u v r t m : ℕ) → Carried u (c ∷ []) t v → Carried v (d ∷ []) m r → Carried u (c ∷ d ∷ []) 96 (r % 97)
+two_carried c d u v r t m p q = carried_fold u (c ∷ d ∷ []) m r (carried_on u v r t m (c ∷ []) (d ∷ []) p q)
+
+-- two digits behind a number
+pub digits_carried : (c d v : ℕ) → is_digit c ≡ true → is_digit d ≡ true → Carried v (c ∷ d ∷ []) (v * 3 + 99) (v * 3 + (c - 48) * 10 + (d - 48))
+unfolding numeral with_sign
+digits_carried c d v h k =
+    let l : c ≤ 57 = digit_high c h in
+    let m : d ≤ 57 = digit_high d k in
+    let same : (v * 3 + (c - 48) * 10 + (d - 48)) % 97 ≡ ((v * 10 + (c - 48)) * 10 + (d - 48)) % 97 = omega arith in record { same = rw (h, k) same; most = omega arith }
+
 -- ---- runs of them
 
 module _ (s : List ℕ) (i : ℕ) where
@@ -242,6 +255,48 @@ carrying_more cs k v r m h p q =
     let e : k + 1 ≡ suc k = omega arith in
     rw (e, take-suc cs k 0 h) (carried_fold 0 (take k cs ++ get_or cs k 0 ∷ []) m r (carried_on 0 v r 96 m (take k cs) (get_or cs k 0 ∷ []) p q))
 
+-- ---- an IBAN's bank, branch and account
+
+module _ (s : List ℕ) (h : iban_shape s ≡ true) where
+  whole : length s ≡ 22
+  whole = iban_length s h
+
+  -- what is behind the first four is letters or digits, and the branch digits
+  pub sign_at : (k : ℕ) → k < 22 → is_alnum (get_or s k 0) ≡ true
+  sign_at k l = every_get is_alnum s (iban_alnum s h) k (omega (arith, whole))
+
+  pub branch_at : (k : ℕ) → 8 ≤ k → k < 14 → is_digit (get_or s k 0) ≡ true
+  branch_at k l m =
+      let run : every is_digit (cut s 8 14) ≡ true = rw (← part_cut s 8 14 (omega arith)) (shape_told s h).branch in
+      every_first is_digit s k 14 (every_within is_digit s 8 14 k 14 run (omega arith) (omega arith) (omega arith)) m (omega (arith, whole))
+
+  -- two signs there
+  pub at_two : (k u r t : ℕ) → k + 2 ≤ 22 → Carried u (get_or s k 0 ∷ get_or s (k + 1) 0 ∷ []) t r → Carried u (cut s k (k + 2)) t r
+  at_two k u r t l p = rw (cut_two s k (omega (arith, whole))) p
+
+  -- bank, branch and account, two signs by two
+  pub bank_carried : (v r : ℕ) → Carried 0 (get_or s 4 0 ∷ get_or s 5 0 ∷ []) 96 v → Carried v (get_or s 6 0 ∷ get_or s 7 0 ∷ []) 96 r → Carried 0 (cut s 4 8) 96 r
+  bank_carried v r p q = carried_cut s 4 2 8 0 v r 96 96 (omega arith) (at_two 4 0 v 96 (omega arith) p) (at_two 6 v r 96 (omega arith) q)
+
+  pub branch_carried : (u v w r t m n : ℕ) → Carried u (get_or s 8 0 ∷ get_or s 9 0 ∷ []) t v → Carried v (get_or s 10 0 ∷ get_or s 11 0 ∷ []) m w → Carried w (get_or s 12 0 ∷ get_or s 13 0 ∷ []) n r
+      → Carried u (cut s 8 14) 96 (r % 97)
+  branch_carried u v w r t m n p q x =
+      carried_fold u (cut s 8 14) n r (carried_cut s 8 4 14 u w r m n (omega arith) (carried_cut s 8 2 12 u v w t m (omega arith) (at_two 8 u v t (omega arith) p) (at_two 10 v w m (omega arith) q)) (at_two 12 w r n (omega arith) x))
+
+  pub account_carried : (u v w x r : ℕ) → Carried u (get_or s 14 0 ∷ get_or s 15 0 ∷ []) 96 v → Carried v (get_or s 16 0 ∷ get_or s 17 0 ∷ []) 96 w → Carried w (get_or s 18 0 ∷ get_or s 19 0 ∷ []) 96 x
+      → Carried x (get_or s 20 0 ∷ get_or s 21 0 ∷ []) 96 r → Carried u (cut s 14 22) 96 r
+  account_carried u v w x r p q y z =
+      let front : Carried u (cut s 14 18) 96 w = carried_cut s 14 2 18 u v w 96 96 (omega arith) (at_two 14 u v 96 (omega arith) p) (at_two 16 v w 96 (omega arith) q) in
+      carried_cut s 14 6 22 u x r 96 96 (omega arith) (carried_cut s 14 4 20 u w x 96 96 (omega arith) front (at_two 18 w x 96 (omega arith) y)) (at_two 20 x r 96 (omega arith) z)
+
+  -- all that is behind the first four
+  pub tail_carried : (v w r : ℕ) → Carried 0 (cut s 4 8) 96 v → Carried v (cut s 8 14) 96 w → Carried w (cut s 14 22) 96 r → Carried 0 (take 18 (take 18 (drop 4 s))) 96 r
+  tail_carried v w r p q x =
+      rw (take-take 18 18 (drop 4 s) (omega arith), part_cut s 4 22 (omega arith)) (carried_cut s 4 10 22 0 w r 96 96 (omega arith) (carried_cut s 4 4 14 0 v w 96 96 (omega arith) p q) x)
+
+  pub tail_size : length (take 18 (drop 4 s)) ≤ 18
+  tail_size = omega (arith, length-take 18 (drop 4 s), length-drop 4 s, whole)
+
 -- ---- the control
 
 -- the control digits
@@ -260,7 +315,7 @@ module _ (s : List ℕ) (h : iban_shape s ≡ true) where
   fourth_digit = digit_low _ (shape_told s h).fourth
 
   -- f carries all of them
-  module _ (f n : ℕ) (p : Carried 0 (take n (take 18 (drop 4 s))) 96 f) (m : length (take 18 (drop 4 s)) ≤ n) where
+  module _ {t : ℕ} (f n : ℕ) (p : Carried 0 (take n (take 18 (drop 4 s))) t f) (m : length (take 18 (drop 4 s)) ≤ n) where
     all : take n (take 18 (drop 4 s)) ≡ drop 4 s
     all = let l : length (drop 4 s) ≡ 18 = omega (arith, length-drop 4 s, iban_length s h) in take_all n (take 18 (drop 4 s)) m ∙ take_all 18 (drop 4 s) (omega arith)
 
@@ -282,6 +337,20 @@ module _ (s : List ℕ) (h : iban_shape s ≡ true) where
       pub control_high : 2 ≤ control_digits s → leb (control_digits s) 98 ≡ control s
       control_high l = rw (parts, eq-eqb _ 1 e, le-leb 2 (control_digits s) l)
 
+-- by bank, branch and account
+module _ (s : List ℕ) (h : iban_shape s ≡ true) (v w f : ℕ) (p : Carried 0 (cut s 4 8) 96 v) (q : Carried v (cut s 8 14) 96 w) (x : Carried w (cut s 14 22) 96 f) where
+  behind_four : Carried 0 (take 18 (take 18 (drop 4 s))) 96 f
+  behind_four = tail_carried s h v w f p q x
+
+  pub parts_not : ((f * 27 + 147 + control_digits s) % 97 ≡ 1 → ⊥) → false ≡ control s
+  parts_not e = control_not s h f 18 behind_four (tail_size s h) e
+
+  pub parts_low : (f * 27 + 147 + control_digits s) % 97 ≡ 1 → control_digits s < 2 → false ≡ control s
+  parts_low e l = control_low s h f 18 behind_four (tail_size s h) e l
+
+  pub parts_high : (f * 27 + 147 + control_digits s) % 97 ≡ 1 → 2 ≤ control_digits s → leb (control_digits s) 98 ≡ control s
+  parts_high e l = control_high s h f 18 behind_four (tail_size s h) e l
+
 -- ---- shape, then control
 
 module _ (cs : List ℕ) (t : Bool) (u : t ≡ iban_shape cs) where
@@ -293,4 +362,4 @@ module _ (cs : List ℕ) (t : Bool) (u : t ≡ iban_shape cs) where
   unfolding passes
   passes_not d = rw (← u, d)
 
-pub ruleset controls = (digit_least, digit_carried, letter_least, letter_carried, carrying_start, carrying_more, tail_sign, third_digit, fourth_digit, control_not, control_low, control_high)
+pub ruleset controls = (two_carried, digits_carried, digit_low, sign_at, branch_at, bank_carried, branch_carried, account_carried, digit_least, digit_carried, letter_least, letter_carried, third_digit, fourth_digit, parts_not, parts_low, parts_high)

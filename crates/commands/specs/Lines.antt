@@ -12,7 +12,6 @@ use native.Mathlib.Omega.{arith}
 use Rattle.std.proofs.Math.Seq.{drop-drop}
 use borrow.Author.Tests.{le-leb, lt-leb, eq-eqb, ne_eqb}
 use Rattle.rules.specs.Text.{ascii, equal, then, added_up}
-use Rattle.rules.specs.Lines.{take_line}
 use Rattle.rules.specs.Replay as R
 use Rattle.rules.specs.Replay.{Commanded, length_of, parted_lengths, six_digits, turns, texts_in, with_texts, texts_behind, single, opening, command_of, command}
 use Rattle.laws.specs.Parts.{cut, from, from_all, cut_step, cut_length}
@@ -115,9 +114,12 @@ no_comma [] h = refl
 no_comma (x ∷ l) h = absurd (omega arith)
 
 module _ (parts others : List ℕ) where
-  pub open_short : length parts < 6 → none ≡ opening_behind parts others
+  pub open_short : length parts < 7 → none ≡ opening_behind parts others
   unfolding opening_behind
   open_short h = rw (no_comma (drop 6 parts) (omega (arith, length-drop 6 parts))) refl
+
+  pub open_dayless : length parts < 6 → none ≡ opening_behind parts others
+  open_dayless h = open_short (omega arith)
 
   module _ {day behind : List ℕ} (p : IsSplitAt parts 6 day behind) where
     pub open_other : pointwise nat_eq (take 1 behind) (44 ∷ []) ≡ false → none ≡ opening_behind parts others
@@ -144,14 +146,16 @@ module _ (parts others : List ℕ) where
         open_no_lengths y = sym (day_is ∙ rw (← y) refl)
 
         module _ {i j : ℕ} (y : some (i ∷ j ∷ []) ≡ parted_lengths 2 sizes) where
-          pub open_cut : length others < i → none ≡ opening_behind parts others
+          pub open_cut : length others < i + j → none ≡ opening_behind parts others
           unfolding added_up
           open_cut l = sym (day_is ∙ rw (← y) (texts_short (opening d) (i ∷ j ∷ []) others (omega arith)))
 
+          pub open_cut_before : length others < i → none ≡ opening_behind parts others
+          open_cut_before l = open_cut (omega arith)
+
           module _ {register rest : List ℕ} (r : IsSplitAt others i register rest) where
             pub open_cut_behind : length rest < j → none ≡ opening_behind parts others
-            unfolding added_up
-            open_cut_behind l = sym (day_is ∙ rw (← y) (texts_short (opening d) (i ∷ j ∷ []) others (omega (arith, r.4))))
+            open_cut_behind l = open_cut (omega (arith, r.4))
 
             pub open_whole : {holidays last : List ℕ} → IsSplitAt rest j holidays last → some record { command = R.opens d register holidays; others = last } ≡ opening_behind parts others
             unfolding added_up texts_in opening
@@ -191,18 +195,28 @@ module _ (line others : List ℕ) where
 
 -- ---- by its line
 
-module _ (s : List ℕ) (l : Option ℕ) (h : LineAt s 0 l) where
+-- wherever it begins
+module _ (s : List ℕ) (at : ℕ) (l : Option ℕ) (h : LineAt s at l) where
   pub line_room : (e : ℕ) → l ≡ Some e → e + 2 ≤ length s
-  line_room e k = (line_told s 0 l h e k).room
+  line_room e k = (line_told s at l h e k).room
 
-  pub command_line : (e : ℕ) → l ≡ Some e → {x : M.Option Commanded} → x ≡ command_of (take e s) (drop (e + 2) s) → x ≡ command s
-  unfolding command cut from
-  command_line e k c = c ∙ let y : take_line s ≡ some record { line = take e s; others = drop (e + 2) s } = rw from_all at (line_told s 0 l h e k).same in sym (rw y refl)
-
-  pub command_none : l ≡ None → none ≡ command s
+  pub command_line : (e : ℕ) → l ≡ Some e → {x : M.Option Commanded} → x ≡ command_of (cut s at e) (from s (e + 2)) → x ≡ command (from s at)
   unfolding command
-  command_none k = let y : take_line s ≡ none = rw from_all at (no_line_told s 0 l h k).same in sym (rw y refl)
+  command_line e k c = rw (line_told s at l h e k).same c
+
+  pub command_none : l ≡ None → none ≡ command (from s at)
+  unfolding command
+  command_none k = rw (no_line_told s at l h k).same refl
+
+-- that of an input
+module _ (s : List ℕ) (l : Option ℕ) (h : LineAt s 0 l) where
+  pub input_line : (e : ℕ) → l ≡ Some e → {x : M.Option Commanded} → x ≡ command_of (take e s) (drop (e + 2) s) → x ≡ command s
+  unfolding cut from
+  input_line e k c = rw from_all at (command_line s 0 l h e k c)
+
+  pub input_none : l ≡ None → none ≡ command s
+  input_none k = rw from_all at (command_none s 0 l h k)
 
 pub ruleset by_kind = (letter_room, by_text, by_turn, by_open, by_none, rest_whole)
 
-pub ruleset commanding = (text_none, text_whole, turn_none, turn_day, six_small, open_short, open_other, open_no_day, open_no_lengths, open_cut, command_line, command_none, rest_whole)
+pub ruleset commanding = (text_none, text_whole, turn_none, turn_day, six_small, open_dayless, open_other, open_no_day, open_no_lengths, open_cut_before, input_line, input_none, rest_whole)

@@ -62,6 +62,9 @@ module _ (part : List ℕ) where
 
 -- n is read, the part from k on is left, and x is what the whole is
 module _ (part : List ℕ) (k n : ℕ) (x : M.Option ℕ) (inv : limited n (from part k) ≡ x) where
+  pub length_large : 8192 < n → none ≡ x
+  length_large h = limited_large n (from part k) h ∙ inv
+
   module _ (h : k < length part) where
     pub length_bad : is_digit (get_or part k 0) ≡ false → none ≡ x
     unfolding limited digits_from
@@ -72,8 +75,8 @@ module _ (part : List ℕ) (k n : ℕ) (x : M.Option ℕ) (inv : limited n (from
       unfolding limited digits_from
       length_more = rw (from_step part k h, d) at inv
 
-      pub length_large : 8192 < n * 10 + (get_or part k 0 - 48) → none ≡ x
-      length_large l = limited_large (n * 10 + (get_or part k 0 - 48)) (from part (k + 1)) l ∙ length_more
+      pub length_larger : 8192 < n * 10 + (get_or part k 0 - 48) → none ≡ x
+      length_larger l = limited_large (n * 10 + (get_or part k 0 - 48)) (from part (k + 1)) l ∙ length_more
 
   pub length_end : length part ≤ k → n ≤ 8192 → some n ≡ x
   unfolding limited digits_from
@@ -346,6 +349,6 @@ pub length_room : (v : ℕ) → v ≤ 8192 → v < power 10 17
 unfolding power
 length_room v h = lt_of_le_of_lt h (lit< tt)
 
-pub ruleset numbers = (holds_told, digit_low, length_empty, length_starts, length_large, length_more, length_bad, length_end, six_other, six_read)
+pub ruleset numbers = (holds_told, digit_low, length_empty, length_starts, length_larger, length_more, length_bad, length_end, six_other, six_read)
 
 pub ruleset both_lengths = (lengths_one, lengths_bad, lengths_second_bad, lengths_two, rest_whole)

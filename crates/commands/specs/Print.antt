@@ -85,6 +85,9 @@ module _ (z : ℤ) (f : SFits w64 z) (h : lt_z (to_z w64 (of_z w64 z)) (pos 0) �
 
 -- as it is written
 module _ (z : ℤ) (f : SFits w64 z) {w₀ w₁ : Writer} where
+  pub print_sized : {r : ℕ} → Below (to_z w64 (of_z w64 z)) r → {between : Writer} → Writes (ascii "-") w₀ between → Writes (decimal r) between w₁ → Writes (signed z) w₀ w₁
+  print_sized b v w = rw (← to_z-of_z f, ← b.printed) (writes_then v w)
+
   pub print_below : lt_z (to_z w64 (of_z w64 z)) (pos 0) ≡ true → {between : Writer} → Writes (ascii "-") w₀ between → Writes (decimal (unsigned_abs (to_z w64 (of_z w64 z)))) between w₁ → Writes (signed z) w₀ w₁
   print_below h v w = rw (← below z (rw (to_z-of_z f) at h)) (writes_then v (rw (to_z-of_z f) at w))
 

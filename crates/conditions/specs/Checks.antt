@@ -28,7 +28,7 @@ use Rattle.register.specs.Passed.{text_first, temporary_at_lem}
 use Rattle.verdict.specs.Details.{JudgingRoom}
 use Rattle.verdict.specs.declared.detail.Judged.{Judged}
 use Rattle.field_conditions.specs.Stops.{transfer_stop, transfer_stops, low_of}
-use Rattle.conditions.specs.Walk.{named, NamedFirst, named_first, alike, named_twice}
+use Rattle.conditions.specs.Walk.{named, NamedFirst, named_first, alike, judged_twice}
 use Rattle.conditions.specs.Lowest.{lowest_any}
 use Rattle.conditions.specs.Tally.{TallyTold, DetailsTallied, TallyAt}
 use Rattle.conditions.specs.Order.{order_stop, order_stops, order_many, order_few}
@@ -155,7 +155,7 @@ module _ (s text : List ℕ) (l : List Span) (next : ℕ) (w : RowsAt s 23 0 1 l
         order_number =
             u
             ∙ all_stops (temporary_in text) (sender s) (lines_at s l 1) all.all t.count (low_of t.low) (slashed (past ":20:" (span_of s (get_or l message20 no_span)))) (twice equal (map (named s) (take t.count kept))) its.count its.low (rw (span_line s l 1 message20 (omega arith)))
-            (λ l. ap (λ (n : ℕ). twice equal (map (named s) (take n kept))) its.count ∙ named_twice text s all.all kept its.room.size its.judged l)
+            (λ l. ap (λ (n : ℕ). twice equal (map (named s) (take n kept))) its.count ∙ judged_twice text s all.all kept its.room.size its.judged l)
             ∙ ap (λ (o : Option Message). first_of (form_stops (temporary_in text) o)) (sym is_order)
 
         pub order_stopped : (r : Refusal) → number_of r ≡ c → CheckedBy s text (read_order s) (Err r) kept

@@ -15,8 +15,8 @@ use Rattle.rule_laws.specs.Options.{Mapped, mapped}
 use Rattle.forms.specs.Spans.{within_at, within_order}
 use Rattle.forms.specs.Details.{detail_in, DetailUpTo, DetailAt, detail_there, detail_long}
 use Rattle.forms.specs.declared.detail.Detail.{Detail}
-use Rattle.details.specs.Kept.{kept_of, OfFirst, first_none, first_full, first_more, more_length}
-use Rattle.verdict.specs.Details.{JudgingRoom, VerdictOn, JudgedAs, judged_at, kept_own, kept_other}
+use Rattle.details.specs.Kept.{OfFirst, first_none, first_full, first_more, more_length}
+use Rattle.verdict.specs.Details.{JudgingRoom, VerdictOn, JudgedAs, judged_of, judged_at, kept_own, kept_other, line_small}
 use Rattle.verdict.specs.declared.Verdict.{Verdict}
 use Rattle.verdict.specs.declared.detail.Judged.{Judged}
 use Rattle.field_conditions.specs.Stops.{lowest, detail_stop, detail_lowest, no_stop, low_of}
@@ -47,7 +47,7 @@ pub record After (s : List ℕ) (t : Tally) (d : Detail) (r : Tally) : Type 0 wh
 -- detail n, where it is one of the first 16, is d now, judged by its field 59 and its code; else all stays
 pub data KeepsFirst (s text : List ℕ) (n : ℕ) (d : Detail) (kept : List Judged) : List Judged → Type 0 where
   stays : 16 ≤ n → KeepsFirst s text n d kept kept
-  keeps : {v : Verdict} → n < 16 → VerdictOn text s d v → KeepsFirst s text n d kept (set kept n record { detail = kept_of d; verdict = v })
+  keeps : {v : Verdict} → n < 16 → VerdictOn text s d v → KeepsFirst s text n d kept (set kept n (judged_of d v))
 
 -- ---- what is told of some details
 
@@ -86,11 +86,11 @@ low_more bank (e ∷ ds) d = sym (any_last bank e.date (e ∷ ds) d)
 module _ (s text : List ℕ) (ds : List M.Detail) (d : Detail) {at : ℕ} (w : DetailAt s at d) where
   room_more : {kept kept' : List Judged} → JudgingRoom text kept → KeepsFirst s text (length ds) d kept kept' → JudgingRoom text kept'
   room_more r (stays h) = r
-  room_more {kept = kept} r (keeps {v = u} h o) = record { passes = r.passes; size = length-set kept (length ds) (record { detail = kept_of d; verdict = u }) ∙ r.size }
+  room_more {kept = kept} r (keeps {v = u} h o) = record { passes = r.passes; size = length-set kept (length ds) (judged_of d u) ∙ r.size }
 
   judged_more : {kept kept' : List Judged} → JudgingRoom text kept → FirstJudged text s kept ds → KeepsFirst s text (length ds) d kept kept' → FirstJudged text s kept' (ds ++ (detail_in s d ∷ []))
   judged_more r j (stays h) = first_full ds j (detail_in s d) h
-  judged_more {kept = kept} r j (keeps {v = u} h o) = first_more ds j (detail_in s d) (kept_other text s kept (length ds) (record { detail = kept_of d; verdict = u })) (kept_own text s d w o kept (length ds) r.size h)
+  judged_more {kept = kept} r j (keeps {v = u} h o) = first_more ds j (detail_in s d) (kept_other text s kept (length ds) (judged_of d u)) (kept_own text s d w o kept (length ds) r.size h)
 
 pub told_none : (s text : List ℕ) {t : Tally} {kept : List Judged} → t.count ≡ 0 → t.sum ≡ 0 → t.date ≡ 0 → low_of t.low ≡ no_stop → JudgingRoom text kept → TallyTold s text [] t kept
 unfolding sum_of_amounts first_date
@@ -206,4 +206,4 @@ module _ (s text : List ℕ) (at pos : ℕ) (t : Tally) {kept : List Judged} (m 
       so_far = λ ds e. more.sum ∙ ap sum_of_amounts (sym (done_first (m.done ++ (detail_in s d ∷ [])) (details (4096 - r.count) (from s next)) r.count ds more.count (left_on f ∙ e)));
     }
 
-pub ruleset keeping = (within_at, within_order, KeepsFirst.stays, KeepsFirst.keeps)
+pub ruleset keeping = (within_at, within_order, line_small, KeepsFirst.stays, KeepsFirst.keeps)

@@ -4,7 +4,7 @@ use Rattle.std.proofs.Common.{sym, ap, ◌∙◌, arith}
 use Rattle.std.proofs.Math.Seq.{take-nil}
 use Rattle.std.proofs.lemmas.List.{get_or_default}
 use Rattle.rules.specs.Messages.{Detail}
-use Rattle.rules.specs.Forms.{detail52d, detail59, detail_baeref}
+use Rattle.rules.specs.Forms.{detail50h, detail52d, detail59, detail_baeref}
 use Rattle.rule_laws.specs.Messages.{DetailRead}
 use Rattle.rules.specs.Verdict.{is_listed199}
 use Rattle.rules.specs.Written.{listed_rows, all_listed}
@@ -14,11 +14,11 @@ use Rattle.put.specs.Writes.{Writes, Unwritten, unwritten_all, unwritten_turn, u
 use Rattle.details.specs.Message.{details_in, detail_at}
 use Rattle.details.specs.Kept.{LineOf, RowsOf}
 use Rattle.details.specs.declared.kept.Kept.{Kept}
-use Rattle.verdict.specs.Details.{KeptIn, kept_at, no_judged, judged_at}
+use Rattle.verdict.specs.Details.{KeptIn, no_judged, judged_at}
 use Rattle.verdict.specs.declared.detail.Judged.{Judged}
 use Rattle.forms.specs.Spans.{span_of, SpanIn}
 use Rattle.detail_lines.specs.Rows.{rows_of, rows_kept}
-use Rattle.detail_lines.specs.Chosen.{tells, chosen_from, chosen_end, chosen_one, chosen_none}
+use Rattle.detail_lines.specs.Chosen.{tells, chosen_from, none_chosen, chosen_one, chosen_none}
 
 -- the lines of a detail that its rows show are kept
 pub record LinesOf (s : List ℕ) (d : Detail) (k : Kept) : Type 0 where
@@ -70,43 +70,58 @@ take_one : {A : Type 0} (x : A) (xs : List A) (m : ℕ) → (m ≡ 0 → ⊥) �
 take_one x xs zero h = absurd (h refl)
 take_one x xs (suc m) h = let e : suc m - 1 ≡ m = omega arith in rw e
 
-module _ (s : List ℕ) (kept : List Judged) (k : LinesIn s kept) {first most : ℕ} {start : Writer} {i m : ℕ} {w : Writer} (l : RowsLeft s kept first most start i m w) where
-  -- none is to be written
-  pub rows_full : m ≡ 0 → i ≤ length kept → RowsPut s kept first most start i w
+-- m of them at most, from detail i on, within any text
+module _ (s : List ℕ) (kept : List Judged) (i m : ℕ) {whole : List ℕ} {start w : Writer} (l : Unwritten (all_listed (take m (chosen_from is_listed199 s kept i))) w whole start) where
+  none_due : take m (chosen_from is_listed199 s kept i) ≡ [] → Writes whole start w
   unfolding all_listed
-  rows_full e h = record { writes = unwritten_none (rw e at l.unwritten); within = h; skipped = rw e at l.behind }
+  none_due e = unwritten_none (rw e at l)
 
-  -- none is left
-  pub rows_end : length kept ≤ i → RowsPut s kept first most start (length kept) w
-  unfolding all_listed
-  rows_end h =
-      let n : chosen_from is_listed199 s kept i ≡ [] = chosen_end is_listed199 s kept k.count i h in record {
-        writes = unwritten_none (rw (n, take-nil m) at l.unwritten);
-        within = omega arith;
-        skipped = chosen_end is_listed199 s kept k.count (length kept) (omega arith) ∙ sym (drop_none m) ∙ (rw n at l.behind);
-      }
+  pub listed_full : m ≡ 0 → Writes whole start w
+  listed_full e = none_due (rw e)
 
-  module _ (h : i < length kept) (j : Judged) (b : Bool) (u : b ≡ tells is_listed199 (get_or kept i j)) where
+  pub listed_end : length kept ≤ i → Writes whole start w
+  listed_end h = none_due (rw (none_chosen is_listed199 s kept i h) (take-nil m))
+
+  module _ (k : LinesIn s kept) (h : i < length kept) (j : Judged) (b : Bool) (u : b ≡ tells is_listed199 (get_or kept i j)) where
     its : LinesOf s (detail_at (details_in s) i) (get_or kept i j).detail
     its = lines_at s kept k i h j
 
+    rows_step : b ≡ true → (m ≡ 0 → ⊥) → all_listed (take m (chosen_from is_listed199 s kept i)) ≡ listed_rows (detail_at (details_in s) i) ++ all_listed (take (m - 1) (chosen_from is_listed199 s kept (i + 1)))
+    unfolding all_listed
+    rows_step d z = rw (chosen_one is_listed199 s kept k.count i h j b u d, take_one (detail_at (details_in s) i) (chosen_from is_listed199 s kept (i + 1)) m z)
+
+    pub listed_more : b ≡ true → (m ≡ 0 → ⊥) → {w' : Writer} → Writes (rows_of (span_of s (get_or kept i j).detail.branch) (span_of s (get_or kept i j).detail.account) (span_of s (get_or kept i j).detail.baeref)) w w'
+        → Unwritten (all_listed (take (m - 1) (chosen_from is_listed199 s kept (i + 1)))) w' whole start
+    listed_more d z v = unwritten_turn (rw (rows_step d z) at l) (rw (rows_kept s (detail_at (details_in s) i) _ _ _ its.read its.branch its.account its.baeref) at v)
+
+    pub listed_pass : b ≡ false → Unwritten (all_listed (take m (chosen_from is_listed199 s kept (i + 1)))) w whole start
+    listed_pass d = rw (chosen_none is_listed199 s kept k.count i h j b u d) at l
+
+module _ (s : List ℕ) (kept : List Judged) (k : LinesIn s kept) {first most : ℕ} {start : Writer} {i m : ℕ} {w : Writer} (l : RowsLeft s kept first most start i m w) where
+  -- none is to be written
+  pub rows_full : m ≡ 0 → i ≤ length kept → RowsPut s kept first most start i w
+  rows_full e h = record { writes = listed_full s kept i m l.unwritten e; within = h; skipped = rw e at l.behind }
+
+  -- none is left
+  pub rows_end : length kept ≤ i → RowsPut s kept first most start (length kept) w
+  rows_end h = record {
+    writes = listed_end s kept i m l.unwritten h;
+    within = omega arith;
+    skipped = none_chosen is_listed199 s kept (length kept) (omega arith) ∙ sym (drop_none m) ∙ (rw (none_chosen is_listed199 s kept i h) at l.behind);
+  }
+
+  module _ (h : i < length kept) (j : Judged) (b : Bool) (u : b ≡ tells is_listed199 (get_or kept i j)) where
     one : b ≡ true → chosen_from is_listed199 s kept i ≡ detail_at (details_in s) i ∷ chosen_from is_listed199 s kept (i + 1)
     one d = chosen_one is_listed199 s kept k.count i h j b u d
 
-    rows_step : b ≡ true → (m ≡ 0 → ⊥) → all_listed (take m (chosen_from is_listed199 s kept i)) ≡ listed_rows (detail_at (details_in s) i) ++ all_listed (take (m - 1) (chosen_from is_listed199 s kept (i + 1)))
-    unfolding all_listed
-    rows_step d z = rw (one d, take_one (detail_at (details_in s) i) (chosen_from is_listed199 s kept (i + 1)) m z)
-
     pub rows_more : b ≡ true → (m ≡ 0 → ⊥) → {w' : Writer} → Writes (rows_of (span_of s (get_or kept i j).detail.branch) (span_of s (get_or kept i j).detail.account) (span_of s (get_or kept i j).detail.baeref)) w w' → RowsLeft s kept first most start (i + 1) (m - 1) w'
     rows_more d z v = record {
-      unwritten = unwritten_turn (rw (rows_step d z) at l.unwritten) (rw (rows_kept s (detail_at (details_in s) i) _ _ _ its.read its.branch its.account its.baeref) at v);
+      unwritten = listed_more s kept i m l.unwritten k h j b u d z v;
       behind = sym (drop_one (detail_at (details_in s) i) (chosen_from is_listed199 s kept (i + 1)) m z) ∙ ap (λ (ds : List Detail). drop m ds) (sym (one d)) ∙ l.behind;
     }
 
     pub rows_pass : b ≡ false → RowsLeft s kept first most start (i + 1) m w
-    rows_pass d =
-        let n : chosen_from is_listed199 s kept i ≡ chosen_from is_listed199 s kept (i + 1) = chosen_none is_listed199 s kept k.count i h j b u d in
-        record { unwritten = rw n at l.unwritten; behind = rw n at l.behind }
+    rows_pass d = record { unwritten = listed_pass s kept i m l.unwritten k h j b u d; behind = rw (chosen_none is_listed199 s kept k.count i h j b u d) at l.behind }
 
 -- the lines of a detail that is kept lie within the message
 module _ (s : List ℕ) (kept : List Judged) (k : LinesIn s kept) (i : ℕ) (h : i < length kept) (j : Judged) where
@@ -119,8 +134,11 @@ module _ (s : List ℕ) (kept : List Judged) (k : LinesIn s kept) (i : ℕ) (h :
   pub baeref_in : SpanIn s (get_or kept i j).detail.baeref
   baeref_in = (lines_at s kept k i h j).baeref.inside
 
--- so does the payer's field
+-- so does the payer's field, by that field alone
+pub payer_inside : (s : List ℕ) (kept : List Judged) → ((i : ℕ) → i < length kept → RowsOf s (detail_at (details_in s) i) detail50h 4 (judged_at kept i).detail.payer) → (i : ℕ) → i < length kept → (j : Judged) → SpanIn s (get_or kept i j).detail.payer
+payer_inside s kept f i h j = (rw (get_or_default kept i no_judged j h) at (f i h)).inside
+
 pub payer_in : (s : List ℕ) (kept : List Judged) → KeptIn s kept → (i : ℕ) → i < length kept → (j : Judged) → SpanIn s (get_or kept i j).detail.payer
-payer_in s kept k i h j = (kept_at s kept k i h j).payer.inside
+payer_in s kept k = payer_inside s kept (λ i h. (k.each i h).payer)
 
 pub ruleset listing = (lines_kept, branch_in, account_in_lem, baeref_in, rows_start, rows_full, rows_end, rows_more, rows_pass)

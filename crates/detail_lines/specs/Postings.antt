@@ -1,7 +1,7 @@
 -- The posting lines of a message's details, each by its verdict.
 use Rattle.std.specs.Prelude.{◌≡◌, refl, ℕ, ◌+◌, ◌≤◌, ◌<◌, length, get_or, drop}
-use Rattle.std.proofs.Common.{ap}
-use mathlib.Core.List.{List, [], ◌++◌}
+use Rattle.std.proofs.Common.{ap, add-one, drop-cons, drop_of_length-le}
+use mathlib.Core.List.{List, [], ◌∷◌, ◌++◌}
 use Rattle.rules.specs.Messages.{Detail, payer_code, account59}
 use Rattle.rules.specs.Register.{Register, register_of}
 use Rattle.rules.specs.Verdict as paper
@@ -11,9 +11,9 @@ use Rattle.rules.specs.Calls as C
 use Rattle.rules.specs.Calls.{detail_posting, detail_postings}
 use Rattle.put.specs.declared.parts.Writer.{Writer}
 use Rattle.put.specs.Writes.{Writes, Unwritten, unwritten_turn, unwritten_none}
-use Rattle.details.specs.Message.{details_in, detail_at}
+use Rattle.details.specs.Message.{no_detail, details_in, detail_at}
 use Rattle.verdict.specs.Answers.{verdict_of, InRegister, in_register, line_credited, line_coded}
-use Rattle.verdict.specs.Details.{JudgedIn, kept_at, verdict_at}
+use Rattle.verdict.specs.Details.{verdict_kept, JudgedIn, kept_at, verdict_at}
 use Rattle.verdict.specs.declared.Verdict.{Verdict}
 use Rattle.verdict.specs.declared.Verdict.TheVariants.{Credited, CreditedByCode, Returned}
 use Rattle.verdict.specs.declared.detail.Judged.{Judged}
@@ -58,24 +58,38 @@ module _ (text : List ℕ) (b : W.Book) (v : ℕ) {w₀ w₁ : Writer} where
 
 module _ (text s : List ℕ) (kept : List Judged) (v : JudgedIn text s kept) (i : ℕ) where
   module _ (h : i < length kept) (j : Judged) where
-    verdict_is : verdict_of (get_or kept i j).verdict ≡ C.verdict_of (register_of text) (detail_at (details_in s) i)
+    verdict_is : verdict_of (verdict_kept (get_or kept i j)) ≡ C.verdict_of (register_of text) (detail_at (details_in s) i)
     verdict_is = verdict_at text s kept v i h j
 
-    pub judged_known : InRegister text (get_or kept i j).verdict
-    judged_known = in_register text (payer_code (detail_at (details_in s) i)) (account59 (detail_at (details_in s) i)) (get_or kept i j).verdict verdict_is
+    pub judged_known : InRegister text (verdict_kept (get_or kept i j))
+    judged_known = in_register text (payer_code (detail_at (details_in s) i)) (account59 (detail_at (details_in s) i)) (verdict_kept (get_or kept i j)) verdict_is
 
     module _ (b : Book) {whole : List ℕ} {start w : Writer} (l : Unwritten (detail_postings (register_of text) b (drop i (details_in s))) w whole start) where
-      credits_step : detail_postings (register_of text) b (drop i (details_in s)) ≡ verdict_posting (register_of text) b (get_or kept i j).detail.amount (verdict_of (get_or kept i j).verdict) ++ detail_postings (register_of text) b (drop (i + 1) (details_in s))
+      credits_step : detail_postings (register_of text) b (drop i (details_in s)) ≡ verdict_posting (register_of text) b (get_or kept i j).detail.amount (verdict_of (verdict_kept (get_or kept i j))) ++ detail_postings (register_of text) b (drop (i + 1) (details_in s))
       unfolding detail_postings
       credits_step =
           rw (details_next is_returned s kept v.kept_in.count i h, verdict_is, (kept_at s kept v.kept_in i h j).amount)
           (ap (λ (l : List ℕ). l ++ detail_postings (register_of text) b (drop (i + 1) (details_in s))) (detail_amount (register_of text) b (detail_at (details_in s) i) (C.verdict_of (register_of text) (detail_at (details_in s) i))))
 
-      pub credits_more : {w' : Writer} → Writes (verdict_posting (register_of text) b (get_or kept i j).detail.amount (verdict_of (get_or kept i j).verdict)) w w' → Unwritten (detail_postings (register_of text) b (drop (i + 1) (details_in s))) w' whole start
+      pub credits_more : {w' : Writer} → Writes (verdict_posting (register_of text) b (get_or kept i j).detail.amount (verdict_of (verdict_kept (get_or kept i j)))) w w' → Unwritten (detail_postings (register_of text) b (drop (i + 1) (details_in s))) w' whole start
       credits_more u = unwritten_turn (rw credits_step at l) u
 
   pub credits_end : (b : Book) {whole : List ℕ} {start w : Writer} → Unwritten (detail_postings (register_of text) b (drop i (details_in s))) w whole start → length kept ≤ i → Writes whole start w
   unfolding detail_postings
   credits_end b l h = unwritten_none (rw (details_end is_returned s kept v.kept_in.count i h) at l)
+
+-- ---- by the amount and the verdict of a detail, however they are kept
+
+module _ (text s : List ℕ) (i : ℕ) (b : Book) {whole : List ℕ} {start w : Writer} (l : Unwritten (detail_postings (register_of text) b (drop i (details_in s))) w whole start) where
+  pub credits_on : i < length (details_in s) → {v : ℕ} {x : paper.Verdict} → v ≡ (detail_at (details_in s) i).amount → x ≡ C.verdict_of (register_of text) (detail_at (details_in s) i)
+      → {w' : Writer} → Writes (verdict_posting (register_of text) b v x) w w' → Unwritten (detail_postings (register_of text) b (drop (i + 1) (details_in s))) w' whole start
+  unfolding detail_postings
+  credits_on h {v} {x} e f u =
+      let n : drop i (details_in s) ≡ detail_at (details_in s) i ∷ drop (i + 1) (details_in s) = rw (add-one i) (drop-cons (details_in s) i no_detail h) in
+      unwritten_turn (rw n at l) (rw (e, f, ← detail_amount (register_of text) b (detail_at (details_in s) i) (C.verdict_of (register_of text) (detail_at (details_in s) i))) at u)
+
+  pub credits_done : length (details_in s) ≤ i → Writes whole start w
+  unfolding detail_postings
+  credits_done h = unwritten_none (rw (drop_of_length-le (details_in s) {i = i} h) at l)
 
 pub ruleset crediting = (line_credited, line_coded, credit_wrote, posting_credited, posting_coded, posting_returned, judged_known, credits_more, credits_end)

@@ -19,7 +19,7 @@ pub fn put_listed(w: &mut Writer, s: &[u8], kept: &[Judged], first: usize, most:
             return i;
         }
         let j = &kept[i];
-        if j.verdict.is_listed() {
+        if j.verdict().is_listed() {
             put_listed_rows(
                 w,
                 j.detail.branch.of(s),

@@ -30,8 +30,8 @@ fn put_verdict_posting(w: &mut Writer, book: Book, register: Register, v: Verdic
     ensures { Writes (verdict_posting (register_of register.entry.text.now) (book_by register.entry.text.now book) amount (verdict_of v)) w.old w.new }
 {
     match v {
-        Verdict::Credited(i) => put_credit(w, book, register, i as usize, amount),
-        Verdict::CreditedByCode(i, _) => put_credit(w, book, register, i as usize, amount),
+        Verdict::Credited(i) => put_credit(w, book, register, i, amount),
+        Verdict::CreditedByCode(i, _) => put_credit(w, book, register, i, amount),
         Verdict::Returned(_) => put_to_bank(w, book, register.temporary(), amount),
     }
 }
@@ -43,6 +43,6 @@ pub fn put_detail_postings(w: &mut Writer, book: Book, register: Register, detai
     ensures { Writes (detail_postings (register_of register.entry.text.now) (book_by register.entry.text.now book) (details_in details.entry.message.now)) w.old w.new }
 {
     for j in details.kept {
-        put_verdict_posting(w, book, register, j.verdict, j.detail.amount);
+        put_verdict_posting(w, book, register, j.verdict(), j.detail.amount);
     }
 }

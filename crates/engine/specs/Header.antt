@@ -21,9 +21,14 @@ byte_is : (a : List ℕ) (i : ℕ) → i < length a → get_or a i 0 ≡ number_
 unfolding number_from
 byte_is a i h = rw (drop-cons a i 0 h) (sym (zero-add (get_or a i 0)))
 
-pub header_read : (a : List ℕ) {day count : ℕ} → references_place ≤ length a → day ≡ number_at a day_place 3 → count ≡ number_at a count_place 2
+pub header_read : (a : List ℕ) {day count positions references : ℕ} → day ≡ number_at a day_place 3 → count ≡ number_at a count_place 2 → positions ≡ number_at a many_positions_place 1 → references ≡ number_at a many_references_place 1
+    → HeaderAt a record { day = day; count = count; positions = positions; references = references }
+header_read a d c p r = record { day = d; count = c; positions = p; references = r }
+
+-- two of them as their bytes
+pub header_bytes : (a : List ℕ) {day count : ℕ} → references_place ≤ length a → day ≡ number_at a day_place 3 → count ≡ number_at a count_place 2
     → HeaderAt a record { day = day; count = count; positions = get_or a many_positions_place 0; references = get_or a many_references_place 0 }
-header_read a h d c = record { day = d; count = c; positions = byte_is a many_positions_place (omega arith); references = byte_is a many_references_place (omega arith) }
+header_bytes a h d c = header_read a d c (byte_is a many_positions_place (omega arith)) (byte_is a many_references_place (omega arith))
 
 -- what is asked of a number that was read is asked of the bytes where it stands
 module _ (a : List ℕ) (x : Header) (n : HeaderAt a x) where
@@ -70,4 +75,4 @@ header_told a x h n =
 pub header_room : (a : List ℕ) → is_some (holds a) ≡ true → references_place ≤ length a
 header_room a h = omega (arith, (decoded a h).long)
 
-pub ruleset heading = (header_read, header_told, header_room)
+pub ruleset heading = (header_bytes, header_told, header_room)

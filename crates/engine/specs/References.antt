@@ -115,7 +115,23 @@ module _ (x y : ℕ) (s t : List ℕ) where
     | inr h ↦ rw (lt-leb (suc x) y (omega arith), le-leb y x h, ne_eqb x y n) refl
   ]
 
--- ---- among those of an area: the records from the i-th of n on answer for all
+-- ---- among those of an area: k records from p on
+
+module _ (area : List ℕ) (r : Reference) (p k : ℕ) (x : Bool) (m : any (same_reference r) (references_at area p k) ≡ x) where
+  pub none_among : k ≤ 0 → false ≡ x
+  unfolding any
+  none_among h = rw (values_none reference_in area p k h) at m
+
+  module _ (h : 0 < k) (t : Bool) (u : t ≡ same_reference r (reference_at area p)) where
+    pub one_among : t ≡ true → true ≡ x
+    unfolding any
+    one_among d = rw (values_next reference_in area p k h, ← u, d) at m
+
+    pub others_among : t ≡ false → any (same_reference r) (references_at area (p + record_size) (k - 1)) ≡ x
+    unfolding any
+    others_among d = rw (values_next reference_in area p k h, ← u, d) at m
+
+-- ---- the records from the i-th of n on answer for all
 
 pub record Among (area : List ℕ) (n : ℕ) (r : Reference) (i : ℕ) : Type 0 where
   pub same : any (same_reference r) (references_at area (references_place + record_size * i) (n - i)) ≡ any (same_reference r) (references_at area references_place n)

@@ -1,5 +1,5 @@
--- A walk over a text lends it to each call as a reader over it: of a `&` there can be two.
-use Rattle.std.specs.Prelude.{refl, ℕ, ◌≤◌, ◌<◌, ◌^◌, List, [], ◌∷◌, length}
+-- A walk over a text lends it to each call as a reader over it, at any place: of a `&` there can be two.
+use Rattle.std.specs.Prelude.{refl, ℕ, ◌<◌, ◌^◌, List, [], ◌∷◌}
 use seplogic.Ra.Ura.{Ura}
 use mir.Syntax.{named, erased, w8, w64}
 use mir.Val.{Val, vint}
@@ -16,10 +16,10 @@ use denote.Signature.{named_lft}
 use denote.Slice.{shr_slice_copy}
 use denote.Steps.{owned, nothing}
 use denote.Struct.Rest.{own_shut}
+use Rattle.lines.specs.Answers.{over}
 use Rattle.lines.specs.Lent.{text_val, Text}
-use Rattle.lines.specs.declared.reader.LineReader.{LineReader}
-use Rattle.lines.specs.contracts.reader.LineReader as T
-use Rattle.lines.proofs.reader.LineReader.TheLaws as T'
+use Rattle.lines.specs.contracts.over.Reader as T
+use Rattle.lines.proofs.over.Reader.TheLaws as T'
 
 -- a lifetime has no name there
 abbrev pub unnamed : Lft → NamedLft
@@ -27,22 +27,17 @@ unnamed κ = record { mir = erased; lft = κ }
 
 module _ (κ : Lft) (s : Bor (List ℕ)) where
   -- a reader's machine value, and what it owns
-  abbrev pub reader_val : LineReader → Val
-  reader_val r = T'.lowered r
+  abbrev pub reader_val : ℕ → Val
+  reader_val n = T'.lowered (over s n)
 
-  abbrev pub Reads : LineReader → Fml
-  Reads r = owns (T.the_row (named_lft 1 0 tt (κ, tt)) ∷ []) (r, tt) (reader_val r ∷ [], tt)
-
-  -- the reader over the text at a place
-  module _ (h : length s.now ≤ 4096) (n : ℕ) (k : n ≤ length s.now) where
-    abbrev over : LineReader
-    over = record { text = s; at = n; short = h; within = k }
+  abbrev pub Reads : ℕ → Fml
+  Reads n = owns (T.the_row (named_lft 1 0 tt (κ, tt)) ∷ []) (over s n, tt) (reader_val n ∷ [], tt)
 
   module _ {M : Type 1} {𝓤 : Ura M} (𝓛 : Logic 𝓤) where
     -- lent as a reader at a place
-    pub lends_reader : (h : length s.now ≤ 4096) (n : ℕ) (k : n ≤ length s.now) → n < 2 ^ 64 → ent 𝓤 (sem 𝓛 (Text κ s)) (sep 𝓤 (sem 𝓛 (Text κ s)) (sem 𝓛 (Reads (over h n k))))
-    lends_reader h n k fits =
+    pub lends_reader : (n : ℕ) → n < 2 ^ 64 → ent 𝓤 (sem 𝓛 (Text κ s)) (sep 𝓤 (sem 𝓛 (Text κ s)) (sem 𝓛 (Reads n)))
+    lends_reader n fits =
         qed 𝓛 (‵ (Text κ s) ∷ []) ∵ use1 𝓛 (‵ (Text κ s) ⊛ ‵ (Text κ s)) ((shr_slice_copy 𝓛 (named 0) κ u8 (uint_row_laws w8)).twice s (text_val κ s ∷ [])) $ split ! $ frame ! $
         nothing ! $ owned ! usize (Is usize) (uint_Makes 𝓛 w64) n (vint w64 n ∷ []) (refl, fits) $ fjoin ! $ move ! (1 ∷ 0 ∷ []) $ fjoin ! $
-        use1 𝓛 (‵ ((T.the_row (named_lft 1 0 tt (κ, tt))).own_val (over h n k) (reader_val (over h n k) ∷ []))) (own_shut 𝓛 (T.the_type (named_lft 1 0 tt (κ, tt))) (T'.the_laws (named_lft 1 0 tt (κ, tt))) (s, (n, tt))) $
+        use1 𝓛 (‵ ((T.the_row (named_lft 1 0 tt (κ, tt))).own_val (over s n) (reader_val n ∷ []))) (own_shut 𝓛 (T.the_type (named_lft 1 0 tt (κ, tt))) (T'.the_laws (named_lft 1 0 tt (κ, tt))) (s, (n, tt))) $
         nothing ! $ move ! (1 ∷ 0 ∷ []) $ fjoin ! $ done !

@@ -2,8 +2,10 @@
 use Rattle.std.specs.Prelude.{◌≡◌, List, ℕ, ◌+◌, ◌≤◌, length, Option, Some, None, ◌<◌, get_or}
 use Rattle.std.proofs.Common.{subst}
 use Rattle.std.proofs.Math.Option.{none, some}
+use Rattle.std.specs.Borrow.{Bor}
 use Rattle.rules.specs.Lines.{TakenLine, take_line, lead}
 use Rattle.laws.specs.Parts.{cut, from}
+use Rattle.lines.specs.declared.over.Reader.{Reader}
 use Rattle.lines.specs.declared.reader.LineReader.{LineReader}
 
 -- the line from `at` to `e`, and what stands behind its CR LF
@@ -52,3 +54,7 @@ pub record HandsOut (old new : LineReader) (r : Option ℕ) : Type 0 where
   pub line : LineAt old.text.now old.at r
   pub text : new.text ≡ old.text
   pub at : new.at ≡ behind old.at r
+
+-- the reader over a text of any length, at a place
+abbrev pub over : Bor (List ℕ) → ℕ → Reader
+over text at = record { text = text; at = at }

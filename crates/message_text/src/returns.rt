@@ -21,7 +21,7 @@ pub fn put_returns(
     ensures { ReturnsPut o.old o.new book register.entry.text.now details.entry.message.now details.entry.kept.now w.old w.new }
 {
     for j in details.kept {
-        if j.verdict.is_returned() {
+        if j.verdict().is_returned() {
             let r = o.issue();
             put_detail_return(
                 w,

@@ -17,7 +17,7 @@ pub fn count_listed(details: Details) -> u32
     details
         .kept
         .iter()
-        .filter(|j| j.verdict.is_listed())
+        .filter(|j| j.verdict().is_listed())
         .count() as u32
 }
 

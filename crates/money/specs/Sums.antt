@@ -30,12 +30,12 @@ module _ (t : Bool) where
   decimals_one (c ∷ []) v h k u e = rw (← u, e)
   decimals_one (c ∷ d ∷ s) v h k u e = absurd (omega arith)
 
-  pub decimals_first : (s : List ℕ) (v : ℕ) → 1 ≤ length s → length s < 3 → t ≡ is_digit (get_or s 0 0) → t ≡ false → none ≡ decimals v s
+  pub decimals_first : (s : List ℕ) (v : ℕ) → 1 ≤ length s → t ≡ is_digit (get_or s 0 0) → t ≡ false → none ≡ decimals v s
   unfolding decimals
-  decimals_first [] v h k u e = absurd (omega arith)
-  decimals_first (c ∷ []) v h k u e = rw (← u, e)
-  decimals_first (c ∷ d ∷ []) v h k u e = rw (← u, e)
-  decimals_first (c ∷ d ∷ f ∷ s) v h k u e = absurd (omega arith)
+  decimals_first [] v h u e = absurd (omega arith)
+  decimals_first (c ∷ []) v h u e = rw (← u, e)
+  decimals_first (c ∷ d ∷ []) v h u e = rw (← u, e)
+  decimals_first (c ∷ d ∷ f ∷ s) v h u e = refl
 
   module _ (q : Bool) where
     pub decimals_two : (s : List ℕ) (v : ℕ) → 2 ≤ length s → length s < 3 → t ≡ is_digit (get_or s 0 0) → t ≡ true → q ≡ is_digit (get_or s 1 0) → q ≡ true
@@ -46,12 +46,12 @@ module _ (t : Bool) where
     decimals_two (c ∷ d ∷ []) v h k u e w g = rw (← u, e, ← w, g)
     decimals_two (c ∷ d ∷ f ∷ s) v h k u e w g = absurd (omega arith)
 
-    pub decimals_second : (s : List ℕ) (v : ℕ) → 2 ≤ length s → length s < 3 → t ≡ is_digit (get_or s 0 0) → t ≡ true → q ≡ is_digit (get_or s 1 0) → q ≡ false → none ≡ decimals v s
+    pub decimals_second : (s : List ℕ) (v : ℕ) → 2 ≤ length s → t ≡ is_digit (get_or s 0 0) → t ≡ true → q ≡ is_digit (get_or s 1 0) → q ≡ false → none ≡ decimals v s
     unfolding decimals
-    decimals_second [] v h k u e w g = absurd (omega arith)
-    decimals_second (c ∷ []) v h k u e w g = absurd (omega arith)
-    decimals_second (c ∷ d ∷ []) v h k u e w g = rw (← u, e, ← w, g)
-    decimals_second (c ∷ d ∷ f ∷ s) v h k u e w g = absurd (omega arith)
+    decimals_second [] v h u e w g = absurd (omega arith)
+    decimals_second (c ∷ []) v h u e w g = absurd (omega arith)
+    decimals_second (c ∷ d ∷ []) v h u e w g = rw (← u, e, ← w, g)
+    decimals_second (c ∷ d ∷ f ∷ s) v h u e w g = refl
 
 pub decimals_long : (s : List ℕ) (v : ℕ) → 3 ≤ length s → none ≡ decimals v s
 unfolding decimals

@@ -39,6 +39,11 @@ module _ (bs ys : List ℕ) {out out' : List ℕ} {at k n r : ℕ} (e : n ≡ mi
         short = s;
       }
 
+-- a part of the output that has room for all of it
+pub whole_wrote : (bs ys : List ℕ) {out out' : List ℕ} {at k r : ℕ} → at + length bs ≤ length out → length out ≤ furthest → out' ≡ put_mid at k out ys → k ≡ length bs → ys ≡ bs → r ≡ at + length bs → Wrote bs at out r out'
+unfolding ahead
+whole_wrote bs ys h s o f g c = part_wrote bs ys (omega arith) (omega arith) s o f (g ∙ sym (take-length bs)) (omega arith)
+
 -- behind the output nothing is written
 pub wrote_behind : (bs : List ℕ) {out out' : List ℕ} {at r : ℕ} → length out ≤ at → length out ≤ furthest → out' ≡ out → r ≡ ahead at (length bs) → Wrote bs at out r out'
 wrote_behind bs {out} {out'} {at} h s o c = record { cursor = c; output = o ∙ sym (laid_behind bs at out h); short = s }

@@ -25,7 +25,7 @@ pub struct Writer<'a> {
 }
 
 impl<'a> Writer<'a> {
-    ghost use Rattle.std.specs.Prelude.{[], ◌∷◌};
+    ghost use Rattle.std.specs.Prelude.{[], ◌∷◌, ◌+◌, ◌≤◌, length};
     ghost use Rattle.rules.specs.Text.{ascii};
     ghost use Rattle.rules.specs.Area.{zeros};
     ghost use Rattle.laws.specs.Writing.{filled};
@@ -63,6 +63,8 @@ impl<'a> Writer<'a> {
     {
         if self.at < self.out.len() {
             self.out[self.at] = b;
+            self.at += 1;
+            return;
         }
         self.step(1);
     }
@@ -75,11 +77,24 @@ impl<'a> Writer<'a> {
         self.put_byte(b'\n');
     }
 
+    // The bytes of src, for which the output has room.
+    fn put_whole(&mut self, src: &[u8])
+        requires { self.old.at + length src.now ≤ length self.old.out.now }
+        ensures { Writes src.now self.old self.new }
+    {
+        let end = self.at + src.len();
+        lay(&mut self.out[self.at..end], src);
+        self.at = end;
+    }
+
     // The bytes of src.
     pub fn put_bytes(&mut self, src: &[u8])
         ensures { Writes src.now self.old self.new }
     {
         if self.at < self.out.len() {
+            if src.len() <= self.out.len() - self.at {
+                return self.put_whole(src);
+            }
             let n = src.len().min(self.out.len() - self.at);
             lay(&mut self.out[self.at..self.at + n], &src[..n]);
         }

@@ -15,7 +15,7 @@ use crate::{ACCOUNT_LINE, CODE_LINE, FIRST_LINE};
 use register_lines::bound;
 use text::equal_backward;
 
-// A register's text that passed. An account line is named by its number, which is below how many there are by a clause: a verdict keeps it in a byte.
+// A register's text that passed. An account line is named by its number, which is below how many there are by a clause: a verdict that is kept has it in a byte.
 #[derive(Clone, Copy)]
 pub struct Register<'a> {
     // The text.

@@ -85,6 +85,10 @@ pub record MarkAt (w z : ℕ) (s : List ℕ) (at i : ℕ) (marks : List ℕ) : T
   pub room : at + w * i + z ≤ length s
   pub own : get_or marks i 0 ≡ mark_of (key_in s z (at + w * i))
 
+-- marks that differ belong to bytes that do
+pub mark_other : (w z : ℕ) (s : List ℕ) (at i : ℕ) (marks : List ℕ) → MarkAt w z s at i marks → (key : List ℕ) (m : ℕ) → m ≡ mark_of key → (get_or marks i 0 ≡ m → ⊥) → false ≡ equal key (key_in s z (at + w * i))
+mark_other w z s at i marks k key m o d = other_mark _ _ (λ e. d (k.own ∙ e ∙ sym o))
+
 -- those of i of them are made, and the next line begins at a place
 pub record Making (w z : ℕ) (s : List ℕ) (at n i next : ℕ) (marks : List ℕ) : Type 0 where
   pub place : next ≡ at + w * i
@@ -166,12 +170,11 @@ module _ (w z : ℕ) (standing : List ℕ → ℕ → Bool) (f : FormOf w z stan
     pub line_mark : get_or marks i 0 ≡ mark_of (key_in s z (at + w * i))
     line_mark = k.each i h
 
-    -- marks that differ belong to bytes that do
-    pub mark_other : (key : List ℕ) (m : ℕ) → m ≡ mark_of key → (get_or marks i 0 ≡ m → ⊥) → false ≡ equal key (key_in s z (at + w * i))
-    mark_other key m o d = other_mark _ _ (λ e. d (line_mark ∙ e ∙ sym o))
-
     pub mark_at : MarkAt w z s at i marks
     mark_at = record { small = line_small; room = place_room; own = line_mark }
+
+    pub line_other : (key : List ℕ) (m : ℕ) → m ≡ mark_of key → (get_or marks i 0 ≡ m → ⊥) → false ≡ equal key (key_in s z (at + w * i))
+    line_other = mark_other w z s at i marks mark_at
 
 -- told by its place
 module _ (w z : ℕ) (s : List ℕ) (at i : ℕ) (marks : List ℕ) (k : MarkAt w z s at i marks) (p : ℕ) (e : p ≡ at + w * i) where
@@ -221,4 +224,4 @@ module _ (s : List ℕ) (z w at i n : ℕ) (x : Bool) (inv : repeat_in s z w at 
   unfolding repeat_in keys_in twice
   repeat_end h = rw (upto_done w at i n h) at inv
 
-pub ruleset marks = (marking_start, marking_end, marking_low, marking_more, making_start, making_end, making_next, making_room, making_key, making_small, making_more, place_small, place_room, line_small, line_size, line_mark, mark_other, stands_here, stands_more, stands_end, repeat_here, repeat_more, repeat_end)
+pub ruleset marks = (marking_start, marking_end, marking_low, marking_more, making_start, making_end, making_next, making_room, making_key, making_small, making_more, place_small, place_room, line_small, line_size, line_mark, line_other, stands_here, stands_more, stands_end, repeat_here, repeat_more, repeat_end)

@@ -31,6 +31,7 @@ pub trait LineForm {
 }
 
 // `IBAN,low,high`, told from others by its IBAN.
+#[derive(Clone, Copy)]
 pub struct AccountLine;
 
 impl LineForm for AccountLine {
@@ -63,6 +64,7 @@ impl LineForm for AccountLine {
 }
 
 // `code,IBAN`, told from others by its code.
+#[derive(Clone, Copy)]
 pub struct CodeLine;
 
 impl LineForm for CodeLine {

@@ -1,18 +1,32 @@
 // Replays days and compares what is printed with what is expected: three words for each, the input's file, the expected output's, and the output's room.
 #![tactic(auto)]
 
+ghost use Rattle.std.specs.Prelude.{◌≡◌, ◌≤◌, length, take};
+
 use commands::Room;
 use std::io::Read;
 use std::rt::Files;
 use std::{env, fs, io};
 
-// The bytes of the file of that name, so many at most; one that cannot be read is cut short.
-fn read_file(rt: &(impl Files + AllocGlobal), name: &str, most: u64) -> Vec<u8> {
-    let mut bytes = Vec::new(rt.alloc());
-    if let Ok(file) = fs::open(rt, name) {
-        let _ = file.take(most).read_to_end(&mut bytes);
+// The file of that name, as much of it as the buffer takes; one that cannot be read is cut short.
+fn read_file(rt: &impl Files, name: &str, buf: &mut [u8]) -> usize
+    ensures within { result ≤ length buf.new }
+    ensures whole { result ≡ length (take result buf.new) }
+{
+    let Ok(mut file) = fs::open(rt, name) else {
+        return 0;
+    };
+    let mut n: usize = 0;
+    for _ in 0..u64::MAX {
+        let Ok(got) = file.read(&mut buf[n..]) else {
+            break;
+        };
+        if got == 0 {
+            break;
+        }
+        n += got;
     }
-    bytes
+    n
 }
 
 // The room that a word is, 32,768 bytes where there is none or it is none.
@@ -29,22 +43,19 @@ fn replay_with(input: &[u8], room: Room, printed: &mut [u8]) -> usize {
 }
 
 // Does the day of these words print what is expected? An input is cut behind 131,072 bytes, an expected output behind 65,536.
-fn agrees(
-    rt: &(impl Files + AllocGlobal),
-    input: &str,
-    expected: &str,
-    room: Option<&str>,
-) -> bool {
+fn agrees(rt: &impl Files, input: &str, expected: &str, room: Option<&str>) -> bool {
+    let mut read: [u8; 131072] = day::room();
+    let n = read_file(rt, input, &mut read);
     let mut printed: [u8; 65536] = day::room();
-    let read = read_file(rt, input, 131072);
-    let n = replay_with(&read, room_of(room), &mut printed);
-    let wanted = read_file(rt, expected, 65536);
-    printed.get(..n) == Some(wanted.as_slice())
+    let m = replay_with(&read[..n], room_of(room), &mut printed);
+    let mut wanted: [u8; 65536] = day::room();
+    let e = read_file(rt, expected, &mut wanted);
+    printed.get(..m) == Some(&wanted[..e])
 }
 
 // Says it of the day of these words.
 fn tell(
-    rt: &(impl Files + Print + AllocGlobal),
+    rt: &(impl Files + Print),
     input: &str,
     expected: &str,
     room: Option<&str>,

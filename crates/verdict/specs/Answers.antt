@@ -29,6 +29,10 @@ verdict_of (Returned c) = paper.returned (cause_of c)
 pub record InRegister (text : List ℕ) (v : Verdict) : Type 0 where
   pub line : (i : ℕ) → credited_line (verdict_of v) ≡ some i → i < length (register_of text).accounts
 
+-- it is small enough for a byte
+pub record LineSmall (v : Verdict) : Type 0 where
+  pub line : (i : ℕ) → credited_line (verdict_of v) ≡ some i → i < 256
+
 pub in_register : (text code cs : List ℕ) (v : Verdict) → verdict_of v ≡ by_code (register_of text) code (verdict (register_of text) cs) → InRegister text v
 in_register text code cs v h = record { line = λ i e. line_known (register_of text) code cs i (rw h at e) }
 

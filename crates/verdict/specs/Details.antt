@@ -13,6 +13,7 @@ use Rattle.rules.specs.Messages.{Message, read, details_of, past}
 use Rattle.rules.specs.Register.{register, register_of}
 use Rattle.rule_laws.specs.Messages.{DetailRead, DetailsRead, DetailsRead.last, DetailsRead.more, ReadAs, ReadAs.transfer, ReadAs.order, read_as}
 use Rattle.rules.specs.Verdict.{verdict, by_code, is_returned, is_listed199}
+use Rattle.rule_laws.specs.Verdicts.{credited_line}
 use Rattle.register.specs.Passed.{accounts_few}
 use Rattle.forms.specs.Spans.{span_of, no_span, SpanIn, span_line}
 use Rattle.forms.specs.Fields.{Behind, behind_bytes}
@@ -21,17 +22,43 @@ use Rattle.forms.specs.Details.{DetailAt, detail_in}
 use Rattle.forms.specs.declared.detail.Detail.{Detail}
 use Rattle.details.specs.Message.{or_none, message_in, details_in, detail_at}
 use Rattle.details.specs.Kept.{KeptOf, kept_of, kept_told}
-use Rattle.verdict.specs.Answers.{verdict_of, InRegister, in_register, line_credited, line_coded}
+use Rattle.verdict.specs.Answers.{verdict_of, InRegister, in_register, line_credited, line_coded, LineSmall}
 use Rattle.verdict.specs.declared.Cause.{Cause}
 use Rattle.verdict.specs.declared.Cause.TheVariants.{WrongShape}
 use Rattle.verdict.specs.declared.Verdict.{Verdict}
 use Rattle.verdict.specs.declared.Verdict.TheVariants.{Credited, CreditedByCode, Returned}
 use Rattle.verdict.specs.declared.detail.Judged.{Judged}
+use Rattle.verdict.specs.declared.detail.KeptVerdict.{KeptVerdict}
+use Rattle.verdict.specs.declared.detail.KeptVerdict.TheVariants as small
 use Rattle.rules.specs.Verdict as paper
+
+-- what is kept of a verdict, and the verdict that is kept
+abbrev pub kept_verdict : Verdict → KeptVerdict
+kept_verdict (Credited i) = small.Credited i
+kept_verdict (CreditedByCode i c) = small.CreditedByCode i c
+kept_verdict (Returned c) = small.Returned c
+
+abbrev pub verdict_again : KeptVerdict → Verdict
+verdict_again (small.Credited i) = Credited i
+verdict_again (small.CreditedByCode i c) = CreditedByCode i c
+verdict_again (small.Returned c) = Returned c
+
+verdict_same : (v : Verdict) → verdict_again (kept_verdict v) ≡ v
+verdict_same (Credited i) = refl
+verdict_same (CreditedByCode i c) = refl
+verdict_same (Returned c) = refl
+
+-- of a detail
+abbrev pub verdict_kept : Judged → Verdict
+verdict_kept j = verdict_again j.verdict
+
+-- what is kept of a detail with its verdict
+abbrev pub judged_of : Detail → Verdict → Judged
+judged_of d v = record { detail = kept_of d; verdict = kept_verdict v }
 
 -- what stands behind the details that are kept
 abbrev pub no_judged : Judged
-no_judged = record { detail = record { amount = 0; reference = no_span; payer = no_span; branch = no_span; account = no_span; baeref = no_span }; verdict = Returned WrongShape }
+no_judged = record { detail = record { amount = 0; reference = no_span; payer = no_span; branch = no_span; account = no_span; baeref = no_span }; verdict = small.Returned WrongShape }
 
 -- what is kept at place i
 abbrev pub judged_at : List Judged → ℕ → Judged
@@ -40,7 +67,7 @@ judged_at kept i = get_or kept i no_judged
 -- what is kept of detail d, and its verdict
 pub record JudgedAs (text s : List ℕ) (d : M.Detail) (j : Judged) : Type 0 where
   pub kept : KeptOf s d j.detail
-  pub verdict : verdict_of j.verdict ≡ C.verdict_of (register_of text) d
+  pub verdict : verdict_of (verdict_kept j) ≡ C.verdict_of (register_of text) d
 
 -- the details of a message, 16 at most, are kept
 pub record KeptIn (s : List ℕ) (kept : List Judged) : Type 0 where
@@ -51,7 +78,7 @@ pub record KeptIn (s : List ℕ) (kept : List Judged) : Type 0 where
 -- with their verdicts
 pub record JudgedIn (text s : List ℕ) (kept : List Judged) : Type 0 where
   pub kept_in : KeptIn s kept
-  pub verdicts : (i : ℕ) → i < length kept → verdict_of (judged_at kept i).verdict ≡ C.verdict_of (register_of text) (detail_at (details_in s) i)
+  pub verdicts : (i : ℕ) → i < length kept → verdict_of (verdict_kept (judged_at kept i)) ≡ C.verdict_of (register_of text) (detail_at (details_in s) i)
 
 -- ---- that they are kept has one proof at most, but for how each was read, and that is told by the message
 
@@ -101,7 +128,7 @@ module _ (s : List ℕ) (kept : List Judged) (k : KeptIn s kept) (i : ℕ) (h : 
   pub kept_at : KeptOf s (detail_at (details_in s) i) (get_or kept i other).detail
   kept_at = rw at_any at (k.each i h)
 
-pub verdict_at : (text s : List ℕ) (kept : List Judged) → JudgedIn text s kept → (i : ℕ) → i < length kept → (other : Judged) → verdict_of (get_or kept i other).verdict ≡ C.verdict_of (register_of text) (detail_at (details_in s) i)
+pub verdict_at : (text s : List ℕ) (kept : List Judged) → JudgedIn text s kept → (i : ℕ) → i < length kept → (other : Judged) → verdict_of (verdict_kept (get_or kept i other)) ≡ C.verdict_of (register_of text) (detail_at (details_in s) i)
 verdict_at text s kept v i h other = rw (at_any s kept v.kept_in i h other) at (v.verdicts i h)
 
 -- ---- judged one by one
@@ -117,12 +144,12 @@ pub record VerdictOn (text s : List ℕ) (d : Detail) (v : Verdict) : Type 0 whe
 
 -- detail n is d now, with its verdict
 module _ (text s : List ℕ) (d : Detail) {at : ℕ} (w : DetailAt s at d) {v : Verdict} (o : VerdictOn text s d v) where
-  pub judged_own : JudgedAs text s (detail_in s d) record { detail = kept_of d; verdict = v }
-  judged_own = record { kept = kept_told s d w; verdict = rw (span_line s d.spans 17 detail59 (omega arith), span_line s d.spans 17 detail_code (omega arith)) o.same }
+  pub judged_own : JudgedAs text s (detail_in s d) (judged_of d v)
+  judged_own = record { kept = kept_told s d w; verdict = rw (verdict_same v, span_line s d.spans 17 detail59 (omega arith), span_line s d.spans 17 detail_code (omega arith)) o.same }
 
   module _ (kept : List Judged) (n : ℕ) (r : length kept ≡ 16) (h : n < 16) where
-    pub kept_own : JudgedAs text s (detail_in s d) (judged_at (set kept n record { detail = kept_of d; verdict = v }) n)
-    kept_own = rw (get_or-set_same kept n (record { detail = kept_of d; verdict = v }) no_judged (omega arith)) judged_own
+    pub kept_own : JudgedAs text s (detail_in s d) (judged_at (set kept n (judged_of d v)) n)
+    kept_own = rw (get_or-set_same kept n (judged_of d v) no_judged (omega arith)) judged_own
 
 -- a line number of a register that passed is small
 module _ (text : List ℕ) (v : Verdict) (i : ℕ) (h : is_some (register text) ≡ true) (l : InRegister text v) where
@@ -132,6 +159,21 @@ module _ (text : List ℕ) (v : Verdict) (i : ℕ) (h : is_some (register text) 
   pub coded_small : {c : Cause} → v ≡ CreditedByCode i c → i < 40
   coded_small e = omega (arith, line_coded text v i l e, accounts_few text h)
 
+-- so that a byte keeps it
+pub line_small : (text code cs : List ℕ) (v : Verdict) → is_some (register text) ≡ true → verdict_of v ≡ by_code (register_of text) code (verdict (register_of text) cs) → LineSmall v
+line_small text code cs v h e = let l = in_register text code cs v e in record { line = λ i f. omega (arith, l.line i f, accounts_few text h) }
+
+module _ (v : Verdict) (l : LineSmall v) (i : ℕ) where
+  pub credited_byte : v ≡ Credited i → i < 256
+  unfolding credited_line
+  credited_byte e = l.line i (rw e)
+
+  pub coded_byte : {c : Cause} → v ≡ CreditedByCode i c → i < 256
+  unfolding credited_line
+  coded_byte e = l.line i (rw e)
+
+pub ruleset keeping = (credited_byte, coded_byte)
+
 -- the verdict u on some bytes, and v with the code
 module _ (text code cs : List ℕ) {u : paper.Verdict} (v : Verdict) (f : u ≡ verdict (register_of text) cs) (g : verdict_of v ≡ by_code (register_of text) code u) where
   both_judged : verdict_of v ≡ by_code (register_of text) code (verdict (register_of text) cs)
@@ -140,13 +182,14 @@ module _ (text code cs : List ℕ) {u : paper.Verdict} (v : Verdict) (f : u ≡ 
   pub both_known : InRegister text v
   both_known = in_register text code cs v both_judged
 
--- by the bytes behind 59's slash
+-- by the bytes behind 59's slash, whatever the code
+pub verdict_behind : (text s : List ℕ) (p q : Span) → SpanIn s p → Behind p 5 q → (code : List ℕ) {u : paper.Verdict} (v : Verdict) → u ≡ verdict (register_of text) (span_of s q) → verdict_of v ≡ by_code (register_of text) code u
+    → verdict_of v ≡ by_code (register_of text) code (verdict (register_of text) (past ":59:/" (span_of s p)))
+verdict_behind text s p q w b code v f g = both_judged text code (span_of s q) v f g ∙ ap (λ (cs : List ℕ). by_code (register_of text) code (verdict (register_of text) cs)) (behind_bytes s p 5 w q b)
+
 pub verdict_on : (text s : List ℕ) (d : Detail) (q : Span) → SpanIn s (get_or d.spans detail59 no_span) → Behind (get_or d.spans detail59 no_span) 5 q → {u : paper.Verdict} (v : Verdict) → u ≡ verdict (register_of text) (span_of s q)
     → verdict_of v ≡ by_code (register_of text) (span_of s (get_or d.spans detail_code no_span)) u → VerdictOn text s d v
-verdict_on text s d q w b v f g = record {
-  same = both_judged text (span_of s (get_or d.spans detail_code no_span)) (span_of s q) v f g
-      ∙ ap (λ (cs : List ℕ). by_code (register_of text) (span_of s (get_or d.spans detail_code no_span)) (verdict (register_of text) cs)) (behind_bytes s _ 5 w q b);
-}
+verdict_on text s d q w b v f g = record { same = verdict_behind text s _ q w b _ v f g }
 
 pub kept_other : (text s : List ℕ) (kept : List Judged) (n : ℕ) (j : Judged) (e : M.Detail) (i : ℕ) → i < n → JudgedAs text s e (judged_at kept i) → JudgedAs text s e (judged_at (set kept n j) i)
 kept_other text s kept n j e i l k = rw (get_or-set_other kept n i j no_judged (λ z. omega arith)) k

@@ -129,8 +129,11 @@ module _ (cs : List ℕ) (w : shaped cs ≡ true) where
         go (inl f) = absurd (e f)
         go (inr f) = f
 
-    pub code_within : 25 ≤ length cs
+    pub code_within : 25 + 6 ≤ length cs
     code_within = omega (arith, long)
+
+    pub code_begins : 25 ≤ length cs
+    code_begins = omega (arith, long)
 
     pub code_size : length (take (length cs - 25) (drop 25 cs)) ≡ 6
     code_size = rw (rest_whole cs 25) (omega (arith, long, length-drop 25 cs))
@@ -229,4 +232,4 @@ module _ (r : Register) (code : List ℕ) (v : Verdict) where
     unfolding by_line
     code_unknown w = rw w at by_found
 
-pub ruleset judging = (passed_told, nothing_behind, other_behind, code_behind, shape_short, shape_none, shape_behind, shaped_iban, shaped_shape, code_within, code_size, code_low, code_high, code_missing, found_known, judge_shape, judge_control, judge_nothing, judge_credited, judge_outside, stays_credited, stays_coded, code_leads, code_unknown)
+pub ruleset judging = (passed_told, nothing_behind, other_behind, code_behind, shape_short, shape_none, shape_behind, shaped_iban, shaped_shape, code_begins, code_size, code_low, code_high, code_missing, found_known, judge_shape, judge_control, judge_nothing, judge_credited, judge_outside, stays_credited, stays_coded, code_leads, code_unknown)

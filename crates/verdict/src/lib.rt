@@ -32,9 +32,9 @@ pub enum Cause {
 #[derive(Clone, Copy, PartialEq, Eq)]
 pub enum Verdict {
     // Credited: the account line found, counted from 0.
-    Credited(u8),
+    Credited(usize),
     // Credited by its code: the account line found, and the cause for which it would have been returned.
-    CreditedByCode(u8, Cause),
+    CreditedByCode(usize, Cause),
     // Returned: the cause.
     Returned(Cause),
 }
@@ -113,7 +113,7 @@ pub fn judge(register: Register, part: &[u8]) -> Verdict
     match register.find_account(iban) {
         Some(i) => {
             if is_in_bounds(register, i as usize, part) {
-                return Verdict::Credited(i);
+                return Verdict::Credited(i as usize);
             }
             Verdict::Returned(Cause::OutOfBounds)
         }
@@ -127,7 +127,7 @@ pub fn by_code(register: Register, v: Verdict, code: &[u8]) -> Verdict
 {
     match v {
         Verdict::Returned(c) => match register.find_code(code) {
-            Some(i) => Verdict::CreditedByCode(i, c),
+            Some(i) => Verdict::CreditedByCode(i as usize, c),
             None => v,
         },
         Verdict::Credited(_) => v,

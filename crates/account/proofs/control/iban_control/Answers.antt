@@ -1,17 +1,12 @@
-use Rattle.std.proofs.Common.{arith}
-use Rattle.rule_laws.specs.Groups.{iban_length}
-use Rattle.account.specs.Control.{controls}
-use borrow.Author.Rules.{rules}
+-- `account::control::iban_control` meets its contract: the head behind the rest makes the whole number, then the control digits are compared with their bounds.
+use Rattle.account.specs.Control.{parts_not, parts_low, parts_high}
 use Rattle.account.proofs.control.iban_control.Goals as goal
 
-pub slice_bounds-c-items-end : goal.slice_bounds-c-items-end
-slice_bounds-c-items-end c = let l = iban_length _ c.requires in omega arith
+pub returns-then-tail-digits-ne1 : goal.returns-then-tail-digits-ne1
+returns-then-tail-digits-ne1 c = parts_not _ c.requires _ _ _ c.bank.ensures c.with_branch.ensures c.with_account-tail.ensures c.if-tail-digits-ne1.true
 
-pub loop-c-init : goal.loop-c-init
-loop-c-init c = search (controls, rules)
+pub returns-then-digits-lt2 : goal.returns-then-digits-lt2
+returns-then-digits-lt2 c = parts_low _ c.requires _ _ _ c.bank.ensures c.with_branch.ensures c.with_account-tail.ensures c.if-tail-digits-ne1.false c.if-digits-lt2.true
 
-pub with_sign-tail-requires-clause-sign : goal.with_sign-tail-requires-clause-sign
-with_sign-tail-requires-clause-sign c = search (controls, rules)
-
-pub loop-c-preserved : goal.loop-c-preserved
-loop-c-preserved c = search (controls, rules)
+pub returns : goal.returns
+returns c = parts_high _ c.requires _ _ _ c.bank.ensures c.with_branch.ensures c.with_account-tail.ensures c.if-tail-digits-ne1.false c.if-digits-lt2.false
