@@ -41,7 +41,7 @@ chosen_from test s kept i = chosen test (drop i (details_in s)) (drop i kept)
 
 -- ---- one detail on, i being passed
 
--- however many details there are
+-- however many details there are, one that is chosen being among them
 module _ (test : paper.Verdict → Bool) (s : List ℕ) (kept : List Judged) (i : ℕ) where
   pub none_chosen : length kept ≤ i → chosen_from test s kept i ≡ []
   unfolding chosen
