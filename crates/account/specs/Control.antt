@@ -196,8 +196,8 @@ module _ (c : ℕ) (h : is_alnum c ≡ true) where
         record { same = rw (letter_not c letter) same; most = omega arith }
 
 -- two signs, one behind the other, and a remainder
-pub two_carried : (c d u v r t m : ℕ) → Carried u (c ∷ []) t v → Carried v (d ∷ []) m r → Carried u (c ∷ d ∷ []) 96 (r % 97)
-two_carried c d u v r t m p q = carried_fold u (c ∷ d ∷ []) m r (carried_on u v r t m (c ∷ []) (d ∷ []) p q)
+pub signs_carried : (c d u v r t m : ℕ) → Carried u (c ∷ []) t v → Carried v (d ∷ []) m r → Carried u (c ∷ d ∷ []) 96 (r % 97)
+signs_carried c d u v r t m p q = carried_fold u (c ∷ d ∷ []) m r (carried_on u v r t m (c ∷ []) (d ∷ []) p q)
 
 -- two digits behind a number
 pub digits_carried : (c d v : ℕ) → is_digit c ≡ true → is_digit d ≡ true → Carried v (c ∷ d ∷ []) (v * 3 + 99) (v * 3 + (c - 48) * 10 + (d - 48))
@@ -271,7 +271,7 @@ module _ (s : List ℕ) (h : iban_shape s ≡ true) where
       every_first is_digit s k 14 (every_within is_digit s 8 14 k 14 run (omega arith) (omega arith) (omega arith)) m (omega (arith, whole))
 
   -- two signs there
-  pub at_two : (k u r t : ℕ) → k + 2 ≤ 22 → Carried u (get_or s k 0 ∷ get_or s (k + 1) 0 ∷ []) t r → Carried u (cut s k (k + 2)) t r
+  at_two : (k u r t : ℕ) → k + 2 ≤ 22 → Carried u (get_or s k 0 ∷ get_or s (k + 1) 0 ∷ []) t r → Carried u (cut s k (k + 2)) t r
   at_two k u r t l p = rw (cut_two s k (omega (arith, whole))) p
 
   -- bank, branch and account, two signs by two
@@ -362,4 +362,4 @@ module _ (cs : List ℕ) (t : Bool) (u : t ≡ iban_shape cs) where
   unfolding passes
   passes_not d = rw (← u, d)
 
-pub ruleset controls = (two_carried, digits_carried, digit_low, sign_at, branch_at, bank_carried, branch_carried, account_carried, digit_least, digit_carried, letter_least, letter_carried, third_digit, fourth_digit, parts_not, parts_low, parts_high)
+pub ruleset controls = (digit_low, sign_at, branch_at, digit_least, digit_carried, letter_least, letter_carried, third_digit, fourth_digit)

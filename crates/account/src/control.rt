@@ -19,8 +19,8 @@ fn with_sign(v: u16, c: u8) -> u16
     v * 3 + (c - b'A' + 10) as u16
 }
 
-// Two of them behind a remainder.
-fn with_two(v: u16, c: u8, d: u8) -> u16
+// Two letters or digits behind a remainder.
+fn with_signs(v: u16, c: u8, d: u8) -> u16
     requires small { v ≤ 96 }
     requires first { is_alnum c ≡ true }
     requires second { is_alnum d ≡ true }
@@ -30,7 +30,7 @@ fn with_two(v: u16, c: u8, d: u8) -> u16
 }
 
 // Two digits behind a number.
-fn with_pair(v: u16, c: u8, d: u8) -> u16
+fn with_digits(v: u16, c: u8, d: u8) -> u16
     requires small { v ≤ 20000 }
     requires first { is_digit c ≡ true }
     requires second { is_digit d ≡ true }
@@ -44,7 +44,7 @@ fn bank(iban: &[u8]) -> u16
     requires { iban_shape iban.now ≡ true }
     ensures { Carried 0 (cut iban.now 4 8) 96 result }
 {
-    with_two(with_two(0, iban[4], iban[5]), iban[6], iban[7])
+    with_signs(with_signs(0, iban[4], iban[5]), iban[6], iban[7])
 }
 
 // With the branch's six digits behind it. (Digit by digit, each with a remainder of its own, an opening takes twice the time.)
@@ -53,9 +53,9 @@ fn with_branch(v: u16, iban: &[u8]) -> u16
     requires shape { iban_shape iban.now ≡ true }
     ensures { Carried v (cut iban.now 8 14) 96 result }
 {
-    let two = with_pair(v, iban[8], iban[9]);
-    let four = with_pair(two, iban[10], iban[11]);
-    with_pair(four, iban[12], iban[13]) % 97
+    let two = with_digits(v, iban[8], iban[9]);
+    let four = with_digits(two, iban[10], iban[11]);
+    with_digits(four, iban[12], iban[13]) % 97
 }
 
 // With the account's eight letters or digits behind it.
@@ -64,10 +64,10 @@ fn with_account(v: u16, iban: &[u8]) -> u16
     requires shape { iban_shape iban.now ≡ true }
     ensures { Carried v (cut iban.now 14 22) 96 result }
 {
-    let two = with_two(v, iban[14], iban[15]);
-    let four = with_two(two, iban[16], iban[17]);
-    let six = with_two(four, iban[18], iban[19]);
-    with_two(six, iban[20], iban[21])
+    let two = with_signs(v, iban[14], iban[15]);
+    let four = with_signs(two, iban[16], iban[17]);
+    let six = with_signs(four, iban[18], iban[19]);
+    with_signs(six, iban[20], iban[21])
 }
 
 // Does the control of what has the shape of an IBAN hold: remainder 1, control digits in 02 to 98? `BG` and two digits make v to v * 27 + 147 and the digits.

@@ -87,20 +87,6 @@ module _ (test : paper.Verdict → Bool) (s : List ℕ) (kept : List Judged) (c 
 
 -- ---- they are the paper's
 
-chosen_paper : (test : paper.Verdict → Bool) (r : Register) (ds : List Detail) (js : List Judged) → length js ≡ length ds → ((i : ℕ) → i < length js → verdict_of (verdict_kept (judged_at js i)) ≡ C.verdict_of r (detail_at ds i)) → chosen test ds js ≡ judged_to test r ds
-unfolding chosen passing verdict_is
-chosen_paper test r [] [] e f = refl
-chosen_paper test r [] (j ∷ js) e f = absurd (omega arith)
-chosen_paper test r (d ∷ ds) [] e f = absurd (omega arith)
-chosen_paper test r (d ∷ ds) (j ∷ js) e f = rw (f 0 (omega arith), chosen_paper test r ds js (omega arith) (λ i l. f (suc i) (omega arith)))
-
-pub chosen_all : (test : paper.Verdict → Bool) (text s : List ℕ) (kept : List Judged) → JudgedIn text s kept → chosen_from test s kept 0 ≡ judged_to test (register_of text) (details_in s)
-chosen_all test text s kept v = chosen_paper test (register_of text) (details_in s) kept v.kept_in.count v.verdicts
-
--- and so many
-pub chosen_many : (test : paper.Verdict → Bool) (text s : List ℕ) (kept : List Judged) → JudgedIn text s kept → count_by (tells test) kept ≡ length (judged_to test (register_of text) (details_in s))
-chosen_many test text s kept v = sym (chosen_count test (details_in s) kept v.kept_in.count) ∙ ap length (chosen_all test text s kept v)
-
 -- by the test's own answers
 tells_paper : (test : paper.Verdict → Bool) (r : Register) (ds : List Detail) (js : List Judged) → length js ≡ length ds → ((i : ℕ) → i < length js → tells test (judged_at js i) ≡ test (C.verdict_of r (detail_at ds i))) → chosen test ds js ≡ judged_to test r ds
 unfolding chosen passing verdict_is
@@ -112,3 +98,11 @@ tells_paper test r (d ∷ ds) (j ∷ js) e f = rw (f 0 (omega arith), tells_pape
 pub chosen_told : (test : paper.Verdict → Bool) (text s : List ℕ) (kept : List Judged) → length kept ≡ length (details_in s) → ((i : ℕ) → i < length kept → tells test (judged_at kept i) ≡ test (C.verdict_of (register_of text) (detail_at (details_in s) i)))
     → chosen_from test s kept 0 ≡ judged_to test (register_of text) (details_in s)
 chosen_told test text s kept e f = tells_paper test (register_of text) (details_in s) kept e f
+
+-- by the verdicts
+pub chosen_all : (test : paper.Verdict → Bool) (text s : List ℕ) (kept : List Judged) → JudgedIn text s kept → chosen_from test s kept 0 ≡ judged_to test (register_of text) (details_in s)
+chosen_all test text s kept v = chosen_told test text s kept v.kept_in.count (λ i l. ap test (v.verdicts i l))
+
+-- and so many
+pub chosen_many : (test : paper.Verdict → Bool) (text s : List ℕ) (kept : List Judged) → JudgedIn text s kept → count_by (tells test) kept ≡ length (judged_to test (register_of text) (details_in s))
+chosen_many test text s kept v = sym (chosen_count test (details_in s) kept v.kept_in.count) ∙ ap length (chosen_all test text s kept v)

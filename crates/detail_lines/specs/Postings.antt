@@ -1,11 +1,11 @@
 -- The posting lines of a message's details, each by its verdict.
 use Rattle.std.specs.Prelude.{◌≡◌, refl, ℕ, ◌+◌, ◌≤◌, ◌<◌, length, get_or, drop}
-use Rattle.std.proofs.Common.{ap, add-one, drop-cons, drop_of_length-le}
-use mathlib.Core.List.{List, [], ◌∷◌, ◌++◌}
+use Rattle.std.proofs.Common.{arith, add-one, drop-cons, drop_of_length-le}
+use mathlib.Core.List.{List, [], ◌∷◌}
 use Rattle.rules.specs.Messages.{Detail, payer_code, account59}
 use Rattle.rules.specs.Register.{Register, register_of}
 use Rattle.rules.specs.Verdict as paper
-use Rattle.rules.specs.Verdict.{credited, credited_by_code, returned, account_at, is_returned}
+use Rattle.rules.specs.Verdict.{credited, credited_by_code, returned, account_at}
 use Rattle.rules.specs.Written.{Book, to_account, to_bank}
 use Rattle.rules.specs.Calls as C
 use Rattle.rules.specs.Calls.{detail_posting, detail_postings}
@@ -19,7 +19,6 @@ use Rattle.verdict.specs.declared.Verdict.TheVariants.{Credited, CreditedByCode,
 use Rattle.verdict.specs.declared.detail.Judged.{Judged}
 use Rattle.written.specs.Values.{book_of}
 use Rattle.written.specs.declared.Book as W
-use Rattle.detail_lines.specs.Chosen.{details_next, details_end}
 
 -- ---- one detail
 
@@ -54,31 +53,7 @@ module _ (text : List ℕ) (b : W.Book) (v : ℕ) {w₀ w₁ : Writer} where
     unfolding verdict_posting detail_posting
     posting_returned e f u = rw e (rw f at u)
 
--- ---- detail by detail
-
-module _ (text s : List ℕ) (kept : List Judged) (v : JudgedIn text s kept) (i : ℕ) where
-  module _ (h : i < length kept) (j : Judged) where
-    verdict_is : verdict_of (verdict_kept (get_or kept i j)) ≡ C.verdict_of (register_of text) (detail_at (details_in s) i)
-    verdict_is = verdict_at text s kept v i h j
-
-    pub judged_known : InRegister text (verdict_kept (get_or kept i j))
-    judged_known = in_register text (payer_code (detail_at (details_in s) i)) (account59 (detail_at (details_in s) i)) (verdict_kept (get_or kept i j)) verdict_is
-
-    module _ (b : Book) {whole : List ℕ} {start w : Writer} (l : Unwritten (detail_postings (register_of text) b (drop i (details_in s))) w whole start) where
-      credits_step : detail_postings (register_of text) b (drop i (details_in s)) ≡ verdict_posting (register_of text) b (get_or kept i j).detail.amount (verdict_of (verdict_kept (get_or kept i j))) ++ detail_postings (register_of text) b (drop (i + 1) (details_in s))
-      unfolding detail_postings
-      credits_step =
-          rw (details_next is_returned s kept v.kept_in.count i h, verdict_is, (kept_at s kept v.kept_in i h j).amount)
-          (ap (λ (l : List ℕ). l ++ detail_postings (register_of text) b (drop (i + 1) (details_in s))) (detail_amount (register_of text) b (detail_at (details_in s) i) (C.verdict_of (register_of text) (detail_at (details_in s) i))))
-
-      pub credits_more : {w' : Writer} → Writes (verdict_posting (register_of text) b (get_or kept i j).detail.amount (verdict_of (verdict_kept (get_or kept i j)))) w w' → Unwritten (detail_postings (register_of text) b (drop (i + 1) (details_in s))) w' whole start
-      credits_more u = unwritten_turn (rw credits_step at l) u
-
-  pub credits_end : (b : Book) {whole : List ℕ} {start w : Writer} → Unwritten (detail_postings (register_of text) b (drop i (details_in s))) w whole start → length kept ≤ i → Writes whole start w
-  unfolding detail_postings
-  credits_end b l h = unwritten_none (rw (details_end is_returned s kept v.kept_in.count i h) at l)
-
--- ---- by the amount and the verdict of a detail, however they are kept
+-- ---- detail by detail, by its amount and its verdict
 
 module _ (text s : List ℕ) (i : ℕ) (b : Book) {whole : List ℕ} {start w : Writer} (l : Unwritten (detail_postings (register_of text) b (drop i (details_in s))) w whole start) where
   pub credits_on : i < length (details_in s) → {v : ℕ} {x : paper.Verdict} → v ≡ (detail_at (details_in s) i).amount → x ≡ C.verdict_of (register_of text) (detail_at (details_in s) i)
@@ -91,5 +66,22 @@ module _ (text s : List ℕ) (i : ℕ) (b : Book) {whole : List ℕ} {start w : 
   pub credits_done : length (details_in s) ≤ i → Writes whole start w
   unfolding detail_postings
   credits_done h = unwritten_none (rw (drop_of_length-le (details_in s) {i = i} h) at l)
+
+-- ---- as they are kept
+
+module _ (text s : List ℕ) (kept : List Judged) (v : JudgedIn text s kept) (i : ℕ) where
+  module _ (h : i < length kept) (j : Judged) where
+    verdict_is : verdict_of (verdict_kept (get_or kept i j)) ≡ C.verdict_of (register_of text) (detail_at (details_in s) i)
+    verdict_is = verdict_at text s kept v i h j
+
+    pub judged_known : InRegister text (verdict_kept (get_or kept i j))
+    judged_known = in_register text (payer_code (detail_at (details_in s) i)) (account59 (detail_at (details_in s) i)) (verdict_kept (get_or kept i j)) verdict_is
+
+    pub credits_more : (b : Book) {whole : List ℕ} {start w : Writer} → Unwritten (detail_postings (register_of text) b (drop i (details_in s))) w whole start
+        → {w' : Writer} → Writes (verdict_posting (register_of text) b (get_or kept i j).detail.amount (verdict_of (verdict_kept (get_or kept i j)))) w w' → Unwritten (detail_postings (register_of text) b (drop (i + 1) (details_in s))) w' whole start
+    credits_more b l u = credits_on text s i b l (omega (arith, v.kept_in.count)) (kept_at s kept v.kept_in i h j).amount verdict_is u
+
+  pub credits_end : (b : Book) {whole : List ℕ} {start w : Writer} → Unwritten (detail_postings (register_of text) b (drop i (details_in s))) w whole start → length kept ≤ i → Writes whole start w
+  credits_end b l h = credits_done text s i b l (omega (arith, v.kept_in.count))
 
 pub ruleset crediting = (line_credited, line_coded, credit_wrote, posting_credited, posting_coded, posting_returned, judged_known, credits_more, credits_end)

@@ -142,21 +142,16 @@ module _ (area : List ℕ) (n : ℕ) (r : Reference) where
 
   module _ (i : ℕ) (m : Among area n r i) where
     pub among_end : n ≤ i → false ≡ any (same_reference r) (references_at area references_place n)
-    unfolding any
-    among_end h = rw (values_none reference_in area (references_place + record_size * i) (n - i) (omega arith)) at m.same
+    among_end h = none_among area r (references_place + record_size * i) (n - i) _ m.same (omega arith)
 
     module _ (h : i < n) (t : Bool) (u : t ≡ same_reference r (reference_at area (references_place + record_size * i))) where
-      next : any (same_reference r) (references_at area (references_place + record_size * i) (n - i)) ≡ cond t true (any (same_reference r) (references_at area (references_place + record_size * (i + 1)) (n - (i + 1))))
-      unfolding any
-      next =
-          let e : references_place + record_size * i + record_size ≡ references_place + record_size * (i + 1) = omega arith in
-          let f : n - i - 1 ≡ n - (i + 1) = omega arith in
-          rw (values_next reference_in area (references_place + record_size * i) (n - i) (omega arith), ← u, e, f)
-
       pub among_found : t ≡ true → true ≡ any (same_reference r) (references_at area references_place n)
-      among_found d = rw (next, d) at m.same
+      among_found d = one_among area r (references_place + record_size * i) (n - i) _ m.same (omega arith) t u d
 
       pub among_on : t ≡ false → Among area n r (i + 1)
-      among_on d = record { same = rw (next, d) at m.same }
+      among_on d =
+          let e : references_place + record_size * i + record_size ≡ references_place + record_size * (i + 1) = omega arith in
+          let f : n - i - 1 ≡ n - (i + 1) = omega arith in
+          record { same = rw (e, f) at (others_among area r (references_place + record_size * i) (n - i) _ m.same (omega arith) t u d) }
 
 pub ruleset used = (ends_byte, ends_room, text_other, text_same, reference_other, reference_bank, among_start, among_end, among_found, among_on)

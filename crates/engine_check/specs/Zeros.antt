@@ -1,5 +1,5 @@
 -- Bytes that are all zero, as a slice has them and as a part of the area.
-use Rattle.std.specs.Prelude.{◌≡◌, refl, Bool, true, false, ◌&&◌, cond, List, ℕ, ◌-◌, ◌≤◌, ◌↔◌, eqb, IsTrue, All, take, drop, length, get_or, zero, suc, [], ◌∷◌, ◌+◌, ◌*◌, ◌/◌, ◌<◌}
+use Rattle.std.specs.Prelude.{◌≡◌, refl, Bool, true, false, ◌&&◌, cond, List, ℕ, ◌-◌, ◌≤◌, ◌↔◌, eqb, IsTrue, All, take, drop, length, get_or, zero, suc, ◌+◌, ◌*◌, ◌/◌, ◌<◌}
 use Rattle.std.specs.Int.Bits.{bit_or}
 use Rattle.std.proofs.Common.{sym, ap, ◌∙◌, arith, take-append-drop, drop-drop}
 use Rattle.std.proofs.lemmas.Bool.Decides.{same_from_decides, Decides-by_and, Decides-eqb}

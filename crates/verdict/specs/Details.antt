@@ -33,17 +33,17 @@ use Rattle.verdict.specs.declared.detail.KeptVerdict.TheVariants as small
 use Rattle.rules.specs.Verdict as paper
 
 -- what is kept of a verdict, and the verdict that is kept
-abbrev pub kept_verdict : Verdict → KeptVerdict
-kept_verdict (Credited i) = small.Credited i
-kept_verdict (CreditedByCode i c) = small.CreditedByCode i c
-kept_verdict (Returned c) = small.Returned c
+abbrev pub byte_verdict : Verdict → KeptVerdict
+byte_verdict (Credited i) = small.Credited i
+byte_verdict (CreditedByCode i c) = small.CreditedByCode i c
+byte_verdict (Returned c) = small.Returned c
 
 abbrev pub verdict_again : KeptVerdict → Verdict
 verdict_again (small.Credited i) = Credited i
 verdict_again (small.CreditedByCode i c) = CreditedByCode i c
 verdict_again (small.Returned c) = Returned c
 
-verdict_same : (v : Verdict) → verdict_again (kept_verdict v) ≡ v
+verdict_same : (v : Verdict) → verdict_again (byte_verdict v) ≡ v
 verdict_same (Credited i) = refl
 verdict_same (CreditedByCode i c) = refl
 verdict_same (Returned c) = refl
@@ -54,7 +54,7 @@ verdict_kept j = verdict_again j.verdict
 
 -- what is kept of a detail with its verdict
 abbrev pub judged_of : Detail → Verdict → Judged
-judged_of d v = record { detail = kept_of d; verdict = kept_verdict v }
+judged_of d v = record { detail = kept_of d; verdict = byte_verdict v }
 
 -- what stands behind the details that are kept
 abbrev pub no_judged : Judged

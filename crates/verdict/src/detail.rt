@@ -4,7 +4,7 @@ ghost use Rattle.rules.specs.Messages.{past};
 ghost use Rattle.rules.specs.Register.{register_of};
 ghost use Rattle.rules.specs.Verdict.{verdict, by_code};
 ghost use Rattle.verdict.specs.Answers.{verdict_of, LineSmall};
-ghost use Rattle.verdict.specs.Details.{kept_verdict, verdict_kept, judged_of};
+ghost use Rattle.verdict.specs.Details.{byte_verdict, verdict_kept, judged_of};
 
 use crate::{Cause, Verdict, by_code, judge};
 use details::Kept;
@@ -27,7 +27,7 @@ impl KeptVerdict {
     #[tactic(auto, using(crate::specs::Details::keeping))]
     fn of(v: Verdict) -> KeptVerdict
         requires { LineSmall v }
-        ensures { result ≡ kept_verdict v }
+        ensures { result ≡ byte_verdict v }
     {
         match v {
             Verdict::Credited(i) => KeptVerdict::Credited(i as u8),

@@ -1,5 +1,5 @@
 use Rattle.account.specs.Control.{digits_carried}
-use Rattle.account.proofs.control.with_pair.Goals as goal
+use Rattle.account.proofs.control.with_digits.Goals as goal
 
 pub returns : goal.returns
 returns c = digits_carried _ _ _ c.requires.first c.requires.second
