@@ -1,7 +1,7 @@
 -- The posting lines of a message's details, each by its verdict.
 use Rattle.std.specs.Prelude.{◌≡◌, refl, ℕ, ◌+◌, ◌≤◌, ◌<◌, length, get_or, drop}
-use Rattle.std.proofs.Common.{arith, add-one, drop-cons, drop_of_length-le}
-use mathlib.Core.List.{List, [], ◌∷◌}
+use Rattle.std.proofs.Common.{ap, arith, add-one, drop-cons, drop_of_length-le}
+use mathlib.Core.List.{List, [], ◌∷◌, ◌++◌}
 use Rattle.rules.specs.Messages.{Detail, payer_code, account59}
 use Rattle.rules.specs.Register.{Register, register_of}
 use Rattle.rules.specs.Verdict as paper
@@ -55,13 +55,18 @@ module _ (text : List ℕ) (b : W.Book) (v : ℕ) {w₀ w₁ : Writer} where
 
 -- ---- detail by detail, by its amount and its verdict
 
+-- the posting line of detail i before those of the details behind it
+module _ (text s : List ℕ) (i : ℕ) (b : Book) (h : i < length (details_in s)) {v : ℕ} {x : paper.Verdict} (e : v ≡ (detail_at (details_in s) i).amount) (f : x ≡ C.verdict_of (register_of text) (detail_at (details_in s) i)) where
+  credits_step : detail_postings (register_of text) b (drop i (details_in s)) ≡ verdict_posting (register_of text) b v x ++ detail_postings (register_of text) b (drop (i + 1) (details_in s))
+  unfolding detail_postings
+  credits_step =
+      let n : drop i (details_in s) ≡ detail_at (details_in s) i ∷ drop (i + 1) (details_in s) = rw (add-one i) (drop-cons (details_in s) i no_detail h) in
+      rw (n, e, f) (ap (λ (l : List ℕ). l ++ detail_postings (register_of text) b (drop (i + 1) (details_in s))) (detail_amount (register_of text) b (detail_at (details_in s) i) (C.verdict_of (register_of text) (detail_at (details_in s) i))))
+
 module _ (text s : List ℕ) (i : ℕ) (b : Book) {whole : List ℕ} {start w : Writer} (l : Unwritten (detail_postings (register_of text) b (drop i (details_in s))) w whole start) where
   pub credits_on : i < length (details_in s) → {v : ℕ} {x : paper.Verdict} → v ≡ (detail_at (details_in s) i).amount → x ≡ C.verdict_of (register_of text) (detail_at (details_in s) i)
       → {w' : Writer} → Writes (verdict_posting (register_of text) b v x) w w' → Unwritten (detail_postings (register_of text) b (drop (i + 1) (details_in s))) w' whole start
-  unfolding detail_postings
-  credits_on h {v} {x} e f u =
-      let n : drop i (details_in s) ≡ detail_at (details_in s) i ∷ drop (i + 1) (details_in s) = rw (add-one i) (drop-cons (details_in s) i no_detail h) in
-      unwritten_turn (rw n at l) (rw (e, f, ← detail_amount (register_of text) b (detail_at (details_in s) i) (C.verdict_of (register_of text) (detail_at (details_in s) i))) at u)
+  credits_on h e f u = unwritten_turn (rw (credits_step text s i b h e f) at l) u
 
   pub credits_done : length (details_in s) ≤ i → Writes whole start w
   unfolding detail_postings

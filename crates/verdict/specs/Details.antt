@@ -1,19 +1,23 @@
 -- The details of a message with their verdicts, as the code holds them.
-use Rattle.std.specs.Prelude.{◌≡◌, refl, true, false, List, ℕ, zero, suc, ◌<◌, ◌≤◌, length, get_or, set}
+use Rattle.std.specs.Prelude.{◌≡◌, refl, true, false, List, [], ℕ, zero, suc, ◌%◌, ◌<◌, ◌≤◌, length, get_or, set}
 use Rattle.std.proofs.Common.{arith, get_or-set_same, get_or-set_other, ap, ◌∙◌}
+use Rattle.std.proofs.Math.Nat.{mod-eq_of_lt}
 use Rattle.std.proofs.Math.Logic.{∥∥₁_elim}
 use Rattle.std.proofs.Math.Option.{Option, none, some}
 use Rattle.std.proofs.Props.{props}
 use Rattle.std.proofs.lemmas.List.{get_or_default}
-use Rattle.rules.specs.Text.{is_some}
+use Rattle.rules.specs.Accounts.{iban_shape}
+use Rattle.rules.specs.Text.{is_some, fits}
 use Rattle.rules.specs.Messages as M
 use Rattle.rules.specs.Calls as C
 use Rattle.rules.specs.Forms.{detail_code, detail59}
 use Rattle.rules.specs.Messages.{Message, read, details_of, past}
-use Rattle.rules.specs.Register.{register, register_of}
+use Rattle.rules.specs.Register.{Register, register, register_of}
 use Rattle.rule_laws.specs.Messages.{DetailRead, DetailsRead, DetailsRead.last, DetailsRead.more, ReadAs, ReadAs.transfer, ReadAs.order, read_as}
-use Rattle.rules.specs.Verdict.{verdict, by_code, is_returned, is_listed199}
-use Rattle.rule_laws.specs.Verdicts.{credited_line}
+use Rattle.rules.specs.Verdict.{shaped, verdict, line_by_code, by_line, by_code, is_returned, is_listed199}
+use Rattle.laws.specs.Tests.{none_some}
+use Rattle.rule_laws.specs.Options.{some_is}
+use Rattle.rule_laws.specs.Verdicts.{PlainVerdict, plain_verdict_lem, credited_line, line_known}
 use Rattle.register.specs.Passed.{accounts_few}
 use Rattle.forms.specs.Spans.{span_of, no_span, SpanIn, span_line}
 use Rattle.forms.specs.Fields.{Behind, behind_bytes}
@@ -22,7 +26,7 @@ use Rattle.forms.specs.Details.{DetailAt, detail_in}
 use Rattle.forms.specs.declared.detail.Detail.{Detail}
 use Rattle.details.specs.Message.{or_none, message_in, details_in, detail_at}
 use Rattle.details.specs.Kept.{KeptOf, kept_of, kept_told}
-use Rattle.verdict.specs.Answers.{verdict_of, InRegister, in_register, line_credited, line_coded, LineSmall}
+use Rattle.verdict.specs.Answers.{cause_of, verdict_of, InRegister, in_register, line_credited, line_coded, LineSmall}
 use Rattle.verdict.specs.declared.Cause.{Cause}
 use Rattle.verdict.specs.declared.Cause.TheVariants.{WrongShape}
 use Rattle.verdict.specs.declared.Verdict.{Verdict}
@@ -31,6 +35,19 @@ use Rattle.verdict.specs.declared.detail.Judged.{Judged}
 use Rattle.verdict.specs.declared.detail.KeptVerdict.{KeptVerdict}
 use Rattle.verdict.specs.declared.detail.KeptVerdict.TheVariants as small
 use Rattle.rules.specs.Verdict as paper
+
+-- a verdict with the lowest byte of its line
+abbrev pub low_line : Verdict → Verdict
+low_line (Credited i) = Credited (i % 256)
+low_line (CreditedByCode i c) = CreditedByCode (i % 256) c
+low_line (Returned c) = Returned c
+
+-- where the line is small, the verdict itself
+pub line_same : (v : Verdict) → LineSmall v → low_line v ≡ v
+unfolding credited_line
+line_same (Credited i) l = ap Credited (mod-eq_of_lt (l.line i refl))
+line_same (CreditedByCode i c) l = ap (λ (n : ℕ). CreditedByCode n c) (mod-eq_of_lt (l.line i refl))
+line_same (Returned c) l = refl
 
 -- what is kept of a verdict, and the verdict that is kept
 abbrev pub byte_verdict : Verdict → KeptVerdict
@@ -43,7 +60,7 @@ verdict_again (small.Credited i) = Credited i
 verdict_again (small.CreditedByCode i c) = CreditedByCode i c
 verdict_again (small.Returned c) = Returned c
 
-verdict_same : (v : Verdict) → verdict_again (byte_verdict v) ≡ v
+pub verdict_same : (v : Verdict) → verdict_again (byte_verdict v) ≡ v
 verdict_same (Credited i) = refl
 verdict_same (CreditedByCode i c) = refl
 verdict_same (Returned c) = refl
@@ -163,6 +180,44 @@ module _ (text : List ℕ) (v : Verdict) (i : ℕ) (h : is_some (register text) 
 pub line_small : (text code cs : List ℕ) (v : Verdict) → is_some (register text) ≡ true → verdict_of v ≡ by_code (register_of text) code (verdict (register_of text) cs) → LineSmall v
 line_small text code cs v h e = let l = in_register text code cs v e in record { line = λ i f. omega (arith, l.line i f, accounts_few text h) }
 
+-- on field 59 alone it does too
+pub judged_small : (text cs : List ℕ) (v : Verdict) → is_some (register text) ≡ true → verdict_of v ≡ verdict (register_of text) cs → LineSmall v
+unfolding credited_line
+judged_small text cs v h e = record { line = λ i f. omega (arith, plain_line (plain_verdict_lem (register_of text) cs) i (rw e at f), accounts_few text h) }
+  where
+    plain_line : {r : Register} {w : paper.Verdict} → PlainVerdict r w → (i : ℕ) → credited_line w ≡ some i → i < length r.accounts
+    plain_line (PlainVerdict.credits l) i k = rw (some_is k) at l
+    plain_line PlainVerdict.returns i k = none_some k
+
+-- no bytes are no account
+nothing_shaped : (r : Register) → verdict r [] ≡ paper.returned paper.wrong_shape
+unfolding verdict shaped iban_shape fits
+nothing_shaped r = refl
+
+-- and behind a code where it did before
+pub by_code_small : (text code : List ℕ) (u v : Verdict) → is_some (register text) ≡ true → LineSmall u → verdict_of v ≡ by_code (register_of text) code (verdict_of u) → LineSmall v
+unfolding by_code by_line credited_line
+by_code_small text code (Credited i) v h l e = record { line = λ j f. l.line j (rw e at f) }
+by_code_small text code (CreditedByCode i c) v h l e = record { line = λ j f. l.line j (rw e at f) }
+by_code_small text code (Returned c) v h l e = record { line = λ j f. omega (arith, code_line (line_by_code (register_of text) code) refl j (rw e at f), accounts_few text h) }
+  where
+    code_line : (o : Option ℕ) → line_by_code (register_of text) code ≡ o → (j : ℕ) → credited_line (by_line (cause_of c) o) ≡ some j → j < length (register_of text).accounts
+    code_line none e j k = none_some k
+    code_line (some i) e j k = line_known (register_of text) code [] j (rw (nothing_shaped (register_of text), e) k)
+
+-- a line that a byte holds
+pub byte_credited : {i : ℕ} → i < 256 → LineSmall (Credited i)
+unfolding credited_line
+byte_credited h = record { line = λ j f. rw (some_is f) at h }
+
+pub byte_coded : {i : ℕ} {c : Cause} → i < 256 → LineSmall (CreditedByCode i c)
+unfolding credited_line
+byte_coded h = record { line = λ j f. rw (some_is f) at h }
+
+pub byte_returned : {c : Cause} → LineSmall (Returned c)
+unfolding credited_line
+byte_returned = record { line = λ j f. none_some f }
+
 module _ (v : Verdict) (l : LineSmall v) (i : ℕ) where
   pub credited_byte : v ≡ Credited i → i < 256
   unfolding credited_line
@@ -172,7 +227,7 @@ module _ (v : Verdict) (l : LineSmall v) (i : ℕ) where
   unfolding credited_line
   coded_byte e = l.line i (rw e)
 
-pub ruleset keeping = (credited_byte, coded_byte)
+pub ruleset keeping = (line_same, credited_byte, coded_byte, byte_credited, byte_coded, byte_returned)
 
 -- the verdict u on some bytes, and v with the code
 module _ (text code cs : List ℕ) {u : paper.Verdict} (v : Verdict) (f : u ≡ verdict (register_of text) cs) (g : verdict_of v ≡ by_code (register_of text) code u) where

@@ -4,7 +4,7 @@ ghost use Rattle.rules.specs.Messages.{past};
 ghost use Rattle.rules.specs.Register.{register_of};
 ghost use Rattle.rules.specs.Verdict.{verdict, by_code};
 ghost use Rattle.verdict.specs.Answers.{verdict_of, LineSmall};
-ghost use Rattle.verdict.specs.Details.{byte_verdict, verdict_kept, judged_of};
+ghost use Rattle.verdict.specs.Details.{low_line, byte_verdict, verdict_kept, judged_of};
 
 use crate::{Cause, Verdict, by_code, judge};
 use details::Kept;
@@ -23,15 +23,13 @@ enum KeptVerdict {
 }
 
 impl KeptVerdict {
-    // What is kept of a verdict.
-    #[tactic(auto, using(crate::specs::Details::keeping))]
+    // What is kept of a verdict: of its line the lowest byte, which a line below 256 is itself.
     fn of(v: Verdict) -> KeptVerdict
-        requires { LineSmall v }
-        ensures { result ≡ byte_verdict v }
+        ensures { result ≡ byte_verdict (low_line v) }
     {
         match v {
-            Verdict::Credited(i) => KeptVerdict::Credited(i as u8),
-            Verdict::CreditedByCode(i, c) => KeptVerdict::CreditedByCode(i as u8, c),
+            Verdict::Credited(i) => KeptVerdict::Credited((i % 256) as u8),
+            Verdict::CreditedByCode(i, c) => KeptVerdict::CreditedByCode((i % 256) as u8, c),
             Verdict::Returned(c) => KeptVerdict::Returned(c),
         }
     }
@@ -45,9 +43,11 @@ pub struct Judged {
 }
 
 impl Judged {
-    // Its verdict.
+    // Its verdict, whose line fits a byte.
+    #[tactic(auto, using(crate::specs::Details::keeping))]
     pub fn verdict(&self) -> Verdict
-        ensures { result ≡ verdict_kept self.now }
+        ensures kept { result ≡ verdict_kept self.now }
+        ensures small { LineSmall result }
     {
         match self.verdict {
             KeptVerdict::Credited(i) => Verdict::Credited(i as usize),
@@ -81,14 +81,48 @@ pub fn judge_line(register: Register, account: &[u8], code: &[u8]) -> Verdict
     by_code(register, v, code)
 }
 
-// Detail i is kept with its verdict.
+// Detail i is kept with its verdict; of a line that no byte holds, which no register has, the lowest byte.
+#[tactic(auto, using(crate::specs::Details::keeping))]
 pub fn keep(kept: &mut [Judged; 16], i: u32, d: Detail, verdict: Verdict)
-    requires place { i < 16 }
-    requires small { LineSmall verdict }
-    ensures { kept.new ≡ slice_set kept.old i (judged_of d verdict) }
+    requires { i < 16 }
+    ensures whole { kept.new ≡ slice_set kept.old i (judged_of d (low_line verdict)) }
+    ensures small { LineSmall verdict → kept.new ≡ slice_set kept.old i (judged_of d verdict) }
 {
     kept[i as usize] = Judged {
         detail: Kept::from(d),
         verdict: KeptVerdict::of(verdict),
     };
+}
+
+#[cfg(test)]
+mod tests {
+    use super::*;
+
+    // Is what is kept at place i, of a detail with the verdict, the verdict wanted?
+    fn keeps(i: u32, verdict: Verdict, wanted: Verdict) -> bool
+        requires { i < 16 }
+    {
+        let d = Detail {
+            date: 20261130,
+            amount: 1,
+            spans: [NO_LINE; 17],
+        };
+        let mut kept = [NO_DETAIL; 16];
+        keep(&mut kept, i, d, verdict);
+        kept[i as usize].verdict() == wanted && kept[i as usize].detail.amount == 1
+    }
+
+    #[test]
+    fn keeps_verdicts(rt: HostRuntime) {
+        let last = Verdict::CreditedByCode(39, Cause::OutOfBounds);
+        let back = Verdict::Returned(Cause::NotInRegister);
+        let largest = Verdict::Credited(255);
+        assert!(rt; keeps(15, last, last), "the last line of a register");
+        assert!(rt; keeps(7, back, back), "a return");
+        assert!(rt; keeps(0, largest, largest), "the largest byte");
+        assert!(rt;
+            keeps(1, Verdict::Credited(296), Verdict::Credited(40)),
+            "no byte"
+        );
+    }
 }

@@ -11,8 +11,8 @@ put_detail_return-requires-clause-payer_within c = (kept_at _ _ (kept_in _ _ c.a
 
 pub loop-j-preserved : goal.loop-j-preserved
 loop-j-preserved c = elim c.if-is_returned.branch [
-  | then-is_returned w ↦ rw (w.o-is, w.w-is) (returns_turn (kept_in _ _ c.args.details.its) c.loop-j.invariant c.loop-j-test.true _ _ (rw c.verdict.ensures at c.is_returned.ensures) w.if-is_returned.true _ w.temporary.ensures.account w.issue-r.ensures w.put_detail_return.ensures)
-  | else-is_returned w ↦ rw (w.o-is, w.w-is) (returns_pass (kept_in _ _ c.args.details.its) c.loop-j.invariant c.loop-j-test.true _ _ (rw c.verdict.ensures at c.is_returned.ensures) w.if-is_returned.false)
+  | then-is_returned w ↦ rw (w.o-is, w.w-is) (returns_turn (kept_in _ _ c.args.details.its) c.loop-j.invariant c.loop-j-test.true _ _ (rw c.verdict.ensures.kept at c.is_returned.ensures) w.if-is_returned.true _ w.temporary.ensures.account w.issue-r.ensures w.put_detail_return.ensures)
+  | else-is_returned w ↦ rw (w.o-is, w.w-is) (returns_pass (kept_in _ _ c.args.details.its) c.loop-j.invariant c.loop-j-test.true _ _ (rw c.verdict.ensures.kept at c.is_returned.ensures) w.if-is_returned.false)
 ]
 
 pub returns : goal.returns
