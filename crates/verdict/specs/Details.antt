@@ -205,18 +205,18 @@ by_code_small text code (Returned c) v h l e = record { line = λ j f. omega (ar
     code_line none e j k = none_some k
     code_line (some i) e j k = line_known (register_of text) code [] j (rw (nothing_shaped (register_of text), e) k)
 
--- a line that a byte holds
-pub byte_credited : {i : ℕ} → i < 256 → LineSmall (Credited i)
+-- it fits a byte, as it was read from one
+pub credited_fits : {i : ℕ} → i < 256 → LineSmall (Credited i)
 unfolding credited_line
-byte_credited h = record { line = λ j f. rw (some_is f) at h }
+credited_fits h = record { line = λ j f. rw (some_is f) at h }
 
-pub byte_coded : {i : ℕ} {c : Cause} → i < 256 → LineSmall (CreditedByCode i c)
+pub coded_fits : {i : ℕ} {c : Cause} → i < 256 → LineSmall (CreditedByCode i c)
 unfolding credited_line
-byte_coded h = record { line = λ j f. rw (some_is f) at h }
+coded_fits h = record { line = λ j f. rw (some_is f) at h }
 
-pub byte_returned : {c : Cause} → LineSmall (Returned c)
+pub return_fits : {c : Cause} → LineSmall (Returned c)
 unfolding credited_line
-byte_returned = record { line = λ j f. none_some f }
+return_fits = record { line = λ j f. none_some f }
 
 module _ (v : Verdict) (l : LineSmall v) (i : ℕ) where
   pub credited_byte : v ≡ Credited i → i < 256
@@ -227,7 +227,7 @@ module _ (v : Verdict) (l : LineSmall v) (i : ℕ) where
   unfolding credited_line
   coded_byte e = l.line i (rw e)
 
-pub ruleset keeping = (line_same, credited_byte, coded_byte, byte_credited, byte_coded, byte_returned)
+pub ruleset keeping = (line_same, credited_byte, coded_byte, credited_fits, coded_fits, return_fits)
 
 -- the verdict u on some bytes, and v with the code
 module _ (text code cs : List ℕ) {u : paper.Verdict} (v : Verdict) (f : u ≡ verdict (register_of text) cs) (g : verdict_of v ≡ by_code (register_of text) code u) where

@@ -85,7 +85,7 @@ pub fn judge_line(register: Register, account: &[u8], code: &[u8]) -> Verdict
 #[tactic(auto, using(crate::specs::Details::keeping))]
 pub fn keep(kept: &mut [Judged; 16], i: u32, d: Detail, verdict: Verdict)
     requires { i < 16 }
-    ensures whole { kept.new ≡ slice_set kept.old i (judged_of d (low_line verdict)) }
+    ensures low { kept.new ≡ slice_set kept.old i (judged_of d (low_line verdict)) }
     ensures small { LineSmall verdict → kept.new ≡ slice_set kept.old i (judged_of d verdict) }
 {
     kept[i as usize] = Judged {
